@@ -9,7 +9,7 @@ use Rattle.wap_tokens.specs.declared.markup.name.AttrName.TheVariants as attrs
 use Rattle.wap_tokens.specs.markup.Trees.{value_of, plain_value}
 use Rattle.wap_mask.specs.declared.symbol.Symbol.{Symbol}
 use Rattle.wap_mask.specs.Grammar.{any_text}
-use Rattle.wap_mask.specs.Reading.{mask_of, is_taken}
+use Rattle.wap_mask.specs.Calculation.{mask_of, is_taken}
 use Rattle.wap_vars.specs.Variables.{Variables, text_of}
 use Rattle.wap_vars.specs.Filling.{value_text}
 use Rattle.wap_cardrules.specs.Values.{value_if, is_true, is_empty, number_in}

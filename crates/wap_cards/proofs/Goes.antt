@@ -10,7 +10,7 @@ use Rattle.wap_vars.specs.Filling.{value_text}
 use Rattle.wap_cardrules.specs.declared.task.Go.{Go}
 use Rattle.wap_cardrules.specs.Values.{is_true}
 use Rattle.wap_cardrules.specs.Tasks.{go_in, posts_in, sets_in}
-use Rattle.wap_cards.proofs.Words.{word_post, word_no_cache}
+use Rattle.wap_cards.proofs.ComparedTexts.{word_post, word_no_cache}
 
 abbrev go : List ℕ → Bool → Bool → Bool → List (List ℕ × List ℕ) → List (List ℕ × List ℕ) → Go
 go href post referer fresh posts sets = record {

@@ -1,6 +1,6 @@
-pub mod Parts
+pub mod FilledValues
 pub mod Marks
-pub mod Words
+pub mod ComparedTexts
 pub mod Kids
 pub mod Onevents
 pub mod Digits

@@ -42,7 +42,7 @@ fn add_reference(
 }
 
 /// A text, or the value of an attribute, filled.
-#[tactic(auto, using(crate::proofs::Parts::filled_first))]
+#[tactic(auto, using(crate::proofs::FilledValues::filled_first))]
 pub fn fill(alloc: Global, vars: &Vars, run: Run<'_>) -> Result<Text, NoMemory>
     ensures { IfOk result (λ text. text ≡ filled vars.now run.entry) }
 {

@@ -10,7 +10,7 @@ use wap_base::{NoMemory, Text};
 use wap_deck::good::{AttrName, Bit, Run, View};
 
 /// The text of a value, if it holds no reference.
-#[tactic(auto, using(crate::proofs::Parts::plain_first))]
+#[tactic(auto, using(crate::proofs::FilledValues::plain_first))]
 pub(crate) fn plain_text(alloc: Global, run: Run<'_>) -> Result<Option<Text>, NoMemory>
     ensures { IfOk result (λ text. text ≡ plain_text run.entry) }
 {

@@ -5,7 +5,7 @@ use Rattle.std.specs.Option.{option_map}
 use Rattle.wap_base.specs.Contents.{Contents}
 use Rattle.wap_parse.specs.declared.invocation.invocation.Invocation.{Invocation}
 use Rattle.wap_parse.specs.invocation.Calls.{IsCall}
-use Rattle.wap_parse.specs.invocation.Reading.{call_of}
+use Rattle.wap_parse.specs.invocation.Calculation.{call_of}
 use Rattle.wap_parse.proofs.InvocationLemmas.CallReading.{is_call, is_read}
 use Rattle.wap_world.specs.Sites.{Call}
 use Rattle.wap_world.specs.scripting.UnitSites.{unit_pages, units_site}

@@ -2,4 +2,4 @@ pub mod Finding
 pub mod Ending
 pub mod Counting
 pub mod Touring
-pub mod Words
+pub mod KeyTexts

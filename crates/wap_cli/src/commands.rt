@@ -1,5 +1,5 @@
 //! Running a command.
-ghost use Rattle.wap_keys.specs.words.Words.{command};
+ghost use Rattle.wap_keys.specs.words.Commands.{command};
 ghost use Rattle.wap_cli.specs.Headline.{Runs};
 
 use crate::Status;

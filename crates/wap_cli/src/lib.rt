@@ -3,7 +3,7 @@
 //! on with, and a made folder.
 //!
 //! - `inspect`: What the commands on one page write.
-//! - `prepare`: What a folder's pages are judged, side by side, and the report of it.
+//! - `prepare`: The report on a folder, whose pages are judged side by side.
 //! - `browse`: Browsing: a session with an inbox whose keys are read and played one after the
 //!   other.
 //! - `prepared`: Judged pages that many sessions share.
@@ -12,7 +12,8 @@
 //! - `saving`: Images of contexts: saving what a context keeps at rest.
 //! - `resume`: The commands on saved contexts: a context is saved where its keys end, and keys go
 //!   on from one that was saved.
-//! - `resume_laws`: What follows from the definitions of images for the pages of stores.
+//! - `resume_laws`: What follows from the definitions of images for the pages of stores. It runs
+//!   nothing.
 //! - `made`: Browsing a made folder, and the lines on what came of it.
 #![tactic(auto)]
 

@@ -3,6 +3,6 @@ pub mod Chaining
 pub mod Effects
 pub mod Extending
 pub mod Looping
-pub mod Parts
+pub mod EmittedExpressions
 pub mod StatementParts
 pub mod WritingParts

@@ -1,5 +1,5 @@
 pub mod Numbered
-pub mod Parts
+pub mod PoolNeeds
 pub mod Pooling
 pub mod Declared
 pub mod Once

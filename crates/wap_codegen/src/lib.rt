@@ -4,7 +4,7 @@
 //!   the order of the first token that needs each.
 //! - `emission`: The forms of a program's functions, before they have places.
 //! - `source_faults`: Why sources aren't compiled: each that isn't accepted has a fault, and none
-//!   that is.
+//!   that is. It runs nothing.
 #![tactic(auto)]
 
 mod compiling;

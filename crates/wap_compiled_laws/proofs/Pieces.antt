@@ -5,4 +5,4 @@ pub mod Pieces
 pub mod Instructions
 pub mod Jumps
 pub mod Shorts
-pub mod Parts
+pub mod Assignments

@@ -1,22 +1,20 @@
-//! The code that is chosen for functions comes to what their sources mean, and the units of
-//! accepted sources do; they may be run, and can be written and read back.
+//! Laws alone, which run nothing: the code that is chosen for functions comes to what their sources
+//! mean, and the units of accepted sources do; they may be run, and can be written and read back.
 //!
 //! - `pieces`: Pieces of placed code do what parts of sources do.
 //! - `expressions`: Expressions of sources and their code agree.
 //! - `statements`: Statements of sources and their code agree.
-//! - `bodies`: Laws of the code of programs, each the contract of a function that does nothing.
+//! - `bodies`: The code of functions comes to what these mean.
 //! - `depths`: The code of sources has one number of operands at each form.
 //! - `labels`: The jumps of code know their labels, and its operands are in range.
 //! - `soundness`: Placed code of sources reaches each of its places with one number of values, and
 //!   with enough.
-//! - `runnable`: The code of sources may be run: a law, the contract of a function that does
-//!   nothing.
+//! - `runnable`: The code of sources may be run.
 //! - `code_sizes`: The code of programs, form by form: its operands have room, what it needs is
 //!   there, and its size is the wide size but for what is saved.
 //! - `source_sizes`: How many bytes the texts of a source have, beside the tokens that they are
 //!   drawn from.
-//! - `spelling`: The unit that a program is compiled to has a spelling: a law, the contract of a
-//!   function that does nothing.
+//! - `spelling`: The unit that a program is compiled to has a spelling.
 #![tactic(auto)]
 
 ghost use Rattle.std.specs.Prelude.{◌≤◌, ℕ, List, length};

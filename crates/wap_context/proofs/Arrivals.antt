@@ -25,9 +25,9 @@ use Rattle.wap_world.specs.declared.refusal.Refusal.TheVariants as refusals
 use Rattle.wap_world.specs.History.{pushed, entry_of, in_deck, back_at, all_but_last}
 use Rattle.wap_world.specs.Tasks.{card_for, is_new_context, in_context}
 use Rattle.wap_context.specs.Browsers.{Browser, IsOver, place_held}
-use Rattle.wap_context.specs.inside.Held.{not_started, show_at, leave_and_set_at, event_at}
-use Rattle.wap_context.specs.inside.Held.{entered_at, begun_at, enter_at, arrive_at, arrive_if_at}
-use Rattle.wap_context.specs.inside.Held.{return_at, refused_at, with_deck_at}
+use Rattle.wap_context.specs.inside.AtHand.{not_started, show_at, leave_and_set_at, event_at}
+use Rattle.wap_context.specs.inside.AtHand.{entered_at, begun_at, enter_at, arrive_at, arrive_if_at}
+use Rattle.wap_context.specs.inside.AtHand.{return_at, refused_at, with_deck_at}
 use Rattle.wap_state.specs.Scenes.{Line}
 use Rattle.wap_context.specs.inside.Moving.{PlaysAt, Moves, HasDeck, Answers, deck_answer, page_answer}
 use Rattle.wap_world.proofs.Entries.{last_pushed, earlier_url}

@@ -42,7 +42,7 @@ use Rattle.wap_context.specs.declared.starting.Start.TheVariants.{Not, Runs}
 use Rattle.wap_context.specs.Browsers.{Browser, IsOver, place_held}
 use Rattle.wap_context.specs.Sites.{fragment_call}
 use Rattle.wap_context.specs.Pausing.{Paused}
-use Rattle.wap_context.specs.inside.Held.{show_at}
+use Rattle.wap_context.specs.inside.AtHand.{show_at}
 use Rattle.wap_context.specs.inside.Moving.{PlaysAt, Moves, Takes, next_in, waits_in}
 use Rattle.wap_context.specs.inside.Starting.{if_long, start_found, start_called, start_of, begun_with}
 use Rattle.wap_context.specs.inside.Starting.{started_with, allowed_with, script_with, run_with}

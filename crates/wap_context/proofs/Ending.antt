@@ -24,7 +24,7 @@ use Rattle.wap_machine.specs.declared.machine.Outcome.TheVariants.{Done, Exited,
 use Rattle.wap_world.specs.scripting.Halves.{half_by}
 use Rattle.wap_state.specs.Scenes.{Line}
 use Rattle.wap_context.specs.Browsers.{Browser, IsOver, place_held}
-use Rattle.wap_context.specs.inside.Held.{show_at, entered_at, begun_at}
+use Rattle.wap_context.specs.inside.AtHand.{show_at, entered_at, begun_at}
 use Rattle.wap_context.specs.inside.Moving.{PlaysAt, Moves}
 use Rattle.wap_context.specs.inside.Starting.{is_expired, rest_at, done_at, failed_at, end_at, waits_by}
 use Rattle.wap_context.proofs.Arrivals.{moves_settled}

@@ -12,7 +12,7 @@ use Rattle.wap_world.specs.Urls.{is_same_page}
 use Rattle.wap_world.specs.Requests.{Request}
 use Rattle.wap_world.specs.Tasks.{is_here}
 use Rattle.wap_context.specs.Browsers.{Browser, IsOver, place_held}
-use Rattle.wap_context.specs.inside.Held.{page_under, page_here}
+use Rattle.wap_context.specs.inside.AtHand.{page_under, page_here}
 use Rattle.wap_context.specs.inside.Moving.{HasDeck}
 use Rattle.wap_world.proofs.Places.{deck_there}
 use Rattle.wap_context.proofs.Places.{held_now}

@@ -1,4 +1,4 @@
-pub mod Words
+pub mod DialogWords
 pub mod Shelves
 pub mod Serving
 pub mod Comings

@@ -1,4 +1,4 @@
-pub mod Words
+pub mod ScriptLineWords
 pub mod Places
 pub mod Standing
 pub mod Plays

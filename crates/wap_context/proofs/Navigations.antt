@@ -21,7 +21,7 @@ use Rattle.wap_world.specs.Tasks.{refused, with_url, return, base_now, arrive, r
 use Rattle.wap_world.specs.Tasks.{stay_or_ask, back_from, back_to, is_here, here_with, card_here}
 use Rattle.wap_world.specs.Tasks.{url_now, go, open_url, prev, with_turn}
 use Rattle.wap_context.specs.Browsers.{Browser, IsOver, place_held}
-use Rattle.wap_context.specs.inside.Held.{page_under, page_here}
+use Rattle.wap_context.specs.inside.AtHand.{page_under, page_here}
 use Rattle.wap_context.proofs.Places.{held_now}
 use Rattle.wap_context.proofs.HeldDecks.{Page, page_of_place}
 

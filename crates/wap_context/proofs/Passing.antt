@@ -33,7 +33,7 @@ use Rattle.wap_context.specs.Browsers.{Browser, IsOver, place_held, Shows}
 use Rattle.wap_context.specs.Sites.{site_of}
 use Rattle.wap_context.specs.Missing.{Missed}
 use Rattle.wap_context.specs.Acting.{tick}
-use Rattle.wap_context.specs.inside.Held.{event_at}
+use Rattle.wap_context.specs.inside.AtHand.{event_at}
 use Rattle.wap_context.specs.inside.Moving.{PlaysAt, next_in, waits_in, pursued, Pursues}
 use Rattle.wap_context.specs.inside.Ticking.{left_of, left_at, end_place, run_out}
 use Rattle.wap_context.specs.inside.Ticking.{count_down_at}

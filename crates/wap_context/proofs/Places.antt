@@ -9,8 +9,8 @@ use Rattle.wap_world.specs.Shelves.{Shelf}
 use Rattle.wap_world.specs.declared.history.Entry.{Entry}
 use Rattle.wap_world.specs.World.{Place, place_in, place_of, place_now, deck_at, last_entry}
 use Rattle.wap_context.specs.Browsers.{Browser, IsOver, place_held}
-use Rattle.wap_state.specs.Held.{Held, held_in}
-use Rattle.wap_context.specs.inside.Held.{held}
+use Rattle.wap_state.specs.CardAtHand.{Held, held_in}
+use Rattle.wap_context.specs.inside.AtHand.{held}
 
 -- ---- the place at hand is where the browser is
 

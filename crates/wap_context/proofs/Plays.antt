@@ -15,10 +15,10 @@ use Rattle.wap_world.specs.World.{World, Place, place_in, deck_at, last_entry}
 use Rattle.wap_world.specs.Steps.{Scene, still, behind, and_then}
 use Rattle.wap_world.specs.Screens.{at_place, here}
 use Rattle.wap_context.specs.Browsers.{Browser, IsOver, place_held, Shows}
-use Rattle.wap_state.specs.Held.{Held, held_in}
+use Rattle.wap_state.specs.CardAtHand.{Held, held_in}
 use Rattle.wap_state.specs.Scenes.{Line, Plays}
-use Rattle.wap_context.specs.inside.Held.{held, event_at, leave_and_set_at}
-use Rattle.wap_context.specs.inside.Held.{restart_place, refresh_at}
+use Rattle.wap_context.specs.inside.AtHand.{held, event_at, leave_and_set_at}
+use Rattle.wap_context.specs.inside.AtHand.{restart_place, refresh_at}
 use Rattle.wap_context.specs.inside.Moving.{PlaysAt}
 use Rattle.wap_context.proofs.Places.{place_by, is_at, is_nowhere, held_now}
 

@@ -48,9 +48,9 @@ use Rattle.wap_context.specs.declared.waiting.Went.{Went}
 use Rattle.wap_context.specs.declared.waiting.Went.TheVariants.{Settled}
 use Rattle.wap_context.specs.Browsers.{Browser, IsOver, place_held}
 use Rattle.wap_context.specs.Sites.{site_of}
-use Rattle.wap_context.specs.inside.Held.{answered_at, returned_at, arrive_at, return_at}
-use Rattle.wap_context.specs.inside.Held.{refused_at}
-use Rattle.wap_context.specs.inside.Held.{refresh_at, page_under, page_here}
+use Rattle.wap_context.specs.inside.AtHand.{answered_at, returned_at, arrive_at, return_at}
+use Rattle.wap_context.specs.inside.AtHand.{refused_at}
+use Rattle.wap_context.specs.inside.AtHand.{refresh_at, page_under, page_here}
 use Rattle.wap_context.specs.inside.Moving.{PlaysAt, Moves, HasDeck, Answers, deck_answer}
 use Rattle.wap_context.specs.inside.Moving.{page_answer}
 use Rattle.wap_context.specs.inside.Moving.{Asked, next_in, waits_in, Takes, Onces, SpendsOne}

@@ -30,9 +30,9 @@ use Rattle.wap_world.specs.Requests.{test, test_of}
 use Rattle.wap_world.specs.Tasks.{refused, card_for, in_context}
 use Rattle.wap_world.specs.Tasks.{arrive, arrive_if, try_deck, answered, return, returned}
 use Rattle.wap_context.specs.Browsers.{Browser, IsOver, place_held}
-use Rattle.wap_context.specs.inside.Held.{leave_and_set_at, refused_at, entered_at}
-use Rattle.wap_context.specs.inside.Held.{enter_at, arrive_at, arrive_if_at, try_deck_at, return_at}
-use Rattle.wap_context.specs.inside.Held.{answered_at, returned_at}
+use Rattle.wap_context.specs.inside.AtHand.{leave_and_set_at, refused_at, entered_at}
+use Rattle.wap_context.specs.inside.AtHand.{enter_at, arrive_at, arrive_if_at, try_deck_at, return_at}
+use Rattle.wap_context.specs.inside.AtHand.{answered_at, returned_at}
 use Rattle.wap_world.proofs.Entries.{last_pushed, earlier_url}
 use Rattle.wap_context.proofs.Places.{held_now}
 use Rattle.wap_context.specs.inside.Moving.{deck_answer, page_answer}

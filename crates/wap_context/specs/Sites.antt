@@ -2,7 +2,7 @@
 -- URLs (WAP-193, section 8.3). This project's own.
 use Rattle.std.specs.Prelude.{ℕ, List, Option, IfSome}
 use Rattle.std.specs.Option.{option_map}
-use Rattle.wap_parse.specs.invocation.Reading.{call_of}
+use Rattle.wap_parse.specs.invocation.Calculation.{call_of}
 use Rattle.wap_world.specs.site.Pages.{Pages as JudgedPages}
 use Rattle.wap_world.specs.Sites.{Call, Site}
 use Rattle.wap_world.specs.scripting.UnitSites.{Pages, shelf_of, unit_pages, units_site}

@@ -1,4 +1,4 @@
-pub mod Held
+pub mod AtHand
 pub mod Moving
 pub mod Ticking
 pub mod Starting

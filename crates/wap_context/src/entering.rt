@@ -6,9 +6,9 @@ ghost use Rattle.wap_world.specs.Steps.{then_task};
 ghost use Rattle.wap_world.specs.Tasks.{card_for, is_new_context, in_context};
 ghost use Rattle.wap_world.specs.History.{pushed, entry_of, in_deck, back_at};
 ghost use Rattle.wap_context.specs.Browsers.{IsOver, place_held};
-ghost use Rattle.wap_context.specs.inside.Held.{not_started, event_at, begun_at, enter_at, arrive_at};
-ghost use Rattle.wap_context.specs.inside.Held.{try_deck_at, return_at, refused_at};
-ghost use Rattle.wap_context.specs.inside.Held.{answered_at, returned_at};
+ghost use Rattle.wap_context.specs.inside.AtHand.{not_started, event_at, begun_at, enter_at, arrive_at};
+ghost use Rattle.wap_context.specs.inside.AtHand.{try_deck_at, return_at, refused_at};
+ghost use Rattle.wap_context.specs.inside.AtHand.{answered_at, returned_at};
 ghost use Rattle.wap_context.specs.inside.Moving.{Moves, HasDeck, Answers};
 
 use crate::asking::may_enter;

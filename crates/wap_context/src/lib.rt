@@ -2,7 +2,7 @@
 //!
 //! - `host`: What a browser is to a script that runs: it counts its turns, finds functions of other
 //!   scripts in pages, and has the libraries (WAP-193, section 6.4.2.2; WAP-194).
-//! - `laws`: What follows from what is seen of contexts.
+//! - `laws`: What follows from what is seen of contexts. It runs nothing.
 #![tactic(auto)]
 
 mod asking;

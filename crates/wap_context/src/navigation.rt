@@ -8,7 +8,7 @@ ghost use Rattle.wap_world.specs.scripting.UnitSites.{shelf_of};
 ghost use Rattle.wap_state.specs.page_urls.PageUrls.{IsPageUrl};
 ghost use Rattle.wap_context.specs.Browsers.{place_held};
 ghost use Rattle.wap_context.specs.Sites.{site_of};
-ghost use Rattle.wap_context.specs.inside.Held.{page_under, page_here};
+ghost use Rattle.wap_context.specs.inside.AtHand.{page_under, page_here};
 ghost use Rattle.wap_context.specs.inside.Moving.{Takes, Onces, SpendsOne, HasNone};
 
 use crate::asking::{ask, ask_for, deck_answer, page_answer};

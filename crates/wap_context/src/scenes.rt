@@ -3,8 +3,8 @@ ghost use Rattle.std.specs.Prelude.{◌≡◌, OnOk, OnErr};
 ghost use Rattle.wap_world.specs.Screens.{at_place};
 ghost use Rattle.wap_world.specs.Entering.{leave_place};
 ghost use Rattle.wap_context.specs.Browsers.{ChangesVarsAndTimer};
-ghost use Rattle.wap_context.specs.inside.Held.{held, show_at, screen_at, refuse_at};
-ghost use Rattle.wap_context.specs.inside.Held.{leave_and_set_at, refresh_at, restart_place};
+ghost use Rattle.wap_context.specs.inside.AtHand.{held, show_at, screen_at, refuse_at};
+ghost use Rattle.wap_context.specs.inside.AtHand.{leave_and_set_at, refresh_at, restart_place};
 ghost use Rattle.wap_context.specs.inside.Moving.{PlaysAt};
 ghost use Rattle.wap_world.specs.Setting.{set_variables};
 

@@ -6,7 +6,7 @@ ghost use Rattle.wap_world.specs.Starting.{is_too_long};
 ghost use Rattle.wap_machine.specs.Standing.{CanEnter};
 ghost use Rattle.wap_machine.specs.Seen.{function_in};
 ghost use Rattle.std.specs.List.{list_any};
-ghost use Rattle.wap_parse.specs.invocation.Reading.{call_of};
+ghost use Rattle.wap_parse.specs.invocation.Calculation.{call_of};
 ghost use Rattle.wap_context.specs.Browsers.{IsOver, place_held};
 ghost use Rattle.wap_context.specs.inside.Starting.{start_of, start_found, begun_with};
 ghost use Rattle.wap_context.specs.inside.Starting.{started_with, script_with};

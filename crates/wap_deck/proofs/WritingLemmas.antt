@@ -1,5 +1,5 @@
 pub mod Lists
-pub mod Parts
+pub mod PiecesAndKids
 pub mod Starts
 pub mod Content
 pub mod Emptiness

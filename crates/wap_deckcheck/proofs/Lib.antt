@@ -1,6 +1,6 @@
 pub mod Tests
 pub mod Following
-pub mod Words
+pub mod WordTests
 pub mod Walking
 pub mod Distinctness
 pub mod Soundness

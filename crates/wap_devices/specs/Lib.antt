@@ -6,3 +6,4 @@ pub mod Stores
 pub mod Sources
 pub mod Sinks
 pub mod Fakes
+pub mod Printing

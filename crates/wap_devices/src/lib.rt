@@ -5,12 +5,14 @@
 mod calls;
 mod fault;
 mod gate;
+mod printing;
 mod sink;
 mod source;
 mod store;
 
 pub use fault::Failed;
 pub use gate::{Gate, NoGate};
+pub use printing::{print_fault, print_name, print_one};
 pub use sink::{MemSink, Sink, write_all};
 pub use source::{MemSource, Source};
 pub use store::{Fetched, MemStore, PAGE_LIMIT, Store, StoreErr, are_pages};

@@ -1,3 +1,3 @@
 pub mod Gathering
-pub mod Held
-pub mod Words
+pub mod Gathered
+pub mod LineWords

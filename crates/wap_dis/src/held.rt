@@ -1,7 +1,7 @@
 //! Bytes that are gathered before they are written.
 ghost use Rattle.std.specs.Prelude.{◌≡◌, [], true, false, ◌⊎◌};
 ghost use Rattle.wap_dis.specs.inside.Gathering.{Gathers};
-ghost use Rattle.wap_dis.specs.inside.Held.{state};
+ghost use Rattle.wap_dis.specs.inside.Gathered.{state};
 
 use arrayvec::ArrayVec;
 use wap_devices::{Failed, Sink, write_all};

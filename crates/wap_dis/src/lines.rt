@@ -5,8 +5,8 @@ ghost use Rattle.wap_dis.specs.Listing.{unit_line, constant_line, pragma_line, f
 ghost use Rattle.wap_dis.specs.Listing.{head_line, is_there, operand_count, instr_line, byte_line};
 ghost use Rattle.wap_dis.specs.Listing.{line};
 ghost use Rattle.wap_dis.specs.inside.Gathering.{Gathers};
-ghost use Rattle.wap_dis.specs.inside.Held.{state};
-ghost use Rattle.wap_dis.specs.inside.Words.{word_bytes};
+ghost use Rattle.wap_dis.specs.inside.Gathered.{state};
+ghost use Rattle.wap_dis.specs.inside.LineWords.{word_bytes};
 
 use crate::held::Held;
 use crate::names::name_of;

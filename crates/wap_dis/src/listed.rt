@@ -5,7 +5,7 @@ ghost use Rattle.wap_devices.specs.Sinks.{Puts};
 ghost use Rattle.wap_dis.specs.Listing.{whole_at, constant_line, pragma_line, byte_lines};
 ghost use Rattle.wap_dis.specs.Listing.{code_from, function_lines, listing};
 ghost use Rattle.wap_dis.specs.inside.Gathering.{Gathers};
-ghost use Rattle.wap_dis.specs.inside.Held.{state};
+ghost use Rattle.wap_dis.specs.inside.Gathered.{state};
 
 use crate::held::{Held, nothing_held, write_held};
 use crate::lines::{

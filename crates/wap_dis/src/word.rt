@@ -3,8 +3,8 @@ ghost use Rattle.std.specs.Prelude.{◌≡◌, ◌<◌, map};
 ghost use Rattle.std.specs.List.{flat_map};
 ghost use Rattle.wap_dis.specs.Listing.{hex_digit, hex, shown_byte, spaced, line};
 ghost use Rattle.wap_dis.specs.inside.Gathering.{Gathers};
-ghost use Rattle.wap_dis.specs.inside.Held.{state};
-ghost use Rattle.wap_dis.specs.inside.Words.{word_bytes};
+ghost use Rattle.wap_dis.specs.inside.Gathered.{state};
+ghost use Rattle.wap_dis.specs.inside.LineWords.{word_bytes};
 
 use crate::held::{Held, put};
 use itoa::Buffer;

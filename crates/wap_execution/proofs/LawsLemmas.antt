@@ -1,4 +1,4 @@
-pub mod Parts
+pub mod FrameRuns
 pub mod Going
 pub mod RunLaws
 pub mod FrameLaws

@@ -1,6 +1,6 @@
-//! What instructions do, what runs come to, and the laws of both.
+//! What instructions do, and what runs come to, as definitions in `specs/`.
 //!
-//! - `laws`: Laws of runs of compiled units, each the contract of a function that does nothing.
+//! - `laws`: What follows for runs of compiled units. It runs nothing.
 #![tactic(auto)]
 
 mod action;

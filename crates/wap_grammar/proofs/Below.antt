@@ -21,7 +21,7 @@ use Rattle.wap_grammar.specs.Statements.{IsStatement}
 use Rattle.wap_grammar.specs.Programs.{IsProgram, Spells}
 use Rattle.wap_grammar.specs.Depth.{IsLate, IsExpressionOver, IsStatementOver}
 use Rattle.wap_grammar.specs.Depth.{IsProgramLate, IsFirstBelow}
-use Rattle.wap_grammar.specs.inside.Steps.{Reading, nested}
+use Rattle.wap_grammar.specs.inside.TokenReading.{Reading, nested}
 use Rattle.wap_grammar.specs.inside.Expressions.{expression_at}
 use Rattle.wap_grammar.specs.inside.Statements.{Statements, statement_at}
 use Rattle.wap_grammar.specs.inside.Programs.{program_by, program_at}
@@ -29,7 +29,7 @@ use Rattle.wap_grammar.proofs.Firsts.{Ends}
 use Rattle.wap_grammar.proofs.Items.{Reads}
 use Rattle.wap_grammar.proofs.Operands.{AllRead, AllStart}
 use Rattle.wap_grammar.proofs.Levels.{reads_part, part_starts, reads_expression, expression_starts}
-use Rattle.wap_grammar.proofs.Parts.{Anything}
+use Rattle.wap_grammar.proofs.CommaLists.{Anything}
 use Rattle.wap_grammar.proofs.Statements.{ReadsStatements, reads_of, reads_statements}
 use Rattle.wap_grammar.proofs.Whole.{program_ok_of, program_again_of, program_ok, program_again}
 use Rattle.wap_grammar.proofs.Guards.{Guard, nowhere, late, anywhere, Goes, Forks, past_of}

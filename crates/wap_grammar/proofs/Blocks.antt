@@ -6,13 +6,13 @@ use Rattle.wap_grammar.specs.declared.program.program.Span.{Span}
 use Rattle.wap_grammar.specs.declared.program.statement.Stmt.{Stmt}
 use Rattle.wap_grammar.specs.declared.lexeme.Lexeme.{Lexeme}
 use Rattle.wap_grammar.specs.declared.word.Sign.TheVariants as signs
-use Rattle.wap_grammar.specs.Words.{word_of, is_sign}
+use Rattle.wap_grammar.specs.Lexemes.{word_of, is_sign}
 use Rattle.wap_grammar.specs.Spellings.{Spelling, sign, Several}
-use Rattle.wap_grammar.specs.inside.Steps.{Reading, told, items_at}
+use Rattle.wap_grammar.specs.inside.TokenReading.{Reading, told, items_at}
 use Rattle.wap_grammar.specs.inside.Statements.{Statements, next_statement, block_at}
 use Rattle.wap_grammar.proofs.Firsts.{value_same, told_ok}
 use Rattle.wap_grammar.proofs.Items.{Reads, ReadsItems, reads_items}
-use Rattle.wap_grammar.proofs.Parts.{Anything, closing_ok, closing_again}
+use Rattle.wap_grammar.proofs.CommaLists.{Anything, closing_ok, closing_again}
 
 -- statements are read as they are spelled; each has a token, and none begins with `}`
 pub record ReadsStatements (Statement : Spelling Stmt) (statement : Statements) : Type 0 where

@@ -8,11 +8,11 @@ use Rattle.wap_grammar.specs.declared.callee.Callee.{Callee}
 use Rattle.wap_grammar.specs.declared.callee.Callee.TheVariants as callee
 use Rattle.wap_grammar.specs.declared.lexeme.Lexeme.{Lexeme}
 use Rattle.wap_grammar.specs.declared.word.Sign.TheVariants as signs
-use Rattle.wap_grammar.specs.Words.{is_sign}
+use Rattle.wap_grammar.specs.Lexemes.{is_sign}
 use Rattle.wap_grammar.specs.Values.{id_of}
 use Rattle.wap_grammar.specs.Spellings.{name, sign}
 use Rattle.wap_grammar.specs.Expressions.{IsCallee, local, external, library}
-use Rattle.wap_grammar.specs.inside.Steps.{Reading, word_of, span_of, after, told, id_at}
+use Rattle.wap_grammar.specs.inside.TokenReading.{Reading, word_of, span_of, after, told, id_at}
 use Rattle.wap_grammar.specs.inside.Expressions.{callee_after, callee_at}
 use Rattle.wap_grammar.proofs.Firsts.{value_same, told_ok, sign_first, id_ok}
 

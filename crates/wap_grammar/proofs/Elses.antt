@@ -5,14 +5,14 @@ use Rattle.wap_base.proofs.Choices.{chosen}
 use Rattle.wap_grammar.specs.declared.program.statement.Stmt.{Stmt}
 use Rattle.wap_grammar.specs.declared.lexeme.Lexeme.{Lexeme}
 use Rattle.wap_grammar.specs.declared.word.Sign.TheVariants as signs
-use Rattle.wap_grammar.specs.Words.{word_of, is_sign}
+use Rattle.wap_grammar.specs.Lexemes.{word_of, is_sign}
 use Rattle.wap_grammar.specs.Spellings.{Spelling, sign}
 use Rattle.wap_grammar.specs.Statements.{IsElse, without, with_else}
-use Rattle.wap_grammar.specs.inside.Steps.{span_of, after, told}
+use Rattle.wap_grammar.specs.inside.TokenReading.{span_of, after, told}
 use Rattle.wap_grammar.specs.inside.Statements.{Statements, else_at}
 use Rattle.wap_grammar.proofs.Firsts.{value_same, told_ok, sign_first}
 use Rattle.wap_grammar.proofs.Items.{Reads}
-use Rattle.wap_grammar.proofs.Parts.{Anything}
+use Rattle.wap_grammar.proofs.CommaLists.{Anything}
 
 module _ (Statement : Spelling Stmt) (statement : Statements)
     (reads : Reads Statement Anything statement) where

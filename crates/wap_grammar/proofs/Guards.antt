@@ -10,11 +10,11 @@ use Rattle.wap_grammar.specs.declared.fault.ParseFault.{ParseFault}
 use Rattle.wap_grammar.specs.declared.fault.ParseFault.TheVariants as fault
 use Rattle.wap_grammar.specs.declared.lexeme.Lexeme.{Lexeme}
 use Rattle.wap_grammar.specs.declared.word.Sign.{Sign}
-use Rattle.wap_grammar.specs.Words.{word_of, is_sign, is_name}
+use Rattle.wap_grammar.specs.Lexemes.{word_of, is_sign, is_name}
 use Rattle.wap_grammar.specs.Values.{id_of}
 use Rattle.wap_grammar.specs.Refusal.{place_of, IsPast}
-use Rattle.wap_grammar.specs.inside.Steps.{Reading, span_of, after, syntax, nested, told, expect_at}
-use Rattle.wap_grammar.specs.inside.Steps.{closed, id_at, Next, one_more, run_at, items_at}
+use Rattle.wap_grammar.specs.inside.TokenReading.{Reading, span_of, after, syntax, nested, told, expect_at}
+use Rattle.wap_grammar.specs.inside.TokenReading.{closed, id_at, Next, one_more, run_at, items_at}
 
 -- where parts may begin that stand too deep: nowhere, where fewer tokens than so many are left, or
 -- anywhere

@@ -16,14 +16,14 @@ use Rattle.wap_grammar.specs.declared.precedence.TheConstants.{CONDITIONAL, ASSI
 use Rattle.wap_grammar.specs.declared.word.Word.{Word}
 use Rattle.wap_grammar.specs.declared.word.Word.TheVariants as word
 use Rattle.wap_grammar.specs.declared.word.Sign.TheVariants as signs
-use Rattle.wap_grammar.specs.Words.{precedence, assignment_of, operator_of, is_sign, is_name}
+use Rattle.wap_grammar.specs.Lexemes.{precedence, assignment_of, operator_of, is_sign, is_name}
 use Rattle.wap_grammar.specs.Values.{id_of, literal_of}
 use Rattle.wap_grammar.specs.Spellings.{Spelling, token, name, sign, Several}
 use Rattle.wap_grammar.specs.Spellings as several
 use Rattle.wap_grammar.specs.Expressions.{Expressions, IsOperand, operand, IsLooser, tighter, chain}
 use Rattle.wap_grammar.specs.Expressions.{conditional, assignment, IsPart, IsExpression}
-use Rattle.wap_grammar.specs.inside.Steps.{Reading, word_of, span_of, after, nested}
-use Rattle.wap_grammar.specs.inside.Steps.{told, closed, id_at, items_at}
+use Rattle.wap_grammar.specs.inside.TokenReading.{Reading, word_of, span_of, after, nested}
+use Rattle.wap_grammar.specs.inside.TokenReading.{told, closed, id_at, items_at}
 use Rattle.wap_grammar.specs.inside.Expressions.{
   Reader,
   chained,

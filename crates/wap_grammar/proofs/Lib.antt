@@ -3,7 +3,7 @@ pub mod Items
 pub mod Callees
 pub mod Operands
 pub mod Levels
-pub mod Parts
+pub mod CommaLists
 pub mod Elses
 pub mod Statements
 pub mod Pragmas

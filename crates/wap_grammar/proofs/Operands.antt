@@ -15,15 +15,15 @@ use Rattle.wap_grammar.specs.declared.precedence.TheConstants.{UNARY, ASSIGNMENT
 use Rattle.wap_grammar.specs.declared.word.Word.{Word}
 use Rattle.wap_grammar.specs.declared.word.Word.TheVariants as word
 use Rattle.wap_grammar.specs.declared.word.Sign.TheVariants as signs
-use Rattle.wap_grammar.specs.Words.{unary_of, step_of, is_sign, is_comma}
+use Rattle.wap_grammar.specs.Lexemes.{unary_of, step_of, is_sign, is_comma}
 use Rattle.wap_grammar.specs.Values.{id_of, literal_of, called}
 use Rattle.wap_grammar.specs.Spellings.{token, name, sign, Several}
 use Rattle.wap_grammar.specs.Expressions.{Expressions, IsCallee, local, external, library}
 use Rattle.wap_grammar.specs.Expressions.{IsArgument, argument, AreArguments, none, some}
 use Rattle.wap_grammar.specs.Expressions.{IsUnary, literal, variable, postfix, prefix, call}
 use Rattle.wap_grammar.specs.Expressions.{parentheses, unary}
-use Rattle.wap_grammar.specs.inside.Steps.{Reading, word_of, span_of, after, told}
-use Rattle.wap_grammar.specs.inside.Steps.{closed, id_at, items_at}
+use Rattle.wap_grammar.specs.inside.TokenReading.{Reading, word_of, span_of, after, told}
+use Rattle.wap_grammar.specs.inside.TokenReading.{closed, id_at, items_at}
 use Rattle.wap_grammar.specs.inside.Expressions.{Reader, callee_after, callee_at, stepped}
 use Rattle.wap_grammar.specs.inside.Expressions.{variable_at, next_argument, arguments_at}
 use Rattle.wap_grammar.specs.inside.Expressions.{named_at, primary_by, primary_at, prefixed}

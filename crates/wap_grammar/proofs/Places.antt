@@ -20,11 +20,11 @@ use Rattle.wap_grammar.specs.declared.start.Start.{Start}
 use Rattle.wap_grammar.specs.declared.start.Start.TheVariants as start
 use Rattle.wap_grammar.specs.declared.word.Sign.TheVariants as signs
 use Rattle.wap_grammar.specs.declared.word.Sign.{Sign}
-use Rattle.wap_grammar.specs.Words.{word_of, unary_of, step_of, assignment_of, operator_of}
-use Rattle.wap_grammar.specs.Words.{is_sign, is_name, is_comma, is_equals, start_of}
+use Rattle.wap_grammar.specs.Lexemes.{word_of, unary_of, step_of, assignment_of, operator_of}
+use Rattle.wap_grammar.specs.Lexemes.{is_sign, is_name, is_comma, is_equals, start_of}
 use Rattle.wap_grammar.specs.Values.{id_of, literal_of, called}
 use Rattle.wap_grammar.specs.Statements.{done_first}
-use Rattle.wap_grammar.specs.inside.Steps.{Reading, span_of, after, told, closed, id_at, items_at}
+use Rattle.wap_grammar.specs.inside.TokenReading.{Reading, span_of, after, told, closed, id_at, items_at}
 use Rattle.wap_grammar.specs.inside.Expressions.{
   Reader,
   chained,

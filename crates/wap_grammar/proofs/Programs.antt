@@ -17,7 +17,7 @@ use Rattle.wap_grammar.specs.declared.word.Sign.TheVariants as signs
 use Rattle.wap_grammar.specs.Values.{id_of, literal_of}
 use Rattle.wap_grammar.specs.Spellings.{token, name, sign}
 use Rattle.wap_grammar.specs.Programs.{IsProgram}
-use Rattle.wap_grammar.specs.inside.Steps.{expect_at, id_at, items_at}
+use Rattle.wap_grammar.specs.inside.TokenReading.{expect_at, id_at, items_at}
 use Rattle.wap_grammar.specs.inside.Expressions.{callee_after, callee_at, variable_at}
 use Rattle.wap_grammar.specs.inside.Expressions.{named_at, primary_at, unary_at, next_operand}
 use Rattle.wap_grammar.specs.inside.Expressions.{chain_at, conditional_at, assignment_at}

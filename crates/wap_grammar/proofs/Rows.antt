@@ -3,7 +3,7 @@ use Rattle.std.proofs.Common.{◌≡◌, [], ◌∷◌, true, Some, codes, refl}
 use Rattle.wap_value.specs.declared.operator.BinOp.TheVariants as op
 use Rattle.wap_grammar.specs.declared.word.Word.TheVariants as word
 use Rattle.wap_grammar.specs.declared.word.Sign.TheVariants as signs
-use Rattle.wap_grammar.specs.Words.{word_rows, word_spelled}
+use Rattle.wap_grammar.specs.Lexemes.{word_rows, word_spelled}
 use Rattle.wap_grammar.specs.Strings.{unescaped}
 
 plain : unescaped (codes "a b") ≡ codes "a b"

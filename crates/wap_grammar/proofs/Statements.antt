@@ -15,13 +15,13 @@ use Rattle.wap_grammar.specs.declared.word.Word.{Word}
 use Rattle.wap_grammar.specs.declared.word.Word.TheVariants as word
 use Rattle.wap_grammar.specs.declared.word.Sign.{Sign}
 use Rattle.wap_grammar.specs.declared.word.Sign.TheVariants as signs
-use Rattle.wap_grammar.specs.Words.{word_of, is_same_sign, is_sign, start_of, start_by}
+use Rattle.wap_grammar.specs.Lexemes.{word_of, is_same_sign, is_sign, start_of, start_by}
 use Rattle.wap_grammar.specs.Spellings.{Spelling, token, sign}
 use Rattle.wap_grammar.specs.Expressions.{Expressions, IsExpression}
 use Rattle.wap_grammar.specs.Statements as stated
 use Rattle.wap_grammar.specs.Statements.{IsOptional, IsCondition, IsElse}
 use Rattle.wap_grammar.specs.Statements.{IsStatementOf, IsStatement}
-use Rattle.wap_grammar.specs.inside.Steps.{Reading, span_of, after, nested, told, expect_at, closed}
+use Rattle.wap_grammar.specs.inside.TokenReading.{Reading, span_of, after, nested, told, expect_at, closed}
 use Rattle.wap_grammar.specs.inside.Expressions.{Reader, expression_at}
 use Rattle.wap_grammar.specs.inside.Statements.{Statements, optional_at, initial_at, condition_at}
 use Rattle.wap_grammar.specs.inside.Statements.{block_at, arm_at, else_at, if_at, while_at, for_at}
@@ -34,9 +34,9 @@ use Rattle.wap_grammar.proofs.Levels.{reads_expression, expression_starts}
 pub use Rattle.wap_grammar.proofs.Blocks.{ReadsStatements}
 use Rattle.wap_grammar.proofs.Blocks.{block_ok, block_again, block_within}
 use Rattle.wap_grammar.proofs.Elses.{reads_else}
-use Rattle.wap_grammar.proofs.Parts.{Anything, closing_ok, closing_again, variables_ok}
-use Rattle.wap_grammar.proofs.Parts.{variables_again, reads_optional, reads_declarations}
-use Rattle.wap_grammar.proofs.Parts.{reads_initial, reads_condition}
+use Rattle.wap_grammar.proofs.CommaLists.{Anything, closing_ok, closing_again, variables_ok}
+use Rattle.wap_grammar.proofs.CommaLists.{variables_again, reads_optional, reads_declarations}
+use Rattle.wap_grammar.proofs.CommaLists.{reads_initial, reads_condition}
 
 -- the sign of its own that a statement begins with
 pub sign_for : Start → Option Sign

@@ -19,7 +19,7 @@ use Rattle.wap_lex.specs.declared.token.Kind.TheVariants as kind
 use Rattle.wap_lex.specs.declared.token.Token.{Token}
 use Rattle.wap_lex.specs.declared.shape.Shape.{Shape}
 use Rattle.wap_lex.specs.declared.shape.Shape.TheVariants as shape
-use Rattle.wap_lex.specs.Words.{is_reserved}
+use Rattle.wap_lex.specs.ReservedWords.{is_reserved}
 use Rattle.wap_lex.specs.Tokens.{IsShape, kind_of, token_before, Lexes, ends, piece, AreTokens}
 use Rattle.wap_base.proofs.Utf8Cuts.{AllHigh, high_bytes, encode_some}
 use Rattle.wap_lex.specs.Characters.{is_octal_digit, is_quote}

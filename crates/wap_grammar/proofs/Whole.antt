@@ -10,7 +10,7 @@ use Rattle.wap_grammar.specs.declared.program.program.Program.{Program}
 use Rattle.wap_grammar.specs.declared.program.statement.Stmt.{Stmt}
 use Rattle.wap_grammar.specs.declared.lexeme.Lexeme.{Lexeme}
 use Rattle.wap_grammar.specs.declared.word.Sign.TheVariants as signs
-use Rattle.wap_grammar.specs.Words.{word_of, is_sign}
+use Rattle.wap_grammar.specs.Lexemes.{word_of, is_sign}
 use Rattle.wap_grammar.specs.Values.{id_of}
 use Rattle.wap_grammar.specs.Spellings.{Spelling, name, sign, Several, AreListed, listed}
 use Rattle.wap_grammar.specs.Spellings as several
@@ -18,15 +18,15 @@ use Rattle.wap_grammar.specs.Statements.{IsStatement}
 use Rattle.wap_grammar.specs.Programs.{IsUse, IsHead, own, external, IsParameter, parameter}
 use Rattle.wap_grammar.specs.Programs.{AreParameters, none, some, IsTail, without, semicolon}
 use Rattle.wap_grammar.specs.Programs.{IsFunction, function, IsProgramOf, IsProgram, program}
-use Rattle.wap_grammar.specs.inside.Steps.{Reading, span_of, after, told, expect_at}
-use Rattle.wap_grammar.specs.inside.Steps.{closed, id_at, items_at}
+use Rattle.wap_grammar.specs.inside.TokenReading.{Reading, span_of, after, told, expect_at}
+use Rattle.wap_grammar.specs.inside.TokenReading.{closed, id_at, items_at}
 use Rattle.wap_grammar.specs.inside.Statements.{Statements, listed_at, block_at, statement_at}
 use Rattle.wap_grammar.specs.inside.Programs.{next_use, parameters_at, tail_at, head_at}
 use Rattle.wap_grammar.specs.inside.Programs.{function_of, function_at, next_function}
 use Rattle.wap_grammar.specs.inside.Programs.{program_by, program_at}
 use Rattle.wap_grammar.proofs.Firsts.{value_same, told_ok, sign_first, expect_ok, id_ok, Ends}
 use Rattle.wap_grammar.proofs.Items.{Reads, reads_items}
-use Rattle.wap_grammar.proofs.Parts.{closing_ok, closing_again, reads_listed}
+use Rattle.wap_grammar.proofs.CommaLists.{closing_ok, closing_again, reads_listed}
 use Rattle.wap_grammar.proofs.Blocks.{block_ok, block_again, block_within}
 use Rattle.wap_grammar.proofs.Statements.{ReadsStatements, reads_statements}
 use Rattle.wap_grammar.proofs.Pragmas.{NoUse, reads_uses}

@@ -19,7 +19,7 @@ use Rattle.wap_grammar.specs.declared.word.Word.{Word}
 use Rattle.wap_grammar.specs.declared.word.Word.TheVariants.{Operator, Step, Assign}
 use Rattle.wap_grammar.specs.declared.word.Sign.TheVariants.{Question, Colon, Open}
 use Rattle.wap_grammar.specs.declared.word.Sign.TheVariants.{Close, Hash, Dot}
-use Rattle.wap_grammar.specs.Words.{precedence, unary_of}
+use Rattle.wap_grammar.specs.Lexemes.{precedence, unary_of}
 use Rattle.wap_grammar.specs.Values.{id_of, literal_of, called}
 use Rattle.wap_grammar.specs.Spellings.{Spelling, token, name, sign, Several}
 

@@ -1,4 +1,4 @@
-pub mod Words
+pub mod Lexemes
 pub mod Strings
 pub mod Texts
 pub mod Values

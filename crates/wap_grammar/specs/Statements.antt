@@ -13,7 +13,7 @@ use Rattle.wap_grammar.specs.declared.word.Sign.{Sign}
 use Rattle.wap_grammar.specs.declared.word.Sign.TheVariants.{Semicolon, Open, Close, OpenBlock}
 use Rattle.wap_grammar.specs.declared.word.Sign.TheVariants.{CloseBlock, Break, Continue, Else, For}
 use Rattle.wap_grammar.specs.declared.word.Sign.TheVariants.{If, Return, Var, While}
-use Rattle.wap_grammar.specs.Words.{is_sign, word_of}
+use Rattle.wap_grammar.specs.Lexemes.{is_sign, word_of}
 use Rattle.wap_grammar.specs.Values.{id_of}
 use Rattle.wap_grammar.specs.Spellings.{Spelling, token, name, sign, Several, AreListed}
 use Rattle.wap_grammar.specs.Expressions.{Expressions, IsExpression}

@@ -1,4 +1,4 @@
-pub mod Steps
+pub mod TokenReading
 pub mod Expressions
 pub mod Statements
 pub mod Programs

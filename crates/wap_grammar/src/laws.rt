@@ -6,7 +6,7 @@ ghost use Rattle.wap_lex.specs.Tokens.{AreTokens};
 ghost use Rattle.wap_grammar.specs.declared.lexeme.Lexeme.{Lexeme};
 ghost use Rattle.wap_grammar.specs.Programs.{Spells};
 ghost use Rattle.wap_grammar.specs.Texts.{StandsForText};
-ghost use Rattle.wap_grammar.specs.Words.{word_rows, text_in, lexeme_of};
+ghost use Rattle.wap_grammar.specs.Lexemes.{word_rows, text_in, lexeme_of};
 ghost use Rattle.wap_grammar.specs.declared.program.program.Program.{Program};
 
 use crate::WORDS;
@@ -25,7 +25,7 @@ pub fn strings_are_texts()
 {}
 
 /// The table of words in the code is that of the definitions.
-#[tactic(auto, unfolding(crate::specs::Words::word_rows))]
+#[tactic(auto, unfolding(crate::specs::Lexemes::word_rows))]
 pub fn words_are_listed()
     ensures { map (λ row. (row.0.now, row.1)) WORDS ≡ word_rows }
 {}

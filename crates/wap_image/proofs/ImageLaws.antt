@@ -12,8 +12,8 @@ use Rattle.wap_image.specs.declared.context_parts.fault.ImageFault.{ImageFault}
 use Rattle.wap_image.specs.declared.context_parts.fault.ImageFault.TheVariants as fault
 use Rattle.wap_image.specs.Images.{Saved, IsImage}
 use Rattle.wap_image.specs.Refusal.{IsRefused, inside, beyond}
-use Rattle.wap_image.specs.inside.Reading.{items_at, ended, image_at}
-use Rattle.wap_image.proofs.Parts.{reads_items}
+use Rattle.wap_image.specs.inside.ImageReading.{items_at, ended, image_at}
+use Rattle.wap_image.proofs.ItemLaws.{reads_items}
 
 -- what comes of reading the items
 abbrev Read : Type 0

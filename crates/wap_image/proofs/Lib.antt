@@ -1,7 +1,7 @@
 pub mod Readers
-pub mod Parts
+pub mod ItemLaws
 pub mod ImageLaws
 pub mod Loops
 pub mod SpellingLaws
 pub mod RulesLaws
-pub mod Words
+pub mod SchemeWord

@@ -4,7 +4,7 @@ use Rattle.std.proofs.Common.{Err, sym, ap, subst, ◌∙◌, arith}
 use Rattle.wap_base.specs.Outcome.{◌>>=◌, Meets}
 use Rattle.wap_image.specs.declared.context_parts.fault.ImageFault.{ImageFault}
 use Rattle.wap_image.specs.declared.context_parts.fault.ImageFault.TheVariants.{NoMemory}
-use Rattle.wap_image.specs.inside.Steps.{Reader, many}
+use Rattle.wap_image.specs.inside.ByteReading.{Reader, many}
 
 -- what comes of reading
 abbrev Read : Type 0 → Type 0

@@ -18,8 +18,8 @@ use Rattle.wap_image.specs.declared.context_parts.fault.ImageFault.TheVariants a
 use Rattle.wap_image.specs.Sequences.{Then, IsByte, AreBytes, Passing, Made, MadeIf, IsRow, AreMany}
 use Rattle.wap_image.specs.Refusal.{Refusal, Never, LacksByte, LacksBytes, RefusesNumber}
 use Rattle.wap_image.specs.Refusal.{RefusesInTurn, RefusesPassing, RefusesMadeIf, RefusesRow}
-use Rattle.wap_image.specs.inside.Steps.{Reader, byte_at, taken_at, numbered, number_at}
-use Rattle.wap_image.specs.inside.Steps.{in_turn, given, passing, made, value_or, made_if, many}
+use Rattle.wap_image.specs.inside.ByteReading.{Reader, byte_at, taken_at, numbered, number_at}
+use Rattle.wap_image.specs.inside.ByteReading.{in_turn, given, passing, made, value_or, made_if, many}
 
 -- read reads a prefix that is such, and gives up exactly where it is refused
 pub record Reads {A : Type 0} (read : Reader A) (Is : List ℕ → A → Type 0)

@@ -13,7 +13,7 @@ use Rattle.wap_base.specs.declared.limits.TheConstants.{MOST_HISTORY, LEAST_DEPT
 use Rattle.wap_vars.specs.declared.limits.TheConstants.{VAR_LIMIT, TEXT_LIMIT}
 use Rattle.wap_url.specs.declared.url.Url.{Url}
 use Rattle.wap_url.specs.declared.fault.UrlFault.{UrlFault}
-use Rattle.wap_url.specs.Reading.{url_at}
+use Rattle.wap_url.specs.Calculation.{url_at}
 use Rattle.wap_url.specs.Printing.{printed}
 use Rattle.wap_image.specs.declared.context_parts.parts.SavedTimer.{SavedTimer}
 use Rattle.wap_image.specs.declared.context_parts.parts.SavedTimer.TheVariants.{NotStarted, Running}

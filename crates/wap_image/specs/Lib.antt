@@ -4,4 +4,5 @@ pub mod Images
 pub mod Refusal
 pub mod Rules
 pub mod Spelling
+pub mod Printing
 pub mod inside

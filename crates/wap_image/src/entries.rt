@@ -3,8 +3,8 @@ ghost use Rattle.std.specs.Prelude.{◌≡◌, []};
 ghost use Rattle.wap_base.specs.Outcome.{Meets};
 ghost use Rattle.wap_image.specs.declared.context_parts.fault.ImageFault.TheVariants.{NoMemory};
 ghost use Rattle.wap_image.specs.Items.{is_not_started, is_entry_count};
-ghost use Rattle.wap_image.specs.inside.Steps.{many};
-ghost use Rattle.wap_image.specs.inside.Reading.{url_at, entry_at, entry_count_at, entries_at};
+ghost use Rattle.wap_image.specs.inside.ByteReading.{many};
+ghost use Rattle.wap_image.specs.inside.ImageReading.{url_at, entry_at, entry_count_at, entries_at};
 
 use crate::context_parts::{ImageFault, SavedTimer};
 use crate::items::is_entry_text;
@@ -14,7 +14,7 @@ use std::alloc::Global;
 use wap_base::{Limits, Rows, Text};
 
 /// The entries, after their number, which the limit and the timer may refuse.
-#[tactic(auto, unfolding(crate::specs::inside::Reading::entries_at))]
+#[tactic(auto, unfolding(crate::specs::inside::ImageReading::entries_at))]
 pub(crate) fn read_entries(
     alloc: Global,
     limits: Limits,
@@ -29,7 +29,7 @@ pub(crate) fn read_entries(
     read_row(alloc, count, end, rest)
 }
 
-#[tactic(auto, unfolding(crate::specs::inside::Reading::entry_count_at))]
+#[tactic(auto, unfolding(crate::specs::inside::ImageReading::entry_count_at))]
 fn read_count(
     limits: Limits,
     timer: SavedTimer,
@@ -85,7 +85,7 @@ fn read_row(
 }
 
 /// An entry: its URL as it is written, and the number of its card.
-#[tactic(auto, unfolding(crate::specs::inside::Reading::entry_at))]
+#[tactic(auto, unfolding(crate::specs::inside::ImageReading::entry_at))]
 fn read_entry(alloc: Global, end: usize, bytes: &[u8]) -> Result<((Text, usize), &[u8]), ImageFault>
     ensures { Meets NoMemory (λ read. (read.0, read.1.now)) result (entry_at end bytes.now) }
 {
@@ -95,7 +95,7 @@ fn read_entry(alloc: Global, end: usize, bytes: &[u8]) -> Result<((Text, usize),
 }
 
 /// The URL of an entry.
-#[tactic(auto, unfolding(crate::specs::inside::Reading::url_at))]
+#[tactic(auto, unfolding(crate::specs::inside::ImageReading::url_at))]
 fn read_url(alloc: Global, end: usize, bytes: &[u8]) -> Result<(Text, &[u8]), ImageFault>
     ensures { Meets NoMemory (λ read. (read.0, read.1.now)) result (url_at end bytes.now) }
 {

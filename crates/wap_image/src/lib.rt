@@ -10,6 +10,7 @@ mod kind;
 mod knowing;
 mod laws;
 mod limits;
+mod printing;
 mod reading;
 mod short;
 mod steps;
@@ -22,5 +23,6 @@ pub use laws::{
     no_bytes_have_two_faults, no_bytes_have_two_images, no_image_has_a_fault,
     what_is_no_image_has_a_fault,
 };
+pub use printing::{print_image_fault, print_save_fault};
 pub use reading::read;
 pub use writing::save_parts;

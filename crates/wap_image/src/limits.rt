@@ -1,8 +1,8 @@
 //! The limits of a run.
 ghost use Rattle.wap_base.specs.Outcome.{Meets};
 ghost use Rattle.wap_image.specs.declared.context_parts.fault.ImageFault.TheVariants.{NoMemory};
-ghost use Rattle.wap_image.specs.inside.Reading.{string_limit_at, history_limit_at};
-ghost use Rattle.wap_image.specs.inside.Reading.{depth_limit_at, limits_at};
+ghost use Rattle.wap_image.specs.inside.ImageReading.{string_limit_at, history_limit_at};
+ghost use Rattle.wap_image.specs.inside.ImageReading.{depth_limit_at, limits_at};
 
 use crate::context_parts::ImageFault;
 use crate::steps::{byte, number, place};
@@ -11,7 +11,7 @@ use wap_base::{
 };
 
 /// The limits of strings, of the history and of calls.
-#[tactic(auto, unfolding(crate::specs::inside::Reading::limits_at))]
+#[tactic(auto, unfolding(crate::specs::inside::ImageReading::limits_at))]
 pub(crate) fn read_limits(end: usize, bytes: &[u8]) -> Result<(Limits, &[u8]), ImageFault>
     ensures { Meets NoMemory (λ read. (read.0, read.1.now)) result (limits_at end bytes.now) }
 {
@@ -28,7 +28,7 @@ pub(crate) fn read_limits(end: usize, bytes: &[u8]) -> Result<(Limits, &[u8]), I
     ))
 }
 
-#[tactic(auto, unfolding(crate::specs::inside::Reading::string_limit_at))]
+#[tactic(auto, unfolding(crate::specs::inside::ImageReading::string_limit_at))]
 fn string_limit(end: usize, bytes: &[u8]) -> Result<(u32, &[u8]), ImageFault>
     ensures { Meets NoMemory (λ read. (read.0, read.1.now)) result (string_limit_at end bytes.now) }
 {
@@ -41,7 +41,7 @@ fn string_limit(end: usize, bytes: &[u8]) -> Result<(u32, &[u8]), ImageFault>
     })
 }
 
-#[tactic(auto, unfolding(crate::specs::inside::Reading::history_limit_at))]
+#[tactic(auto, unfolding(crate::specs::inside::ImageReading::history_limit_at))]
 fn history_limit(end: usize, bytes: &[u8]) -> Result<(u8, &[u8]), ImageFault>
     ensures { Meets NoMemory (λ read. (read.0, read.1.now)) result
         (history_limit_at end bytes.now) }
@@ -55,7 +55,7 @@ fn history_limit(end: usize, bytes: &[u8]) -> Result<(u8, &[u8]), ImageFault>
     })
 }
 
-#[tactic(auto, unfolding(crate::specs::inside::Reading::depth_limit_at))]
+#[tactic(auto, unfolding(crate::specs::inside::ImageReading::depth_limit_at))]
 fn depth_limit(end: usize, bytes: &[u8]) -> Result<(u8, &[u8]), ImageFault>
     ensures { Meets NoMemory (λ read. (read.0, read.1.now)) result (depth_limit_at end bytes.now) }
 {

@@ -6,8 +6,8 @@ ghost use Rattle.wap_image.specs.declared.context_parts.fault.ImageFault.TheVari
 ghost use Rattle.wap_image.specs.Images.{Saved, IsImage};
 ghost use Rattle.wap_image.specs.Refusal.{IsRefused};
 ghost use Rattle.wap_image.specs.Rules.{MayBeSaved};
-ghost use Rattle.wap_image.specs.inside.Reading.{head_at, drawn_at, budget_at};
-ghost use Rattle.wap_image.specs.inside.Reading.{lists_at, items_at, image_at};
+ghost use Rattle.wap_image.specs.inside.ImageReading.{head_at, drawn_at, budget_at};
+ghost use Rattle.wap_image.specs.inside.ImageReading.{lists_at, items_at, image_at};
 
 use crate::context_parts::{ContextParts, ImageFault};
 use crate::entries::read_entries;
@@ -35,7 +35,7 @@ pub fn read(alloc: Global, bytes: &[u8]) -> Result<(ContextParts, u32), ImageFau
     read_image(alloc, bytes)
 }
 
-#[tactic(auto, unfolding(crate::specs::inside::Reading::image_at))]
+#[tactic(auto, unfolding(crate::specs::inside::ImageReading::image_at))]
 fn read_image(alloc: Global, bytes: &[u8]) -> Result<(ContextParts, u32), ImageFault>
     ensures { Meets NoMemory (λ saved. saved) result (image_at bytes.now) }
 {
@@ -50,7 +50,7 @@ fn read_image(alloc: Global, bytes: &[u8]) -> Result<(ContextParts, u32), ImageF
 }
 
 /// The items, one after the other.
-#[tactic(auto, unfolding(crate::specs::inside::Reading::items_at))]
+#[tactic(auto, unfolding(crate::specs::inside::ImageReading::items_at))]
 fn read_items(
     alloc: Global,
     end: usize,
@@ -67,7 +67,7 @@ fn read_items(
 }
 
 /// The items after the numbers, which are these.
-#[tactic(auto, unfolding(crate::specs::inside::Reading::lists_at))]
+#[tactic(auto, unfolding(crate::specs::inside::ImageReading::lists_at))]
 fn read_lists(
     alloc: Global,
     seed: u32,
@@ -97,7 +97,7 @@ fn read_lists(
 }
 
 /// The bytes with which an image begins.
-#[tactic(auto, unfolding(crate::specs::inside::Reading::head_at))]
+#[tactic(auto, unfolding(crate::specs::inside::ImageReading::head_at))]
 fn read_head(end: usize, bytes: &[u8]) -> Result<(&[u8], &[u8]), ImageFault>
     ensures { Meets NoMemory (λ read. (read.0.now, read.1.now)) result (head_at end bytes.now) }
 {
@@ -109,7 +109,7 @@ fn read_head(end: usize, bytes: &[u8]) -> Result<(&[u8], &[u8]), ImageFault>
 }
 
 /// How many words were drawn.
-#[tactic(auto, unfolding(crate::specs::inside::Reading::drawn_at))]
+#[tactic(auto, unfolding(crate::specs::inside::ImageReading::drawn_at))]
 fn read_drawn(end: usize, bytes: &[u8]) -> Result<(u64, &[u8]), ImageFault>
     ensures { Meets NoMemory (λ read. (read.0, read.1.now)) result (drawn_at end bytes.now) }
 {
@@ -126,7 +126,7 @@ fn read_drawn(end: usize, bytes: &[u8]) -> Result<(u64, &[u8]), ImageFault>
 }
 
 /// The turns of a key.
-#[tactic(auto, unfolding(crate::specs::inside::Reading::budget_at))]
+#[tactic(auto, unfolding(crate::specs::inside::ImageReading::budget_at))]
 fn read_budget(end: usize, bytes: &[u8]) -> Result<(u32, &[u8]), ImageFault>
     ensures { Meets NoMemory (λ read. (read.0, read.1.now)) result (budget_at end bytes.now) }
 {

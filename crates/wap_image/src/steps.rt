@@ -2,7 +2,7 @@
 ghost use Rattle.std.specs.Prelude.{◌≡◌, ◌-◌, length, IfOk};
 ghost use Rattle.wap_base.specs.Outcome.{Meets};
 ghost use Rattle.wap_image.specs.declared.context_parts.fault.ImageFault.TheVariants.{NoMemory};
-ghost use Rattle.wap_image.specs.inside.Steps.{byte_at, taken_at, number_at};
+ghost use Rattle.wap_image.specs.inside.ByteReading.{byte_at, taken_at, number_at};
 
 use crate::context_parts::ImageFault;
 use wap_base::{ReadFault, read_mb};
@@ -41,7 +41,7 @@ pub(crate) fn take_bytes(
 }
 
 /// A number of several bytes.
-#[tactic(auto, unfolding(crate::specs::inside::Steps::number_at))]
+#[tactic(auto, unfolding(crate::specs::inside::ByteReading::number_at))]
 pub(crate) fn number(end: usize, bytes: &[u8]) -> Result<(u32, &[u8]), ImageFault>
     ensures { Meets NoMemory (λ read. (read.0, read.1.now)) result (number_at end bytes.now) }
 {

@@ -1,8 +1,8 @@
 //! Texts after the number of their bytes.
 ghost use Rattle.wap_base.specs.Outcome.{Meets};
 ghost use Rattle.wap_image.specs.declared.context_parts.fault.ImageFault.TheVariants.{NoMemory};
-ghost use Rattle.wap_image.specs.inside.Steps.{number_at};
-ghost use Rattle.wap_image.specs.inside.Reading.{sized_at, text_at, value_length_at};
+ghost use Rattle.wap_image.specs.inside.ByteReading.{number_at};
+ghost use Rattle.wap_image.specs.inside.ImageReading.{sized_at, text_at, value_length_at};
 
 use crate::context_parts::ImageFault;
 use crate::steps::{number, place, take_bytes};
@@ -11,7 +11,7 @@ use wap_base::{Charset, Text};
 use wap_vars::TEXT_LIMIT;
 
 /// A text after the number of its bytes.
-#[tactic(auto, unfolding(crate::specs::inside::Reading::text_at, crate::specs::inside::Reading::sized_at))]
+#[tactic(auto, unfolding(crate::specs::inside::ImageReading::text_at, crate::specs::inside::ImageReading::sized_at))]
 pub(crate) fn read_text(
     alloc: Global,
     end: usize,
@@ -30,7 +30,7 @@ pub(crate) fn read_text(
 }
 
 /// The text of a variable, after the number of its bytes.
-#[tactic(auto, unfolding(crate::specs::inside::Reading::text_at, crate::specs::inside::Reading::sized_at))]
+#[tactic(auto, unfolding(crate::specs::inside::ImageReading::text_at, crate::specs::inside::ImageReading::sized_at))]
 pub(crate) fn read_value(
     alloc: Global,
     end: usize,
@@ -49,7 +49,7 @@ pub(crate) fn read_value(
 }
 
 /// The number of the bytes of a variable's text.
-#[tactic(auto, unfolding(crate::specs::inside::Reading::value_length_at))]
+#[tactic(auto, unfolding(crate::specs::inside::ImageReading::value_length_at))]
 fn value_length(end: usize, bytes: &[u8]) -> Result<(u32, &[u8]), ImageFault>
     ensures { Meets NoMemory (λ read. (read.0, read.1.now)) result (value_length_at end bytes.now) }
 {

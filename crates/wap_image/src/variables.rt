@@ -2,9 +2,9 @@
 ghost use Rattle.std.specs.Prelude.{[]};
 ghost use Rattle.wap_base.specs.Outcome.{Meets};
 ghost use Rattle.wap_image.specs.declared.context_parts.fault.ImageFault.TheVariants.{NoMemory};
-ghost use Rattle.wap_image.specs.inside.Steps.{many};
-ghost use Rattle.wap_image.specs.inside.Reading.{name_at, variable_at, variable_count_at};
-ghost use Rattle.wap_image.specs.inside.Reading.{variables_at};
+ghost use Rattle.wap_image.specs.inside.ByteReading.{many};
+ghost use Rattle.wap_image.specs.inside.ImageReading.{name_at, variable_at, variable_count_at};
+ghost use Rattle.wap_image.specs.inside.ImageReading.{variables_at};
 
 use crate::context_parts::ImageFault;
 use crate::items::is_next_name;
@@ -15,7 +15,7 @@ use wap_base::{Rows, Text};
 use wap_vars::VAR_LIMIT;
 
 /// The variables, after their number.
-#[tactic(auto, unfolding(crate::specs::inside::Reading::variables_at))]
+#[tactic(auto, unfolding(crate::specs::inside::ImageReading::variables_at))]
 pub(crate) fn read_variables(
     alloc: Global,
     end: usize,
@@ -27,7 +27,7 @@ pub(crate) fn read_variables(
     read_row(alloc, count, end, rest)
 }
 
-#[tactic(auto, unfolding(crate::specs::inside::Reading::variable_count_at))]
+#[tactic(auto, unfolding(crate::specs::inside::ImageReading::variable_count_at))]
 fn read_count(end: usize, bytes: &[u8]) -> Result<(u32, &[u8]), ImageFault>
     ensures { Meets NoMemory (λ read. (read.0, read.1.now)) result
         (variable_count_at end bytes.now) }
@@ -62,7 +62,7 @@ fn read_row(
 }
 
 /// A variable after these: its name, and its text.
-#[tactic(auto, unfolding(crate::specs::inside::Reading::variable_at))]
+#[tactic(auto, unfolding(crate::specs::inside::ImageReading::variable_at))]
 fn read_variable<'a>(
     alloc: Global,
     before: &[(Text, Text)],
@@ -78,7 +78,7 @@ fn read_variable<'a>(
 }
 
 /// The name of a variable after these.
-#[tactic(auto, unfolding(crate::specs::inside::Reading::name_at))]
+#[tactic(auto, unfolding(crate::specs::inside::ImageReading::name_at))]
 fn read_name<'a>(
     alloc: Global,
     before: &[(Text, Text)],

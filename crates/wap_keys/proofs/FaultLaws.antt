@@ -7,7 +7,7 @@ use Rattle.wap_keys.specs.declared.ending.Ending.{Ending}
 use Rattle.wap_keys.specs.declared.ending.Ending.TheVariants.{End, BadKey, TooManyKeys, ReadFault}
 use Rattle.wap_keys.specs.declared.ending.Next.{Next}
 use Rattle.wap_keys.specs.declared.ending.Next.TheVariants as next
-use Rattle.wap_keys.specs.Reading.{CountsFaults}
+use Rattle.wap_keys.specs.KeyReaders.{CountsFaults}
 
 -- it didn't where a key was given
 pub key_steady : (result : Result Next NoMemory) (key : Key) (before after : ℕ)

@@ -14,7 +14,7 @@ use Rattle.wap_keys.specs.declared.line.Said.{Said}
 use Rattle.wap_keys.specs.declared.ending.Ending.{Ending}
 use Rattle.wap_keys.specs.declared.ending.Ending.TheVariants.{BadKey}
 use Rattle.wap_keys.specs.Lines.{lines_of, keys_from, key_before, without_return, content_key}
-use Rattle.wap_keys.specs.Reading.{Reading, said_yet}
+use Rattle.wap_keys.specs.KeyReaders.{Reading, said_yet}
 use Rattle.wap_keys.specs.Prefixes.{is_unended, TakesPrefix}
 use Rattle.wap_keys.specs.inside.Taking.{said_of, Advances, TakesSaid}
 use Rattle.wap_keys.proofs.LineLaws.{line_before, too_long, content_wants_none}

@@ -18,8 +18,8 @@ use Rattle.wap_keys.specs.declared.ending.Ending.TheVariants.{End, TooManyKeys, 
 use Rattle.wap_keys.specs.Lines.{Keys, is_end, lines_of, keys_from, keys_at, keys_of}
 use Rattle.wap_keys.specs.Read.{Takes, AtMostOnce, rose, ending_after, AreFirst, IsPrompt, HasGiven}
 use Rattle.wap_keys.specs.Read.{keys_among}
-use Rattle.wap_keys.specs.Reading.{Reading, keys_then, said_yet, said_then, ends_known, HasRead}
-use Rattle.wap_keys.specs.Reading.{GivesUp}
+use Rattle.wap_keys.specs.KeyReaders.{Reading, keys_then, said_yet, said_then, ends_known, HasRead}
+use Rattle.wap_keys.specs.KeyReaders.{GivesUp}
 use Rattle.wap_keys.specs.Prefixes.{is_unended}
 use Rattle.wap_keys.specs.inside.Taking.{LosesPiece}
 use Rattle.wap_keys.proofs.LineLaws.{cut_line}

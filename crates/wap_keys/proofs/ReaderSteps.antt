@@ -22,8 +22,8 @@ use Rattle.wap_keys.specs.declared.line.Said.TheVariants as said
 use Rattle.wap_keys.specs.declared.reader.Taken.TheVariants as taken
 use Rattle.wap_keys.specs.Lines.{lines_of, content_key, key_before, keys_from, keys_at}
 use Rattle.wap_keys.specs.Read.{GivesEnd, HasGiven, IsRead, ReadsTo}
-use Rattle.wap_keys.specs.Reading.{Reading, keys_then, said_yet, HasRead}
-use Rattle.wap_keys.specs.Reading.{AnswersAt, Answers, GivesUp, CountsFaults, Falls, room}
+use Rattle.wap_keys.specs.KeyReaders.{Reading, keys_then, said_yet, HasRead}
+use Rattle.wap_keys.specs.KeyReaders.{AnswersAt, Answers, GivesUp, CountsFaults, Falls, room}
 use Rattle.wap_keys.specs.inside.Taking.{said_of, TakesSaid, TakesLine, ReadsPiece, ReadsEnd}
 use Rattle.wap_keys.specs.inside.Taking.{ReadsPast, FailsToRead, last_next}
 use Rattle.wap_keys.proofs.LineLaws.{last_line_says, content_wants_none}

@@ -5,7 +5,7 @@ pub mod Spelling
 pub mod Lines
 pub mod Prefixes
 pub mod Read
-pub mod Reading
+pub mod KeyReaders
 pub mod inside
 pub mod lists
 pub mod words

@@ -1,4 +1,4 @@
-pub mod Reading
-pub mod Words
+pub mod Arguments
+pub mod Commands
 pub mod Ranges
 pub mod inside

@@ -3,7 +3,7 @@ ghost use Rattle.std.specs.Prelude.{◌≡◌, ◌<◌, ◌≤◌, [], length, t
 ghost use Rattle.wap_devices.specs.Sources.{SourceSeen};
 ghost use Rattle.wap_keys.specs.declared.limits.TheConstants.{LINE_LIMIT};
 ghost use Rattle.wap_keys.specs.Lines.{content_key};
-ghost use Rattle.wap_keys.specs.Reading.{HasRead, Answers, GivesUp, Falls, CountsFaults};
+ghost use Rattle.wap_keys.specs.KeyReaders.{HasRead, Answers, GivesUp, Falls, CountsFaults};
 ghost use Rattle.wap_keys.specs.Prefixes.{is_unended};
 ghost use Rattle.wap_keys.specs.inside.Taking.{said_of, last_next, TakesLine};
 ghost use Rattle.wap_keys.specs.inside.Taking.{ReadsPrefix, ReadsMore, LosesPiece};
@@ -56,7 +56,7 @@ pub struct Reader {
 impl Model for Reader {
     ghost use Rattle.std.specs.Prelude.{drop, length, true, ◌≡◌, ◌≤◌, ◌+◌, ◌-◌, ◌++◌};
     ghost use Rattle.wap_keys.specs.declared.limits.TheConstants.{KEYS_LIMIT, LINE_LIMIT};
-    ghost use Rattle.wap_keys.specs.Reading.{Reading};
+    ghost use Rattle.wap_keys.specs.KeyReaders.{Reading};
     ghost use Rattle.wap_keys.specs.Prefixes.{is_unended};
 
     ghost Value = { Reading };

@@ -10,7 +10,7 @@ use Rattle.std.proofs.lemmas.List.{drop_more, take_at}
 use Rattle.std.proofs.lemmas.Str.{chars-nil, chars-IsAscii, IsAscii-append, IsUtf8-drop}
 use Rattle.std.proofs.lemmas.Str.{IsUtf8-from_ascii, IsCharBoundary-at_seam}
 use Rattle.std.proofs.lemmas.Str.Ascii.{IsAscii-cons, IsAscii-nil}
-use Rattle.wap_layout.specs.Words.{words_of, unless_empty}
+use Rattle.wap_layout.specs.Blanks.{words_of, unless_empty}
 use Rattle.wap_layout.specs.Calculation.{fill, filled}
 use Rattle.wap_layout.specs.inside.Slices.{IsCutAtBlank, IsPlainWord, IsFirstLine, ends_word}
 use Rattle.wap_layout.specs.inside.Slices.{fill_text}

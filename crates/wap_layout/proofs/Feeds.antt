@@ -9,7 +9,7 @@ use Rattle.std.proofs.lemmas.List.{take-append-drop, drop_more}
 use Rattle.std.proofs.lemmas.List.Quantifiers.{position-Some}
 use Rattle.std.proofs.lemmas.List.Sums.{prefix_len_passes}
 use Rattle.std.proofs.lemmas.Str.{IsCharBoundary-before_ascii, IsCharBoundary-after_ascii}
-use Rattle.wap_layout.specs.Words.{is_line_feed}
+use Rattle.wap_layout.specs.Blanks.{is_line_feed}
 use Rattle.wap_layout.specs.inside.Slices.{IsCutAtFeed}
 use Rattle.wap_layout.proofs.Slices.{feed_cut, no_feed}
 use Rattle.wap_layout.proofs.Plain.{lt_true, not_true}

@@ -7,7 +7,7 @@ use Rattle.std.specs.List.{flat_map}
 use Rattle.std.proofs.lemmas.Bool.{cases_lt}
 use Rattle.std.proofs.lemmas.Bool.Decides.{nat_tests}
 use Rattle.std.proofs.lemmas.List.{length-append, length-drop, length-take}
-use Rattle.wap_layout.specs.Words.{joined, unless_empty}
+use Rattle.wap_layout.specs.Blanks.{joined, unless_empty}
 use Rattle.wap_layout.specs.Layout.{IsFilled, done, line, cut}
 use Rattle.wap_layout.specs.Calculation.{cut_word, has_room, fill, filled}
 use Rattle.wap_layout.proofs.Cutting.{cut_word-short, cut_word-long}

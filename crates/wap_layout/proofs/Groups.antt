@@ -5,7 +5,7 @@ use Rattle.std.specs.List.{concat, flat_map}
 use Rattle.std.proofs.lemmas.Bool.{cases_lt}
 use Rattle.std.proofs.lemmas.List.{append-nil, length-append, length-drop, take-append-drop}
 use Rattle.std.proofs.lemmas.List.Concat.{flat_map-append}
-use Rattle.wap_layout.specs.Words.{joined}
+use Rattle.wap_layout.specs.Blanks.{joined}
 use Rattle.wap_layout.specs.Layout.{IsFilled, done, line, cut}
 use Rattle.wap_layout.specs.Calculation.{cut_word, HoldsInOrder}
 use Rattle.wap_layout.proofs.Cutting.{cut_word-short, cut_word-long}

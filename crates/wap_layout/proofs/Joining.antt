@@ -1,7 +1,7 @@
 -- Words on one line, as far as they were joined.
 use Rattle.std.proofs.Common.{◌≡◌, ℕ, ◌≤◌, List, [], ◌∷◌, ◌++◌, length, refl}
 use Rattle.std.proofs.Common.{sym, ap, ◌∙◌, append_assoc, arith}
-use Rattle.wap_layout.specs.Words.{joined}
+use Rattle.wap_layout.specs.Blanks.{joined}
 
 -- one more word after others
 pub joined-push : (word : List ℕ) (words : List (List ℕ)) (last : List ℕ)

@@ -7,7 +7,7 @@ use Rattle.std.proofs.lemmas.List.Elements.{All-nil, All-cons, All-head, All-tai
 use Rattle.wap_layout.specs.declared.flow.Flow.{Flow}
 use Rattle.wap_layout.specs.declared.flow.Mode.{Mode}
 use Rattle.wap_layout.specs.declared.flow.Mode.TheVariants.{Wrapped, Unwrapped, Preformatted}
-use Rattle.wap_layout.specs.Words.{is_blank, words_of}
+use Rattle.wap_layout.specs.Blanks.{is_blank, words_of}
 use Rattle.wap_layout.specs.Pieces.{Piece, pieces_of}
 use Rattle.wap_layout.specs.Layout.{IsLaid, AreLaid, closed}
 use Rattle.wap_layout.specs.Calculation.{laid, piece_lines, lines_of}

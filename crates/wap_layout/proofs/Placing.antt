@@ -3,7 +3,7 @@ use Rattle.std.proofs.Common.{◌≡◌, ℕ, ◌≤◌, List, [], ◌∷◌, �
 use Rattle.std.proofs.Common.{sym, ap, ◌∙◌, append_assoc, arith}
 use Rattle.std.specs.List.{flat_map}
 use Rattle.std.proofs.lemmas.List.{append-nil}
-use Rattle.wap_layout.specs.Words.{unless_empty}
+use Rattle.wap_layout.specs.Blanks.{unless_empty}
 use Rattle.wap_layout.specs.Calculation.{cut_word, fill}
 use Rattle.wap_layout.proofs.Cutting.{cut_word-short, cut_word-at_width}
 use Rattle.wap_layout.proofs.Filling.{fill-first, fill-before}

@@ -18,7 +18,7 @@ use Rattle.std.proofs.lemmas.Str.{encode_ascii, encodes-chars, length-encode, le
 use Rattle.std.proofs.lemmas.Str.{len_utf8_bounds}
 use Rattle.std.proofs.lemmas.Str.{IsCharBoundary-before_ascii, IsCharBoundary-after_ascii}
 use Rattle.std.proofs.lemmas.Str.Ascii.{IsAscii-cons, IsAscii-nil}
-use Rattle.wap_layout.specs.Words.{is_blank, words_of, unless_empty}
+use Rattle.wap_layout.specs.Blanks.{is_blank, words_of, unless_empty}
 use Rattle.wap_layout.specs.Calculation.{cut_word, fill}
 use Rattle.wap_layout.specs.inside.Slices.{IsCutAtBlank, ends_word}
 use Rattle.wap_layout.proofs.Slices.{cut_at, words_cut, words_none}

@@ -22,7 +22,7 @@ use Rattle.std.proofs.lemmas.Str.Pattern.{drop_at_char}
 use Rattle.wap_base.proofs.TextLaws.{nil-from_chars}
 use Rattle.wap_base.proofs.Splits.{HasFirst, HasFirst-split, split-append, split-none}
 use Rattle.wap_layout.specs.declared.flow.Mode.TheVariants.{Preformatted}
-use Rattle.wap_layout.specs.Words.{is_blank, is_line_feed, words_of, unless_empty}
+use Rattle.wap_layout.specs.Blanks.{is_blank, is_line_feed, words_of, unless_empty}
 use Rattle.wap_layout.specs.Pieces.{Piece, kept}
 use Rattle.wap_layout.specs.Calculation.{piece_lines}
 use Rattle.wap_layout.specs.inside.Slices.{IsCutAtBlank, IsCutAtFeed}

@@ -4,7 +4,7 @@ use Rattle.std.proofs.Common.{sym, ap, ◌∙◌, ◌⊎◌, inl, inr, subst, ar
 use Rattle.std.specs.Prelude.{All}
 use Rattle.std.proofs.lemmas.List.{append-nil, length-append, length-take}
 use Rattle.std.proofs.lemmas.List.Elements.{All-nil, All-cons}
-use Rattle.wap_layout.specs.Words.{joined}
+use Rattle.wap_layout.specs.Blanks.{joined}
 use Rattle.wap_layout.specs.Layout.{AllFit, IsLongestFront, IsFilled, done, line, cut}
 
 -- two ways to divide a list

@@ -7,7 +7,7 @@ use Rattle.std.specs.Str.{chars, IsUtf8}
 use Rattle.std.proofs.lemmas.List.{append-nil, length-append}
 use Rattle.std.proofs.lemmas.Str.{length-le-encodes, encodes-chars}
 use Rattle.wap_base.proofs.Splits.{HasFirst, HasFirst-split}
-use Rattle.wap_layout.specs.Words.{is_blank, words_of, joined, unless_empty}
+use Rattle.wap_layout.specs.Blanks.{is_blank, words_of, joined, unless_empty}
 use Rattle.wap_layout.specs.Layout.{IsFilled, done, line}
 use Rattle.wap_layout.specs.Calculation.{filled}
 use Rattle.wap_layout.proofs.Splitting.{is_word, parted}

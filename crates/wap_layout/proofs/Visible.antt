@@ -10,7 +10,7 @@ use Rattle.wap_layout.specs.declared.flow.Flow.{Flow}
 use Rattle.wap_layout.specs.declared.flow.Flow.TheVariants.{Words, Hard, Soft, Wrap, NoWrap, Pre}
 use Rattle.wap_layout.specs.declared.flow.Mode.{Mode}
 use Rattle.wap_layout.specs.declared.flow.Mode.TheVariants.{Wrapped, Unwrapped, Preformatted}
-use Rattle.wap_layout.specs.Words.{is_blank, is_line_feed, words_of, joined, unless_empty, visible}
+use Rattle.wap_layout.specs.Blanks.{is_blank, is_line_feed, words_of, joined, unless_empty, visible}
 use Rattle.wap_layout.specs.Pieces.{Piece, kept, ended, pieces, pieces_of, text_of}
 use Rattle.wap_layout.specs.Layout.{IsFilled, done, line, cut, IsLaid, AreLaid, closed}
 use Rattle.wap_layout.specs.Calculation.{lines_of}

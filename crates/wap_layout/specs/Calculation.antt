@@ -6,7 +6,7 @@ use Rattle.wap_base.specs.Ascii.{space}
 use Rattle.wap_layout.specs.declared.flow.Flow.{Flow}
 use Rattle.wap_layout.specs.declared.flow.Mode.{Mode}
 use Rattle.wap_layout.specs.declared.flow.Mode.TheVariants.{Wrapped, Unwrapped, Preformatted}
-use Rattle.wap_layout.specs.Words.{words_of, joined, unless_empty}
+use Rattle.wap_layout.specs.Blanks.{words_of, joined, unless_empty}
 use Rattle.wap_layout.specs.Pieces.{Piece, pieces_of}
 use Rattle.wap_layout.specs.Layout.{closed}
 

@@ -4,7 +4,7 @@ use Rattle.std.specs.Prelude.{◌≡◌, ◌≢◌, ℕ, ◌≤◌, ◌<◌, Boo
 use Rattle.std.specs.Prelude.{◌∷◌, ◌++◌, length, take, drop, All}
 use Rattle.wap_layout.specs.declared.flow.Mode.{Mode}
 use Rattle.wap_layout.specs.declared.flow.Mode.TheVariants.{Wrapped, Unwrapped, Preformatted}
-use Rattle.wap_layout.specs.Words.{words_of, joined, unless_empty}
+use Rattle.wap_layout.specs.Blanks.{words_of, joined, unless_empty}
 use Rattle.wap_layout.specs.Pieces.{Piece}
 
 -- The prefix is the longest of the words that fits on a line: with the next word it doesn't fit.

@@ -1,4 +1,4 @@
-pub mod Words
+pub mod Blanks
 pub mod Pieces
 pub mod Layout
 pub mod Calculation

@@ -5,7 +5,7 @@ use Rattle.wap_layout.specs.declared.flow.Flow.{Flow}
 use Rattle.wap_layout.specs.declared.flow.Flow.TheVariants.{Words, Hard, Soft, Wrap, NoWrap, Pre}
 use Rattle.wap_layout.specs.declared.flow.Mode.{Mode}
 use Rattle.wap_layout.specs.declared.flow.Mode.TheVariants.{Wrapped, Unwrapped, Preformatted}
-use Rattle.wap_layout.specs.Words.{is_line_feed}
+use Rattle.wap_layout.specs.Blanks.{is_line_feed}
 
 -- a text between two breaks, its mode, and whether a hard break ends it
 pub record Piece : Type 0 where

@@ -2,7 +2,7 @@
 ghost use Rattle.std.specs.Prelude.{◌≡◌, ◌≤◌, ◌<◌, ◌++◌, List, ℕ, IfOk, OnOk, [], length};
 ghost use Rattle.std.specs.List.{flat_map};
 ghost use Rattle.std.specs.Str.{chars, IsAscii, IsUtf8};
-ghost use Rattle.wap_layout.specs.Words.{words_of, unless_empty};
+ghost use Rattle.wap_layout.specs.Blanks.{words_of, unless_empty};
 ghost use Rattle.wap_layout.specs.Calculation.{cut_word, fill, filled, has_room};
 ghost use Rattle.wap_layout.specs.inside.Slices.{fill_text};
 

@@ -2,7 +2,7 @@
 ghost use Rattle.std.specs.Prelude.{◌≡◌, ◌≤◌, List, ℕ, All, IfOk};
 ghost use Rattle.std.specs.List.{concat};
 ghost use Rattle.wap_layout.specs.declared.flow.Mode.TheVariants.{Wrapped};
-ghost use Rattle.wap_layout.specs.Words.{visible};
+ghost use Rattle.wap_layout.specs.Blanks.{visible};
 ghost use Rattle.wap_layout.specs.Pieces.{pieces_of, text_of};
 ghost use Rattle.wap_layout.specs.Layout.{AllFit, AreLaid};
 ghost use Rattle.wap_layout.specs.Calculation.{lines_of};

@@ -2,7 +2,7 @@
 ghost use Rattle.std.specs.Prelude.{◌≡◌, ◌≤◌, ◌++◌, OnOk};
 ghost use Rattle.std.specs.List.{flat_map, slice_split};
 ghost use Rattle.std.specs.Str.{chars};
-ghost use Rattle.wap_layout.specs.Words.{is_line_feed};
+ghost use Rattle.wap_layout.specs.Blanks.{is_line_feed};
 ghost use Rattle.wap_layout.specs.Pieces.{kept, ended};
 ghost use Rattle.wap_layout.specs.Layout.{closed};
 ghost use Rattle.wap_layout.specs.Calculation.{laid, piece_lines};

@@ -4,7 +4,7 @@ ghost use Rattle.std.specs.Prelude.{Some, IfSome, false, ⊤};
 ghost use Rattle.std.specs.Bool.{MatchBool};
 ghost use Rattle.std.specs.List.{list_any, position};
 ghost use Rattle.std.specs.Str.{chars, IsAscii};
-ghost use Rattle.wap_layout.specs.Words.{is_blank, is_line_feed, words_of, unless_empty};
+ghost use Rattle.wap_layout.specs.Blanks.{is_blank, is_line_feed, words_of, unless_empty};
 ghost use Rattle.wap_layout.specs.inside.Slices.{IsCutAtBlank, IsCutAtFeed, ends_word};
 
 use crate::buffer::Lines;

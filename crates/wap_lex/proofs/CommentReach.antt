@@ -14,7 +14,7 @@ use Rattle.wap_lex.specs.Characters.{is_in}
 use Rattle.wap_lex.specs.declared.class.Class.TheVariants.{InLine}
 use Rattle.wap_lex.specs.Comments.{is_nothing, ends_block, IsComment, line, block}
 use Rattle.wap_lex.specs.Marks.{marks, is_mark}
-use Rattle.wap_lex.specs.Reading.{more_by, block_len, comment_len, first_len, mark_len}
+use Rattle.wap_lex.specs.Calculation.{more_by, block_len, comment_len, first_len, mark_len}
 use Rattle.wap_lex.proofs.Runs.{run_all, run_over}
 use Rattle.wap_lex.proofs.WordReach.{Reaches, test_within}
 use Rattle.wap_lex.proofs.NumberReach.{more_some, more_from, more_within, kept_len}

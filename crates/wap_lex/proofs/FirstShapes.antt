@@ -12,7 +12,7 @@ use Rattle.wap_lex.specs.declared.shape.Shape.TheVariants as shape
 use Rattle.wap_lex.specs.Marks.{marks}
 use Rattle.wap_lex.specs.Tokens.{IsShape}
 use Rattle.wap_lex.specs.ByFirst.{first_of, shapes_at}
-use Rattle.wap_lex.specs.Reading.{shape_len, shapes, longer, longest_of, longest}
+use Rattle.wap_lex.specs.Calculation.{shape_len, shapes, longer, longest_of, longest}
 use Rattle.wap_lex.proofs.Longest.{reach}
 use Rattle.wap_lex.proofs.Apart.{shape_at, apart}
 

@@ -12,10 +12,10 @@ use Rattle.std.proofs.lemmas.Bool.Decides.{nat_tests}
 use Rattle.std.proofs.lemmas.List.{take_rest}
 use Rattle.std.proofs.lemmas.List.FromFn.{get_or-map-range_with_len}
 use Rattle.wap_base.specs.Texts.{is_same_text}
-use Rattle.wap_lex.specs.Words.{reserved_words}
+use Rattle.wap_lex.specs.ReservedWords.{reserved_words}
 use Rattle.wap_lex.specs.Marks.{marks}
 use Rattle.wap_lex.specs.ByFirst.{tails_of, tail_len}
-use Rattle.wap_lex.specs.Reading.{first_len, mark_len}
+use Rattle.wap_lex.specs.Calculation.{first_len, mark_len}
 use Rattle.wap_lex.proofs.CommentReach.{any_all}
 
 abbrev pub begins_with : ℕ → List ℕ → Bool

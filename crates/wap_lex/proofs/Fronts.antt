@@ -20,9 +20,9 @@ use Rattle.wap_lex.specs.Strings.{AreItems}
 use Rattle.wap_lex.specs.Marks.{marks, is_mark}
 use Rattle.wap_lex.specs.Tokens.{IsShape, IsOpenComment, IsPiece, IsInRange, BeginsNoEscape}
 use Rattle.wap_lex.specs.Tokens.{Stops, character, string, escape, comment, integer}
-use Rattle.wap_lex.specs.Reading.{more_by, escape_len, item_len, items_len, closed_len}
-use Rattle.wap_lex.specs.Reading.{string_len, block_len, comment_len, is_open_comment}
-use Rattle.wap_lex.specs.Reading.{longest, string_fault, bad_front, in_range, piece_at}
+use Rattle.wap_lex.specs.Calculation.{more_by, escape_len, item_len, items_len, closed_len}
+use Rattle.wap_lex.specs.Calculation.{string_len, block_len, comment_len, is_open_comment}
+use Rattle.wap_lex.specs.Calculation.{longest, string_fault, bad_front, in_range, piece_at}
 use Rattle.wap_lex.proofs.NumberReach.{more_none, more_some}
 use Rattle.wap_lex.proofs.StringReach.{escape_takes, escape_again, escape_some}
 use Rattle.wap_lex.proofs.StringReach.{items_within, items_read, items_again, strings}

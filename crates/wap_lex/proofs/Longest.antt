@@ -7,7 +7,7 @@ use Rattle.std.proofs.lemmas.List.{take_at, take-append-drop}
 use Rattle.wap_lex.specs.declared.shape.Shape.{Shape}
 use Rattle.wap_lex.specs.declared.shape.Shape.TheVariants as shape
 use Rattle.wap_lex.specs.Tokens.{IsShape}
-use Rattle.wap_lex.specs.Reading.{shape_len, shapes, longer, longest_of, longest}
+use Rattle.wap_lex.specs.Calculation.{shape_len, shapes, longer, longest_of, longest}
 use Rattle.wap_lex.proofs.WordReach.{Reaches, blanks, words}
 use Rattle.wap_lex.proofs.NumberReach.{integers, floats}
 use Rattle.wap_lex.proofs.StringReach.{strings}

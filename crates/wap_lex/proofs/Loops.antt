@@ -12,7 +12,7 @@ use Rattle.wap_lex.specs.Numbers.{with_digit, integer_limit}
 use Rattle.wap_lex.specs.declared.token.Kind.{Kind}
 use Rattle.wap_lex.specs.declared.shape.Shape.{Shape}
 use Rattle.wap_lex.specs.Tokens.{kind_of, token_before}
-use Rattle.wap_lex.specs.Reading.{small, item_len, items_len, piece_at, pieces_at}
+use Rattle.wap_lex.specs.Calculation.{small, item_len, items_len, piece_at, pieces_at}
 use Rattle.std.proofs.lemmas.Bool.{ne_eqb, both_ways, eq-eqb}
 use Rattle.std.proofs.Math.Nat.{mul-le-mul_left}
 

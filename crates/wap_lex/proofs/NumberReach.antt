@@ -14,8 +14,8 @@ use Rattle.wap_lex.specs.Characters.{is_octal_digit}
 use Rattle.wap_lex.specs.Numbers.{AreDigits, IsInteger, decimal, octal, hexadecimal}
 use Rattle.wap_lex.specs.Numbers.{IsExponent, plain, signed, IsFloat, pointed, scaled}
 use Rattle.wap_lex.specs.Numbers.{both, is_x, is_e, is_sign}
-use Rattle.wap_lex.specs.Reading.{more_by, hexadecimal_len, octal_or, integer_len, signed_len}
-use Rattle.wap_lex.specs.Reading.{exponent_len, fraction_len, scaled_len, float_behind, float_len}
+use Rattle.wap_lex.specs.Calculation.{more_by, hexadecimal_len, octal_or, integer_len, signed_len}
+use Rattle.wap_lex.specs.Calculation.{exponent_len, fraction_len, scaled_len, float_behind, float_len}
 use Rattle.wap_lex.proofs.Runs.{run_all, run_over, run_length, run_first, run_more, run_until}
 use Rattle.std.proofs.lemmas.List.Sums.{prefix_len-le-length}
 use Rattle.wap_lex.proofs.WordReach.{Reaches, test_within}

@@ -15,7 +15,7 @@ use Rattle.wap_lex.specs.declared.fault.LexFault.{LexFault}
 use Rattle.wap_lex.specs.declared.fault.LexFault.TheVariants.{NoMemory, NotText}
 use Rattle.wap_lex.specs.Tokens.{IsPiece, IsInRange, kind_of, token_before, Lexes, ends, piece}
 use Rattle.wap_lex.specs.Tokens.{AreTokens, StopsIn, here, behind, IsRefused, no_text, stops}
-use Rattle.wap_lex.specs.Reading.{piece_at, pieces_at}
+use Rattle.wap_lex.specs.Calculation.{piece_at, pieces_at}
 use Rattle.wap_lex.proofs.Loops.{goes_on, pieces_step}
 use Rattle.wap_lex.proofs.Longest.{reach}
 use Rattle.wap_lex.proofs.Fronts.{piece_ok, piece_again, piece_err, piece_stops}

@@ -18,8 +18,8 @@ use Rattle.wap_lex.specs.Characters.{is_octal_digit, is_line_end, is_quote}
 use Rattle.wap_lex.specs.Strings.{is_simple, is_surrogate, IsEscape, simple, octal}
 use Rattle.wap_lex.specs.Strings.{hexadecimal, unicode, IsItem, escape, plain}
 use Rattle.wap_lex.specs.Strings.{AreItems, none, more, IsString, quoted}
-use Rattle.wap_lex.specs.Reading.{more_by, unicode_len, escape_len, item_len}
-use Rattle.wap_lex.specs.Reading.{items_len, closed_len, string_len}
+use Rattle.wap_lex.specs.Calculation.{more_by, unicode_len, escape_len, item_len}
+use Rattle.wap_lex.specs.Calculation.{items_len, closed_len, string_len}
 use Rattle.wap_lex.proofs.Runs.{run_over, run_first, run_more}
 use Rattle.wap_lex.proofs.WordReach.{Reaches, test_within}
 use Rattle.wap_lex.proofs.Loops.{items_end}

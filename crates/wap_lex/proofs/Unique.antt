@@ -4,7 +4,7 @@ use Rattle.wap_base.proofs.Choices.{ok_same}
 use Rattle.wap_lex.specs.declared.token.Token.{Token}
 use Rattle.wap_lex.specs.declared.fault.LexFault.{LexFault}
 use Rattle.wap_lex.specs.Tokens.{AreTokens, IsRefused, no_text, stops}
-use Rattle.wap_lex.specs.Reading.{pieces_at}
+use Rattle.wap_lex.specs.Calculation.{pieces_at}
 use Rattle.wap_lex.proofs.Sources.{read_again, read_stops}
 
 module _ (src : List ℕ) where

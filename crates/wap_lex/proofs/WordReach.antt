@@ -6,7 +6,7 @@ use Rattle.std.proofs.lemmas.Bool.{and_parts, and_from, cond-true, cond-false}
 use Rattle.std.proofs.lemmas.List.Sums.{prefix_len-le-length}
 use Rattle.wap_base.specs.Names.{begins_name, continues_name, is_name}
 use Rattle.wap_lex.specs.Characters.{is_white}
-use Rattle.wap_lex.specs.Reading.{word_len}
+use Rattle.wap_lex.specs.Calculation.{word_len}
 use Rattle.wap_lex.proofs.Runs.{run_all, run_over, run_length}
 
 -- what is found has the shape, and nothing of the shape reaches farther

@@ -1,9 +1,9 @@
 pub mod Characters
-pub mod Words
+pub mod ReservedWords
 pub mod Numbers
 pub mod Strings
 pub mod Comments
 pub mod Marks
 pub mod ByFirst
 pub mod Tokens
-pub mod Reading
+pub mod Calculation

@@ -15,7 +15,7 @@ use Rattle.wap_lex.specs.declared.fault.LexFault.{LexFault}
 use Rattle.wap_lex.specs.declared.fault.LexFault.TheVariants.{NotText, BadChar, OpenString}
 use Rattle.wap_lex.specs.declared.fault.LexFault.TheVariants.{OpenComment, BadEscape, IntRange}
 use Rattle.wap_lex.specs.Characters.{is_white, is_quote, is_line_end}
-use Rattle.wap_lex.specs.Words.{is_reserved}
+use Rattle.wap_lex.specs.ReservedWords.{is_reserved}
 use Rattle.wap_lex.specs.Numbers.{IsInteger, IsFloat, integer_value, integer_limit}
 use Rattle.wap_lex.specs.Strings.{IsEscape, AreItems, IsString}
 use Rattle.wap_lex.specs.Marks.{is_mark}

@@ -1,6 +1,6 @@
 //! Comments (WAP-193, section 6.1.4).
 ghost use Rattle.std.specs.Prelude.{◌≡◌, ◌≤◌, length, false};
-ghost use Rattle.wap_lex.specs.Reading.{comment_len, block_len, is_open_comment};
+ghost use Rattle.wap_lex.specs.Calculation.{comment_len, block_len, is_open_comment};
 
 use crate::class::{Class, run_len};
 

@@ -6,7 +6,7 @@ ghost use Rattle.wap_lex.specs.declared.token.Token.{Token};
 ghost use Rattle.wap_lex.specs.declared.fault.LexFault.{LexFault};
 ghost use Rattle.wap_lex.specs.declared.fault.LexFault.TheVariants.{NoMemory};
 ghost use Rattle.wap_lex.specs.Tokens.{AreTokens, IsRefused, token_before};
-ghost use Rattle.wap_lex.specs.Reading.{bad_front, piece_at, pieces_at};
+ghost use Rattle.wap_lex.specs.Calculation.{bad_front, piece_at, pieces_at};
 
 use crate::comments::is_open_comment;
 use crate::numbers::integer_of;
@@ -77,7 +77,7 @@ fn add_token(
 }
 
 /// What bytes at a place begin with, and how many bytes that has.
-#[tactic(auto, unfolding(crate::specs::Reading::piece_at))]
+#[tactic(auto, unfolding(crate::specs::Calculation::piece_at))]
 fn piece(at: usize, bytes: &[u8]) -> Result<(Shape, usize), LexFault>
     requires { at + length bytes.now < 2 ^ 31 }
     ensures piece { Meets NoMemory (λ found. found) result (piece_at at bytes.now) }

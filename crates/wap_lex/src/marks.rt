@@ -1,6 +1,6 @@
 //! Marks: operators, separators and brackets (WAP-193, section 7.2).
 ghost use Rattle.std.specs.Prelude.{◌≡◌, ◌+◌, ◌≤◌, length};
-ghost use Rattle.wap_lex.specs.Reading.{mark_len};
+ghost use Rattle.wap_lex.specs.Calculation.{mark_len};
 ghost use Rattle.wap_lex.specs.ByFirst.{tails_of, tail_len, after_assigned, after_doubled};
 ghost use Rattle.wap_lex.specs.ByFirst.{after_less, after_greater, after_d};
 

@@ -1,8 +1,8 @@
 //! Numbers (WAP-193, sections 6.1.5.1 and 6.1.5.2).
 ghost use Rattle.std.specs.Prelude.{◌≡◌, ◌≤◌, length, Some, None};
 ghost use Rattle.wap_lex.specs.Numbers.{integer_value, numeral, digit_value};
-ghost use Rattle.wap_lex.specs.Reading.{integer_len, hexadecimal_len, float_len};
-ghost use Rattle.wap_lex.specs.Reading.{exponent_len, signed_len, small};
+ghost use Rattle.wap_lex.specs.Calculation.{integer_len, hexadecimal_len, float_len};
+ghost use Rattle.wap_lex.specs.Calculation.{exponent_len, signed_len, small};
 
 use crate::class::{Class, run_len};
 

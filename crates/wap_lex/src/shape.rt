@@ -1,6 +1,6 @@
 //! The shapes of what stands in a source, and the longest that begins at a place.
 ghost use Rattle.std.specs.Prelude.{◌≡◌, ◌≤◌, length};
-ghost use Rattle.wap_lex.specs.Reading.{shape_len, longer, longest, longest_of};
+ghost use Rattle.wap_lex.specs.Calculation.{shape_len, longer, longest, longest_of};
 ghost use Rattle.wap_lex.specs.ByFirst.{shapes_at};
 ghost use Rattle.wap_lex.specs.declared.shape.Shape.TheVariants.{Blank};
 ghost use Rattle.wap_lex.specs.Tokens.{kind_of};

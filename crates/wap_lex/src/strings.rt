@@ -1,6 +1,6 @@
 //! Strings (WAP-193, section 6.1.5.3).
 ghost use Rattle.std.specs.Prelude.{◌≡◌, ◌+◌, ◌≤◌, length};
-ghost use Rattle.wap_lex.specs.Reading.{item_len, escape_len, unicode_len, items_len, string_len};
+ghost use Rattle.wap_lex.specs.Calculation.{item_len, escape_len, unicode_len, items_len, string_len};
 
 use crate::class::{Class, run_len};
 

@@ -2,8 +2,8 @@
 ghost use Rattle.std.specs.Prelude.{◌≡◌, ◌<◌, ◌≤◌, length, map, get_or, []};
 ghost use Rattle.std.specs.List.{list_any};
 ghost use Rattle.wap_base.specs.Texts.{is_same_text};
-ghost use Rattle.wap_lex.specs.Words.{is_reserved};
-ghost use Rattle.wap_lex.specs.Reading.{word_len};
+ghost use Rattle.wap_lex.specs.ReservedWords.{is_reserved};
+ghost use Rattle.wap_lex.specs.Calculation.{word_len};
 ghost use Rattle.wap_lex.specs.ByFirst.{lent};
 
 use crate::class::{Class, run_len};

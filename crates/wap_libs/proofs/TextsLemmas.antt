@@ -2,7 +2,7 @@ pub mod Names
 pub mod Drafts
 pub mod Blanks
 pub mod FormatLaws
-pub mod Reading
+pub mod FormatPieces
 pub mod Parting
 pub mod Occurs
 pub mod Grammar

@@ -7,7 +7,7 @@ use Rattle.std.specs.Result.{result_ok}
 use Rattle.std.specs.Str.{is_utf8}
 use Rattle.wap_base.specs.Ascii.{slash, semicolon}
 use Rattle.wap_url.specs.declared.url.Url.{Url as UrlParts}
-use Rattle.wap_url.specs.Reading.{url_at}
+use Rattle.wap_url.specs.Calculation.{url_at}
 use Rattle.wap_url.specs.Printing.{printed}
 use Rattle.wap_url.specs.Joining.{joined}
 use Rattle.wap_url.specs.Escapes.{escaped, unescaped}

@@ -3,7 +3,7 @@
 //! - `texts`: What the functions of the standard libraries of WMLScript (WAP-194) do with
 //!   characters, and how values become these and come of them.
 //! - `laws`: Laws of the two tables of library functions: of calls, which the code of units has,
-//!   and of the functions themselves.
+//!   and of the functions themselves. It runs nothing.
 #![tactic(auto)]
 
 mod arity;

@@ -4,7 +4,7 @@ ghost use Rattle.std.specs.Fmt.{decimal};
 ghost use Rattle.wap_base.specs.Outcome.{Meets};
 ghost use Rattle.std.specs.Result.{result_ok};
 ghost use Rattle.wap_libs.specs.Elements.{elements};
-ghost use Rattle.wap_url.specs.Reading.{url_at};
+ghost use Rattle.wap_url.specs.Calculation.{url_at};
 ghost use Rattle.wap_libs.specs.Outcome.{kept_within};
 ghost use Rattle.wap_libs.specs.Row.{value_given, values_taken};
 ghost use Rattle.wap_libs.specs.Url.{formula_of_url, url_of, on_url, part_value, parameters};

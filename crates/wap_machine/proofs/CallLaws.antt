@@ -17,8 +17,8 @@ use Rattle.wap_execution.specs.Outcomes.{Setting}
 use Rattle.wap_execution.specs.Running.{returned, library_gave, entered, resumed, finished}
 use Rattle.wap_machine.specs.declared.machine.Step.{Step}
 use Rattle.wap_machine.specs.Hosts.{Gives, AtMost, Grows, Fetches, IsCallable}
-use Rattle.wap_machine.specs.inside.Steps.{rest, Same, calls_from, CanCallFrom, goes_with}
-use Rattle.wap_machine.specs.inside.Steps.{GoesInto, GoesLocally, GoesFound, IsInOrderFor}
+use Rattle.wap_machine.specs.inside.MachineSteps.{rest, Same, calls_from, CanCallFrom, goes_with}
+use Rattle.wap_machine.specs.inside.MachineSteps.{GoesInto, GoesLocally, GoesFound, IsInOrderFor}
 use Rattle.wap_machine.specs.inside.Advances.{gives}
 use Rattle.wap_machine.specs.inside.Efforts.{IsLight}
 use Rattle.wap_execution.proofs.LawsLemmas.RunLaws.{Keeps, Follows, enter_follows}

@@ -19,7 +19,7 @@ use Rattle.wap_execution.specs.Effects.{onward, stuck, stored, with_value, with_
 use Rattle.std.specs.Prelude.{slice_set}
 use Rattle.std.proofs.lemmas.List.{length-set}
 use Rattle.wap_execution.specs.Running.{at_place}
-use Rattle.wap_machine.specs.inside.Parts.{HasConstant}
+use Rattle.wap_machine.specs.inside.InstructionParts.{HasConstant}
 use Rattle.wap_machine.specs.Standing.{Stands, Fits, IsReached}
 
 -- there is room for one more where the frame goes on with it

@@ -27,7 +27,7 @@ use Rattle.wap_machine.specs.inside.Weights.{weight}
 use Rattle.wap_machine.specs.inside.Efforts.{effort, GoesBelow}
 use Rattle.wap_machine.specs.inside.Goings.{GoesOn, HasPassed, Passed}
 use Rattle.wap_machine.specs.inside.Advances.{IsAdvanced}
-use Rattle.wap_machine.specs.inside.Steps.{rest, Same, calls_from}
+use Rattle.wap_machine.specs.inside.MachineSteps.{rest, Same, calls_from}
 use Rattle.wap_machine.proofs.StepLaws.{
   Kept,
   Turned,

@@ -51,9 +51,9 @@ use Rattle.wap_verify.specs.declared.step.Step.{Step}
 use Rattle.wap_verify.specs.declared.step.Way.{Way}
 use Rattle.wap_verify.specs.declared.fault.VerifyFault.{VerifyFault}
 use Rattle.wap_verify.specs.declared.fault.VerifyFault.TheVariants.{LoneShort}
-use Rattle.wap_verify.specs.Steps.{values_taken, operand_fault, step_of, pair}
-use Rattle.wap_verify.specs.Steps.{is_conditional_forward, jump_read, jump_by, pair_at, is_pair}
-use Rattle.wap_verify.specs.Steps.{fine_at, checked, instr_read, step_by, step_at}
+use Rattle.wap_verify.specs.CodePlaces.{values_taken, operand_fault, step_of, pair}
+use Rattle.wap_verify.specs.CodePlaces.{is_conditional_forward, jump_read, jump_by, pair_at, is_pair}
+use Rattle.wap_verify.specs.CodePlaces.{fine_at, checked, instr_read, step_by, step_at}
 use Rattle.wap_verify.specs.Paths.{HasWay, Reaches}
 use Rattle.wap_verify.specs.Sound.{IsVerified}
 use Rattle.wap_verify.specs.Ready.{IsReady}
@@ -93,7 +93,7 @@ use Rattle.wap_machine.specs.declared.next.Next.TheVariants.{Onward, Back, Call}
 use Rattle.wap_machine.specs.declared.next.Next.TheVariants.{Return as Gives, End}
 use Rattle.wap_machine.specs.Seen.{effect_after}
 use Rattle.wap_machine.specs.Doing.{StandsFor, Does, Acts}
-use Rattle.wap_machine.specs.inside.Parts.{IsSmall, IsInstruction, given}
+use Rattle.wap_machine.specs.inside.InstructionParts.{IsSmall, IsInstruction, given}
 use Rattle.wap_machine.specs.Standing.{Stands, CanCall, Onwards, Fits}
 use Rattle.wap_machine.proofs.Rows.{Traits, traits_of, has_traits, is_short}
 use Rattle.wap_machine.proofs.Rows.{operator_takes_both, is_fine, fine_row}

@@ -11,7 +11,7 @@ use Rattle.wap_machine.specs.Hosts.{Grows, GrowsTold, Fetches}
 use Rattle.wap_machine.specs.Stacks.{Stack}
 use Rattle.wap_execution.specs.laws.Settings.{uncounted}
 use Rattle.wap_machine.specs.Runs.{run_of, IsEnd}
-use Rattle.wap_machine.specs.inside.Steps.{rest, Same}
+use Rattle.wap_machine.specs.inside.MachineSteps.{rest, Same}
 use Rattle.wap_machine.proofs.CallLaws.{grows_chained}
 use Rattle.wap_machine.proofs.HostLaws.{grows_still}
 

@@ -26,8 +26,8 @@ use Rattle.wap_machine.specs.Doing.{AreFew, Acts}
 use Rattle.wap_machine.specs.inside.Weights.{weight, heavy}
 use Rattle.wap_machine.specs.inside.Efforts.{effort, GoesBelow, IsLight}
 use Rattle.wap_machine.specs.inside.Advances.{gives, wanted_for, HasStepped, at_end, done}
-use Rattle.wap_machine.specs.inside.Steps.{rest, Same, calls_from, CanCallFrom}
-use Rattle.wap_machine.specs.inside.Steps.{LimitsStay, IsWithoutBudget, Wants}
+use Rattle.wap_machine.specs.inside.MachineSteps.{rest, Same, calls_from, CanCallFrom}
+use Rattle.wap_machine.specs.inside.MachineSteps.{LimitsStay, IsWithoutBudget, Wants}
 use Rattle.wap_execution.proofs.LawsLemmas.FrameLaws.{ends_whole, returns_value, ends_fatally}
 use Rattle.wap_execution.proofs.LawsLemmas.FrameLaws.{goes_onward, back_without, goes_back}
 use Rattle.wap_execution.proofs.LawsLemmas.FrameLaws.{calls_without, makes_call}

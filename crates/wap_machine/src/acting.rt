@@ -7,7 +7,7 @@ ghost use Rattle.wap_execution.specs.Frames.{code_of};
 ghost use Rattle.wap_execution.specs.Effects.{effect_of, onward, back, backward, jumps_at, pair_by};
 ghost use Rattle.wap_execution.specs.declared.action.Action.TheVariants as action;
 ghost use Rattle.wap_machine.specs.Standing.{Fits};
-ghost use Rattle.wap_machine.specs.inside.Parts.{going, giving, going_back, IsDone};
+ghost use Rattle.wap_machine.specs.inside.InstructionParts.{going, giving, going_back, IsDone};
 
 use crate::frame::Frame;
 use crate::next::Next;

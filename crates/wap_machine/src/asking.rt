@@ -6,8 +6,8 @@ ghost use Rattle.wap_machine.specs.Seen.{called_of};
 ghost use Rattle.wap_machine.specs.Doing.{AreFew};
 ghost use Rattle.wap_machine.specs.Hosts.{Fetches, GrowsTold};
 ghost use Rattle.wap_execution.specs.laws.Settings.{uncounted};
-ghost use Rattle.wap_machine.specs.inside.Steps.{rest, Same, called_from};
-ghost use Rattle.wap_machine.specs.inside.Steps.{CanCallFrom, IsInOrderFor};
+ghost use Rattle.wap_machine.specs.inside.MachineSteps.{rest, Same, called_from};
+ghost use Rattle.wap_machine.specs.inside.MachineSteps.{CanCallFrom, IsInOrderFor};
 
 use crate::Callee;
 use crate::calls::{enter_found, enter_local, go_with};

@@ -5,7 +5,7 @@ ghost use Rattle.wap_execution.specs.declared.action.Action.TheVariants as actio
 ghost use Rattle.wap_machine.specs.Seen.{called_of};
 ghost use Rattle.wap_machine.specs.Standing.{Fits};
 ghost use Rattle.wap_machine.specs.Doing.{AreFew};
-ghost use Rattle.wap_machine.specs.inside.Parts.{calling, IsDone};
+ghost use Rattle.wap_machine.specs.inside.InstructionParts.{calling, IsDone};
 
 use crate::frame::Frame;
 use crate::next::{Callee, Next};

@@ -4,7 +4,7 @@ ghost use Rattle.wap_execution.specs.Frames.{Frame as TheFrame};
 ghost use Rattle.wap_execution.specs.Effects.{local};
 ghost use Rattle.wap_machine.specs.Hosts.{IsCallable};
 ghost use Rattle.wap_machine.specs.inside.Efforts.{IsLight};
-ghost use Rattle.wap_machine.specs.inside.Steps.{CanCallFrom, goes_with, GoesLocally, GoesFound};
+ghost use Rattle.wap_machine.specs.inside.MachineSteps.{CanCallFrom, goes_with, GoesLocally, GoesFound};
 
 use crate::Script;
 use crate::machine::{Outcome, Step, Waiting};

@@ -9,7 +9,7 @@ ghost use Rattle.wap_execution.specs.Frames.{constant_at};
 ghost use Rattle.wap_execution.specs.Effects.{effect_of};
 ghost use Rattle.wap_execution.specs.declared.action.Action.TheVariants as action;
 ghost use Rattle.wap_machine.specs.Standing.{Fits};
-ghost use Rattle.wap_machine.specs.inside.Parts.{number_of, HasConstant, IsDone};
+ghost use Rattle.wap_machine.specs.inside.InstructionParts.{number_of, HasConstant, IsDone};
 
 use crate::acting::give;
 use crate::frame::Frame;

@@ -3,7 +3,7 @@ ghost use Rattle.std.specs.Prelude.{◌≡◌, ◌<◌, length};
 ghost use Rattle.wap_execution.specs.Actions.{action_of};
 ghost use Rattle.wap_execution.specs.Frames.{code_of};
 ghost use Rattle.wap_machine.specs.Standing.{Stands};
-ghost use Rattle.wap_machine.specs.inside.Parts.{IsInstruction};
+ghost use Rattle.wap_machine.specs.inside.InstructionParts.{IsInstruction};
 
 use crate::frame::Frame;
 use wap_asm::{read_row, row_of};

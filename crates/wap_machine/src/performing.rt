@@ -6,7 +6,7 @@ ghost use Rattle.wap_execution.specs.Effects.{effect_read};
 ghost use Rattle.wap_machine.specs.Seen.{with_operands};
 ghost use Rattle.wap_machine.specs.Standing.{Stands, Fits};
 ghost use Rattle.wap_machine.specs.Doing.{EndsOrActs, StandsFor};
-ghost use Rattle.wap_machine.specs.inside.Parts.{IsSmall, IsDone};
+ghost use Rattle.wap_machine.specs.inside.InstructionParts.{IsSmall, IsDone};
 
 use crate::acting::{
     apply_unary, discard, end_function, give, jump_back, jump_back_unless, jump_unless, pass_on,

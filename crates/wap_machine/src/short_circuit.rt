@@ -4,7 +4,7 @@ ghost use Rattle.wap_unit.specs.Instructions.{row_of};
 ghost use Rattle.wap_execution.specs.Frames.{code_of};
 ghost use Rattle.wap_execution.specs.Effects.{pair_by};
 ghost use Rattle.wap_machine.specs.Standing.{Fits};
-ghost use Rattle.wap_machine.specs.inside.Parts.{given, IsJump, pair_behind, IsDone};
+ghost use Rattle.wap_machine.specs.inside.InstructionParts.{given, IsJump, pair_behind, IsDone};
 
 use crate::acting::{give, pass_on};
 use crate::frame::Frame;

@@ -5,7 +5,7 @@ ghost use Rattle.wap_machine.specs.Hosts.{Fetches, GrowsTold};
 ghost use Rattle.wap_execution.specs.laws.Settings.{uncounted};
 ghost use Rattle.wap_machine.specs.Runs.{run_of};
 ghost use Rattle.wap_machine.specs.inside.Efforts.{effort, GoesBelow};
-ghost use Rattle.wap_machine.specs.inside.Steps.{rest, Same, LimitsStay, Wants};
+ghost use Rattle.wap_machine.specs.inside.MachineSteps.{rest, Same, LimitsStay, Wants};
 
 use crate::asking::call;
 use crate::host::Host;

@@ -10,7 +10,7 @@ ghost use Rattle.wap_execution.specs.Effects.{effect_of, stored};
 ghost use Rattle.wap_execution.specs.declared.action.Action.TheVariants as action;
 ghost use Rattle.wap_machine.specs.Seen.{with_operands};
 ghost use Rattle.wap_machine.specs.Standing.{Fits};
-ghost use Rattle.wap_machine.specs.inside.Parts.{storing, IsDone};
+ghost use Rattle.wap_machine.specs.inside.InstructionParts.{storing, IsDone};
 
 use crate::acting::{give, pass_on};
 use crate::frame::Frame;

@@ -1,7 +1,7 @@
 -- The definitions at the masks and texts of the worked examples, by calculation.
 use Rattle.std.proofs.Common.{◌≡◌, [], ◌∷◌, true, false, refl}
 use Rattle.std.specs.Prelude.{codes}
-use Rattle.wap_mask.specs.Reading.{mask_of, is_taken}
+use Rattle.wap_mask.specs.Calculation.{mask_of, is_taken}
 use Rattle.wap_mask.specs.Grammar.{any_text}
 
 digits_take_a_number : is_taken (mask_of (codes "N*N")) (codes "250") ≡ true

@@ -1,6 +1,6 @@
 pub mod Options
 pub mod Ends
 pub mod Taking
-pub mod Reading
+pub mod SymbolLaws
 pub mod Membership
 mod Examples

@@ -5,8 +5,8 @@ use Rattle.std.proofs.lemmas.List.{append-nil}
 use Rattle.wap_mask.specs.declared.symbol.Symbol.{Symbol}
 use Rattle.wap_mask.specs.Texts.{IsTaken}
 use Rattle.wap_mask.specs.Grammar.{IsMask, RepeatsLast, any_text}
-use Rattle.wap_mask.specs.Reading.{symbols_of, mask_of, is_taken}
-use Rattle.wap_mask.proofs.Reading.{symbols_of-from, RepeatsLast-read}
+use Rattle.wap_mask.specs.Calculation.{symbols_of, mask_of, is_taken}
+use Rattle.wap_mask.proofs.SymbolLaws.{symbols_of-from, RepeatsLast-read}
 use Rattle.wap_mask.proofs.Taking.{IsTaken_iff_test}
 
 pub any_text_is_taken : (text : List ℕ) → IsTaken any_text text

@@ -12,7 +12,7 @@ use Rattle.wap_mask.specs.declared.symbol.Symbol.TheVariants.{One, Exactly, UpTo
 use Rattle.wap_mask.specs.Characters.{is_in}
 use Rattle.wap_mask.specs.Texts.{Takes, IsTaken}
 use Rattle.wap_mask.specs.Grammar.{repeats, RepeatsLast}
-use Rattle.wap_mask.specs.Reading.{after_all, after_up_to, after, is_taken}
+use Rattle.wap_mask.specs.Calculation.{after_all, after_up_to, after, is_taken}
 use Rattle.wap_mask.proofs.Options.{given}
 
 -- a prefix of a text, in a symbol's set, and what follows it

@@ -1,4 +1,4 @@
 pub mod Characters
 pub mod Texts
 pub mod Grammar
-pub mod Reading
+pub mod Calculation

@@ -4,7 +4,7 @@ ghost use Rattle.std.specs.Prelude.{◌≡◌, ◌↔◌, ℕ, List, IsTrue};
 ghost use Rattle.wap_mask.specs.declared.symbol.Symbol.{Symbol};
 ghost use Rattle.wap_mask.specs.Texts.{IsTaken};
 ghost use Rattle.wap_mask.specs.Grammar.{IsMask, any_text};
-ghost use Rattle.wap_mask.specs.Reading.{mask_of, is_taken};
+ghost use Rattle.wap_mask.specs.Calculation.{mask_of, is_taken};
 
 /// `*M`, which an ill-formed text is read as, takes every text.
 #[tactic(auto, using(crate::proofs::Membership::any_text_is_taken))]

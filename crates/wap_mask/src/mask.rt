@@ -1,7 +1,7 @@
 //! Masks of input fields.
 ghost use Rattle.std.specs.Prelude.{◌≡◌, length, IfOk};
 ghost use Rattle.std.specs.Str.{chars};
-ghost use Rattle.wap_mask.specs.Reading.{symbols_of, is_taken};
+ghost use Rattle.wap_mask.specs.Calculation.{symbols_of, is_taken};
 
 use crate::scan::is_at_end;
 use crate::{Class, Symbol};
@@ -32,7 +32,7 @@ impl Mask {
     ghost use Rattle.wap_mask.specs.declared.symbol.Symbol.{Symbol};
     ghost use Rattle.wap_mask.specs.Texts.{IsTaken};
     ghost use Rattle.wap_mask.specs.Grammar.{IsMask, any_text};
-    ghost use Rattle.wap_mask.specs.Reading.{mask_of, is_taken};
+    ghost use Rattle.wap_mask.specs.Calculation.{mask_of, is_taken};
 
     /// The mask that a text says. A text that is ill-formed says nothing, and any text is taken.
     pub fn read(alloc: Global, text: &Text) -> Result<Mask, NoMemory>

@@ -1,7 +1,7 @@
 //! The characters of one class that a text begins with.
 ghost use Rattle.std.specs.Prelude.{◌≡◌};
 ghost use Rattle.std.specs.Str.{chars};
-ghost use Rattle.wap_mask.specs.Reading.{after_all, after_up_to};
+ghost use Rattle.wap_mask.specs.Calculation.{after_all, after_up_to};
 
 use crate::Class;
 use crate::scan::first_of;

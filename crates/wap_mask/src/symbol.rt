@@ -1,7 +1,7 @@
 //! The symbols of a mask, and what of a text each of them takes.
 ghost use Rattle.std.specs.Prelude.{◌≡◌, MatchOption, option_map, Option};
 ghost use Rattle.std.specs.Str.{chars};
-ghost use Rattle.wap_mask.specs.Reading.{class_at};
+ghost use Rattle.wap_mask.specs.Calculation.{class_at};
 
 use crate::Class;
 use crate::run::{after_all, after_up_to};
@@ -22,7 +22,7 @@ pub enum Symbol {
 
 impl Symbol {
     ghost use Rattle.wap_mask.specs.Grammar.{repeats};
-    ghost use Rattle.wap_mask.specs.Reading.{after, symbol_at, is_misplaced};
+    ghost use Rattle.wap_mask.specs.Calculation.{after, symbol_at, is_misplaced};
 
     /// What is left of a text that begins with what the symbol takes, the most that it can.
     pub(crate) fn after(self, text: &str) -> Option<&str>

@@ -2,7 +2,7 @@
 use Rattle.std.proofs.Common.{◌≡◌, ℕ, ◌≤◌, List, length, refl, ◌∙◌, le_trans}
 use Rattle.wap_value.specs.declared.value.Value.{Value}
 use Rattle.wap_execution.specs.Outcomes.{Ended}
-use Rattle.wap_meaning.specs.Parts.{Came, gave, over, Does, from, ◌>>=◌, done}
+use Rattle.wap_meaning.specs.SourceParts.{Came, gave, over, Does, from, ◌>>=◌, done}
 use Rattle.wap_meaning.specs.Keeping.{Lessens, Keeps}
 
 -- ---- what they come to

@@ -1,5 +1,5 @@
 pub mod Following
-pub mod Steps
+pub mod KeepingParts
 pub mod Trees
 pub mod Variables
 mod Units

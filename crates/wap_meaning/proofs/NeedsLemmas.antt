@@ -1,5 +1,5 @@
 pub mod Drawing
-pub mod Parts
+pub mod TreeNeeds
 pub mod Expressions
 pub mod Statements
 pub mod Programs

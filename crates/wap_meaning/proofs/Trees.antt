@@ -22,8 +22,8 @@ use Rattle.wap_grammar.specs.declared.program.statement.Stmt.TheFolds.{fold-roll
 use Rattle.wap_execution.specs.Effects.{Called, jumps_at}
 use Rattle.wap_execution.specs.Outcomes.{value, stuck}
 use Rattle.wap_execution.specs.Running.{ended, Calls}
-use Rattle.wap_meaning.specs.Parts.{Came, gave, over, Does, ◌>>=◌, done, give, load, store, kept}
-use Rattle.wap_meaning.specs.Parts.{turn, calling}
+use Rattle.wap_meaning.specs.SourceParts.{Came, gave, over, Does, ◌>>=◌, done, give, load, store, kept}
+use Rattle.wap_meaning.specs.SourceParts.{turn, calling}
 use Rattle.wap_meaning.specs.Names.{variable_at, callee_local, callee_external, callee_library}
 use Rattle.wap_meaning.specs.Names.{names_in}
 use Rattle.wap_meaning.specs.Functions.{first_values, function_runs, program_runs}
@@ -36,8 +36,8 @@ use Rattle.wap_meaning.specs.Statements.{update_of, declared, run_by_part, run}
 use Rattle.wap_meaning.specs.Functions.{run_body, result_of}
 use Rattle.wap_meaning.specs.Keeping.{GiveNoTurns, Lessens, Keeps}
 use Rattle.wap_meaning.proofs.Following.{keeps_both}
-use Rattle.wap_meaning.proofs.Steps.{calling_keeps, give_keeps, kept_keeps, load_keeps, store_keeps}
-use Rattle.wap_meaning.proofs.Steps.{turn_keeps}
+use Rattle.wap_meaning.proofs.KeepingParts.{calling_keeps, give_keeps, kept_keeps, load_keeps, store_keeps}
+use Rattle.wap_meaning.proofs.KeepingParts.{turn_keeps}
 
 module _ {S : Type 0} (around : Around S) (falls : GiveNoTurns around.call) where
   -- one of two parts

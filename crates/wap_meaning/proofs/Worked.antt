@@ -27,8 +27,8 @@ use Rattle.wap_execution.specs.Outcomes.{value, fatal}
 use Rattle.wap_execution.specs.Running.{ended}
 use Rattle.wap_grammar.specs.declared.program.program.Span.{Span}
 use Rattle.wap_meaning.specs.Functions.{result_of, run_body}
-use Rattle.wap_meaning.specs.Parts.{Does, gave, over, ◌>>=◌, give, kept, load, store, calling}
-use Rattle.wap_meaning.specs.Parts.{done}
+use Rattle.wap_meaning.specs.SourceParts.{Does, gave, over, ◌>>=◌, give, kept, load, store, calling}
+use Rattle.wap_meaning.specs.SourceParts.{done}
 use Rattle.wap_meaning.specs.Names.{Names}
 use Rattle.wap_meaning.specs.Expressions.{Around, value_of, joined, assigned, stepped}
 use Rattle.wap_meaning.specs.Expressions.{step_of, each_of, eval_by, eval}

@@ -20,7 +20,7 @@ use Rattle.wap_execution.specs.Effects.{jumps_at}
 use Rattle.wap_execution.specs.Running.{Calls}
 use Rattle.wap_meaning.specs.Names.{Names, variable_at, callee_local, callee_external}
 use Rattle.wap_meaning.specs.Names.{callee_library}
-use Rattle.wap_meaning.specs.Parts.{Does, ◌>>=◌, give, load, store, kept, calling}
+use Rattle.wap_meaning.specs.SourceParts.{Does, ◌>>=◌, give, load, store, kept, calling}
 
 -- what the parts of a function depend on besides its variables: how long Strings may be, what names
 -- mean, and what calls come to after their turns

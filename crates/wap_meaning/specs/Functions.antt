@@ -16,7 +16,7 @@ use Rattle.wap_execution.specs.Running.{ended, Calls, Ways, called, goes, enter}
 use Rattle.wap_execution.specs.laws.Settings.{uncounted}
 use Rattle.wap_execution.specs.laws.Forgetting.{forgotten}
 use Rattle.wap_meaning.specs.Names.{locals, names_in}
-use Rattle.wap_meaning.specs.Parts.{done}
+use Rattle.wap_meaning.specs.SourceParts.{done}
 use Rattle.wap_meaning.specs.Expressions.{Around}
 use Rattle.wap_meaning.specs.Statements.{Ending, goes_on, breaks, continues, returns, in_order, run}
 

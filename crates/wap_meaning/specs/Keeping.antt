@@ -7,7 +7,7 @@ use Rattle.wap_grammar.specs.declared.program.statement.Stmt.{Stmt}
 use Rattle.wap_grammar.specs.declared.program.program.Program.{Program}
 use Rattle.wap_execution.specs.Effects.{Called}
 use Rattle.wap_execution.specs.Running.{Calls}
-use Rattle.wap_meaning.specs.Parts.{Came, gave, over, Does}
+use Rattle.wap_meaning.specs.SourceParts.{Came, gave, over, Does}
 use Rattle.wap_meaning.specs.Expressions.{Around, eval}
 use Rattle.wap_meaning.specs.Statements.{run}
 use Rattle.wap_meaning.specs.Functions.{program_runs}

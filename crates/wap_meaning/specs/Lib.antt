@@ -1,4 +1,4 @@
-pub mod Parts
+pub mod SourceParts
 pub mod Names
 pub mod Expressions
 pub mod Statements

@@ -13,7 +13,7 @@ use Rattle.wap_execution.specs.declared.fatal.Fatal.TheVariants.{Budget}
 use Rattle.wap_execution.specs.Effects.{jumps_at}
 use Rattle.wap_execution.specs.Outcomes.{fatal}
 use Rattle.wap_meaning.specs.Names.{variable_at}
-use Rattle.wap_meaning.specs.Parts.{Does, ◌>>=◌, give, ends_with, turn, store}
+use Rattle.wap_meaning.specs.SourceParts.{Does, ◌>>=◌, give, ends_with, turn, store}
 use Rattle.wap_meaning.specs.Expressions.{Around, eval}
 
 -- where a statement leaves to

@@ -3,7 +3,7 @@
 ghost use Rattle.std.specs.Prelude.{◌≡◌, ◌↔◌, ℕ, List, Some, None};
 ghost use Rattle.wap_grammar.specs.declared.program.program.Program.{Program};
 ghost use Rattle.wap_meaning.specs.compiled.Accepted.{IsAccepted};
-ghost use Rattle.wap_meaning.specs.accepted.Reading.{accepted_in};
+ghost use Rattle.wap_meaning.specs.accepted.AcceptedPrograms.{accepted_in};
 
 /// A law of the calculation, which does nothing when it is called. It gives the program of a source
 /// exactly where the source is accepted.

@@ -1,10 +1,10 @@
-//! What source programs mean, and the unit that a program is compiled to.
+//! What source programs mean, and the unit that a program is compiled to, as definitions in
+//! `specs/`. There is no code here.
 //!
-//! - `coding`: The code of WMLScript's programs, as definitions in `specs/`: the forms of each
-//!   expression and statement, what they need of their unit, and its constants.
-//! - `compiled`: The unit that a program of WMLScript is compiled to, as definitions in `specs/`
-//!   that compute: its constants, its code and all else, its size in wide code, and which programs
-//!   have a unit.
+//! - `coding`: The code of WMLScript's programs, the forms of each expression and
+//!   statement, what they need of their unit, and its constants.
+//! - `compiled`: The unit that a program of WMLScript is compiled to, by definitions that compute:
+//!   its constants, its code and all else, its size in wide code, and which programs have a unit.
 //! - `accepted`: The program of a source that is accepted, by calculation.
 //! - `needs`: Laws of what the programs of sources need: it is drawn from their tokens.
 #![tactic(auto)]

@@ -3,7 +3,7 @@
 ghost use Rattle.std.specs.Prelude.{ℕ, List, []};
 ghost use Rattle.std.specs.List.{All, AllByRecursion};
 ghost use Rattle.wap_lex.specs.declared.token.Token.{Token};
-ghost use Rattle.wap_grammar.specs.Words.{lexemes_of};
+ghost use Rattle.wap_grammar.specs.Lexemes.{lexemes_of};
 ghost use Rattle.wap_grammar.specs.Programs.{Spells};
 ghost use Rattle.wap_grammar.specs.declared.program.program.Program.{Program};
 ghost use Rattle.wap_meaning.specs.needs.Drawn.{function_needs, program_needs, HasOperator, Drawn};

@@ -31,7 +31,7 @@ use Rattle.wap_deckcheck.proofs.Completeness.{no_faults_where_good}
 use Rattle.wap_unit.specs.declared.unit.Unit.{Unit}
 use Rattle.wap_unit.specs.Units.{IsUnit}
 use Rattle.wap_unit.specs.declared.fault.UnitFault.{UnitFault}
-use Rattle.wap_unit.specs.inside.Reading.{unit_at}
+use Rattle.wap_unit.specs.inside.UnitReading.{unit_at}
 use Rattle.wap_unit.proofs.UnitLaws.{unit_takes, unit_again, unit_stops, unit_fails}
 use Rattle.wap_verify.specs.declared.fault.VerifyFault.{VerifyFault}
 use Rattle.wap_verify.specs.Sound.{IsVerified}
@@ -41,7 +41,7 @@ use Rattle.wap_verify.proofs.RunnableLemmas.Deciding.{passes, fails}
 use Rattle.wap_verify.proofs.RunnableLemmas.Alike.{alike}
 use Rattle.wap_grammar.specs.declared.program.program.Program.{Program}
 use Rattle.wap_meaning.specs.compiled.Units.{compiled}
-use Rattle.wap_meaning.specs.accepted.Reading.{accepted_in}
+use Rattle.wap_meaning.specs.accepted.AcceptedPrograms.{accepted_in}
 use Rattle.wap_meaning.proofs.AcceptedLemmas.Accepting as accepting
 use Rattle.wap_codegen.specs.declared.fault.CompileFault.{CompileFault}
 use Rattle.wap_codegen.proofs.SourceFaultsLemmas.Finding.{found}

@@ -19,13 +19,13 @@ use Rattle.wap_deckcheck.specs.declared.fault.DeckFault.{DeckFault}
 use Rattle.wap_unit.specs.declared.unit.Unit.{Unit}
 use Rattle.wap_unit.specs.Units.{IsUnit}
 use Rattle.wap_unit.specs.declared.fault.UnitFault.{UnitFault}
-use Rattle.wap_unit.specs.inside.Reading.{unit_at}
+use Rattle.wap_unit.specs.inside.UnitReading.{unit_at}
 use Rattle.wap_verify.specs.Sound.{IsVerified}
 use Rattle.wap_verify.specs.runnable.Runnable.{may_run, is_of_depths}
 use Rattle.wap_grammar.specs.declared.program.program.Program.{Program}
 use Rattle.wap_meaning.specs.compiled.Units.{compiled}
 use Rattle.wap_meaning.specs.compiled.Accepted.{IsAccepted}
-use Rattle.wap_meaning.specs.accepted.Reading.{accepted_in}
+use Rattle.wap_meaning.specs.accepted.AcceptedPrograms.{accepted_in}
 use Rattle.wap_world.specs.site.Pages.{Pages}
 use Rattle.wap_world.specs.declared.site.page.Page.{Page}
 use Rattle.wap_world.specs.declared.site.page.Page.TheVariants as page

@@ -2,7 +2,9 @@
 use Rattle.std.specs.Prelude.{ℕ, List, [], ◌∷◌, ◌++◌, codes, decimal}
 use Rattle.std.specs.List.{flat_map}
 use Rattle.wap_base.specs.Ascii.{space, slash}
-use Rattle.wap_faults.specs.Faults.{fault_text, document_text, image_text, save_text}
+use Rattle.wap_devices.specs.Printing.{fault_text}
+use Rattle.wap_wbxml.specs.Printing.{document_text}
+use Rattle.wap_image.specs.Printing.{image_text, save_text}
 use Rattle.wap_unit.specs.declared.fault.UnitFault.{UnitFault}
 use Rattle.wap_unit.specs.declared.fault.UnitFault.TheVariants as unit
 use Rattle.wap_verify.specs.declared.fault.VerifyFault.{VerifyFault}

@@ -4,8 +4,7 @@ ghost use Rattle.wap_pages.specs.Printing.{deck_text};
 
 use crate::printing::print_at;
 use wap_deckcheck::DeckFault;
-use wap_devices::{Failed, Sink};
-use wap_faults::print_name;
+use wap_devices::{Failed, Sink, print_name};
 
 pub(crate) fn print_deck_fault<O: Sink>(out: &mut O, fault: &DeckFault) -> Result<(), Failed>
     ensures { Puts (deck_text fault.now) (O.seen out.old) (O.seen out.new) result }

@@ -1,7 +1,7 @@
 //! Printing why a page is refused.
 ghost use Rattle.std.specs.Prelude.{[], ◌∷◌};
 ghost use Rattle.std.specs.List.{flat_map};
-ghost use Rattle.wap_faults.specs.Faults.{field_text, fault_text};
+ghost use Rattle.wap_devices.specs.Printing.{field_text, fault_text};
 ghost use Rattle.wap_pages.specs.Printing.{step_text, path_text, at_path, page_text};
 ghost use Rattle.wap_devices.specs.Sinks.{Puts};
 
@@ -10,10 +10,9 @@ use crate::deck_faults::print_deck_fault;
 use crate::source_faults::print_compile_fault;
 use crate::unit_faults::{print_unit_fault, print_verify_fault};
 use itoa::Buffer;
-use wap_devices::{Failed, Sink, write_all};
-use wap_faults::{
-    print_document_fault, print_fault, print_image_fault, print_name, print_save_fault,
-};
+use wap_devices::{Failed, Sink, print_fault, print_name, write_all};
+use wap_image::{print_image_fault, print_save_fault};
+use wap_wbxml::print_document_fault;
 
 impl PageFault {
     /// Writes the name of the innermost fault and its fields in order, as `Short 13`.

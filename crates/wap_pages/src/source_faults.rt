@@ -5,8 +5,7 @@ ghost use Rattle.wap_pages.specs.Printing.{compile_text};
 
 use crate::printing::print_place;
 use wap_codegen::CompileFault;
-use wap_devices::{Failed, Sink};
-use wap_faults::{print_fault, print_name, print_one};
+use wap_devices::{Failed, Sink, print_fault, print_name, print_one};
 use wap_grammar::ParseFault;
 use wap_grammar::program::Span;
 use wap_lex::LexFault;

@@ -3,8 +3,7 @@ ghost use Rattle.wap_devices.specs.Sinks.{Puts};
 ghost use Rattle.wap_pages.specs.Printing.{unit_text, verify_text};
 
 use crate::printing::print_place;
-use wap_devices::{Failed, Sink};
-use wap_faults::{print_fault, print_name, print_one};
+use wap_devices::{Failed, Sink, print_fault, print_name, print_one};
 use wap_unit::UnitFault;
 use wap_verify::VerifyFault;
 

@@ -7,7 +7,7 @@ use Rattle.wap_grammar.specs.declared.program.statement.Stmt.TheVariants as stmt
 use Rattle.wap_grammar.specs.declared.fault.ParseFault.{ParseFault}
 use Rattle.wap_grammar.specs.declared.lexeme.Lexeme.{Lexeme}
 use Rattle.wap_grammar.specs.declared.word.Sign.TheVariants as sign
-use Rattle.wap_grammar.specs.inside.Steps.{Reading, told, expect_at}
+use Rattle.wap_grammar.specs.inside.TokenReading.{Reading, told, expect_at}
 use Rattle.wap_grammar.specs.inside.Expressions.{Reader}
 use Rattle.wap_grammar.specs.inside.Statements.{Statements, optional_at, initial_at}
 use Rattle.wap_grammar.specs.inside.Statements.{condition_at, arm_at, while_at, for_at}

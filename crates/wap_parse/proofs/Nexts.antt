@@ -5,8 +5,8 @@ use Rattle.wap_grammar.specs.declared.program.statement.Stmt.{Stmt}
 use Rattle.wap_grammar.specs.declared.fault.ParseFault.{ParseFault}
 use Rattle.wap_grammar.specs.declared.lexeme.Lexeme.{Lexeme}
 use Rattle.wap_grammar.specs.declared.word.Sign.TheVariants as sign
-use Rattle.wap_grammar.specs.Words.{word_of, is_sign}
-use Rattle.wap_grammar.specs.inside.Steps.{told}
+use Rattle.wap_grammar.specs.Lexemes.{word_of, is_sign}
+use Rattle.wap_grammar.specs.inside.TokenReading.{told}
 use Rattle.wap_grammar.specs.inside.Statements.{Statements, next_statement}
 
 module _ (statement : Statements) (rest : List Lexeme) (held : Bool)

@@ -1,3 +1,3 @@
 pub mod inside
 pub mod Calls
-pub mod Reading
+pub mod Calculation

@@ -6,7 +6,7 @@ ghost use Rattle.wap_grammar.specs.declared.program.statement.Stmt.TheVariants a
 ghost use Rattle.wap_grammar.specs.declared.fault.ParseFault.TheVariants as faults;
 ghost use Rattle.wap_grammar.specs.declared.word.Sign.TheVariants as signs;
 ghost use Rattle.wap_grammar.specs.Statements.{done_first};
-ghost use Rattle.wap_grammar.specs.inside.Steps.{span_of, after, closed, told};
+ghost use Rattle.wap_grammar.specs.inside.TokenReading.{span_of, after, closed, told};
 ghost use Rattle.wap_grammar.specs.inside.Expressions.{expression_at};
 ghost use Rattle.wap_grammar.specs.inside.Statements.{closed_at, optional_at};
 ghost use Rattle.wap_grammar.specs.inside.Statements.{initial_at, condition_at};

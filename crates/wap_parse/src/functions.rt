@@ -2,7 +2,7 @@
 ghost use Rattle.std.specs.Prelude.{◌≡◌, ◌∷◌};
 ghost use Rattle.wap_base.specs.Outcome.{Meets};
 ghost use Rattle.wap_grammar.specs.declared.fault.ParseFault.TheVariants as faults;
-ghost use Rattle.wap_grammar.specs.inside.Steps.{told, id_at, items_at};
+ghost use Rattle.wap_grammar.specs.inside.TokenReading.{told, id_at, items_at};
 ghost use Rattle.wap_grammar.specs.inside.Statements.{next_listed, listed_at, statement_at};
 ghost use Rattle.wap_grammar.specs.inside.Programs.{parameters_at, tail_at, head_at, function_of};
 ghost use Rattle.wap_grammar.specs.inside.Programs.{function_at, next_function};

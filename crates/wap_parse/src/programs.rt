@@ -4,7 +4,7 @@ ghost use Rattle.wap_base.specs.Outcome.{Meets};
 ghost use Rattle.wap_grammar.specs.declared.program.program.Program.{Program};
 ghost use Rattle.wap_lex.specs.Tokens.{AreTokens};
 ghost use Rattle.wap_grammar.specs.declared.fault.ParseFault.TheVariants as faults;
-ghost use Rattle.wap_grammar.specs.Words.{lexemes_of};
+ghost use Rattle.wap_grammar.specs.Lexemes.{lexemes_of};
 ghost use Rattle.wap_grammar.specs.Programs.{IsProgram, Spells};
 ghost use Rattle.wap_grammar.specs.Refusal.{IsPast};
 ghost use Rattle.wap_grammar.specs.Depth.{IsFirstBelow};

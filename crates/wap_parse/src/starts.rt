@@ -1,6 +1,6 @@
 //! What statements begin with (WAP-193, section 6.5).
 ghost use Rattle.std.specs.Prelude.{◌≡◌};
-ghost use Rattle.wap_grammar.specs.Words.{start_of};
+ghost use Rattle.wap_grammar.specs.Lexemes.{start_of};
 
 use wap_grammar::{Sign, Start, Word};
 

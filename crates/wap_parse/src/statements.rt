@@ -2,7 +2,7 @@
 ghost use Rattle.wap_base.specs.Outcome.{Meets};
 ghost use Rattle.wap_grammar.specs.declared.program.statement.Stmt.TheVariants as stmt;
 ghost use Rattle.wap_grammar.specs.declared.fault.ParseFault.TheVariants as faults;
-ghost use Rattle.wap_grammar.specs.inside.Steps.{told, items_at};
+ghost use Rattle.wap_grammar.specs.inside.TokenReading.{told, items_at};
 ghost use Rattle.wap_grammar.specs.inside.Expressions.{expression_at};
 ghost use Rattle.wap_grammar.specs.inside.Statements.{next_statement, block_at, arm_at, else_at};
 ghost use Rattle.wap_grammar.specs.inside.Statements.{if_at, while_at, for_at, statement_by};

@@ -3,7 +3,8 @@ pub mod Readings
 pub mod Pushing
 pub mod Latest
 pub mod Keys
-pub mod Steps
+pub mod NextWinners
 pub mod Entries
 pub mod One
 pub mod Winner
+pub mod FaultNames

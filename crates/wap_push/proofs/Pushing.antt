@@ -17,7 +17,7 @@ use Rattle.wap_push.specs.declared.fault.PushFault.TheVariants as fault
 use Rattle.wap_push.specs.Fields.{elements_of, content_text, action_of}
 use Rattle.wap_push.specs.Fields.{created_of, identifier_of}
 use Rattle.wap_push.specs.Indications.{is_si, is_info, IsBody, IsIndication, IsRefused}
-use Rattle.wap_push.specs.Reading.{is_none, body_in, named, dated, indication_in, indication_of}
+use Rattle.wap_push.specs.Calculation.{is_none, body_in, named, dated, indication_in, indication_of}
 use Rattle.wap_push.specs.Pushes.{indications, IsPush, IsNoPush, push_of, push_at, push_error}
 use Rattle.wap_push.proofs.Readings.{body_found, indication_named, nameless}
 

@@ -12,7 +12,7 @@ use Rattle.wap_push.specs.declared.fault.PushFault.{PushFault}
 use Rattle.wap_push.specs.declared.fault.PushFault.TheVariants as fault
 use Rattle.wap_push.specs.Fields.{elements_of, is_tagged, created_of, identifier_of}
 use Rattle.wap_push.specs.Indications.{is_si, is_info, IsBody, IsIndication, IsRefused}
-use Rattle.wap_push.specs.Reading.{is_none, body_in, named, dated}
+use Rattle.wap_push.specs.Calculation.{is_none, body_in, named, dated}
 
 -- what a test lets through
 chosen : {X : Type 0} (b : Bool) (x y : X) → cond b (Some x) None ≡ Some y → (b ≡ true) × (x ≡ y)

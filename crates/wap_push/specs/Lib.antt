@@ -1,7 +1,8 @@
 pub mod Tables
 pub mod Fields
 pub mod Indications
-pub mod Reading
+pub mod Calculation
 pub mod Pushes
+pub mod Printing
 pub mod inside
 pub mod Inbox

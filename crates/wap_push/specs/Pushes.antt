@@ -13,7 +13,7 @@ use Rattle.wap_push.specs.declared.indication.Indication.{Indication}
 use Rattle.wap_push.specs.declared.fault.PushFault.{PushFault}
 use Rattle.wap_push.specs.declared.fault.PushFault.TheVariants as fault
 use Rattle.wap_push.specs.Indications.{IsIndication, IsRefused}
-use Rattle.wap_push.specs.Reading.{indication_of}
+use Rattle.wap_push.specs.Calculation.{indication_of}
 
 -- the document type of indications
 abbrev pub indications : DocumentType

@@ -4,7 +4,7 @@ ghost use Rattle.std.specs.Option.{option_copied};
 ghost use Rattle.wap_base.specs.Outcome.{Meets};
 ghost use Rattle.wap_push.specs.Fields.{elements_of, created_of};
 ghost use Rattle.wap_push.specs.Indications.{is_info, IsIndication, IsRefused};
-ghost use Rattle.wap_push.specs.Reading.{body_in, dated, indication_of};
+ghost use Rattle.wap_push.specs.Calculation.{body_in, dated, indication_of};
 
 use crate::content::{content_text, is_plain, is_tagged, split_element};
 use crate::fault::PushFault;

@@ -17,8 +17,8 @@ use Rattle.wap_scope.specs.Faults.{Scope}
 use Rattle.wap_scope.specs.inside.Walks.{mention_at, walked, walked_each}
 use Rattle.wap_scope.proofs.Walking.{bind_end, bind_same, walked-append}
 use Rattle.wap_scope.proofs.Walking.{walked-flat, walked-flat_last}
-use Rattle.wap_scope.proofs.Parts.{of_literal, of_variable, of_assignment, of_step, of_unary}
-use Rattle.wap_scope.proofs.Parts.{of_chain, of_choice, of_local, of_external, of_library}
+use Rattle.wap_scope.proofs.TreeNames.{of_literal, of_variable, of_assignment, of_step, of_unary}
+use Rattle.wap_scope.proofs.TreeNames.{of_chain, of_choice, of_local, of_external, of_library}
 
 refers_flat : {X : Type 0} (of : X → List Reference) (xs : List X) →
     map Refers (flat_map of xs) ≡ flat_map (λ x. map Refers (of x)) xs

@@ -1,6 +1,6 @@
 pub mod Lists
 pub mod Walking
-pub mod Parts
+pub mod TreeNames
 pub mod ExpressionParts
 pub mod StatementParts
 pub mod Programs

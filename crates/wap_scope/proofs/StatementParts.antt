@@ -13,8 +13,8 @@ use Rattle.wap_scope.specs.Names.{Mention, Jumps, refers, refers_if, declares, m
 use Rattle.wap_scope.specs.Faults.{Scope}
 use Rattle.wap_scope.specs.inside.Walks.{mention_at, walked, walked_each}
 use Rattle.wap_scope.proofs.Walking.{bind_end, bind_same, walked-append, walked-flat}
-use Rattle.wap_scope.proofs.Parts.{of_empty, of_value, of_block, of_variables, of_if, of_else}
-use Rattle.wap_scope.proofs.Parts.{of_while, of_for, of_break, of_continue, of_return}
+use Rattle.wap_scope.proofs.TreeNames.{of_empty, of_value, of_block, of_variables, of_if, of_else}
+use Rattle.wap_scope.proofs.TreeNames.{of_while, of_for, of_break, of_continue, of_return}
 
 module _ (scope : Scope) (known : List (List ℕ)) (s : Stmt) (inside : Bool) where
   abbrev Known : Type 0

@@ -1,8 +1,8 @@
 //! The names of programs in order, or the first fault, and the laws of both.
 //!
 //! - `accepted`: Laws of programs whose names are in order: what may be taken for granted where
-//!   code is made for them.
-//! - `order`: Laws of sources, from their tokens to their names.
+//!   code is made for them. It runs nothing.
+//! - `order`: Laws of sources, from their tokens to their names. It runs nothing.
 #![tactic(auto)]
 
 pub mod accepted;

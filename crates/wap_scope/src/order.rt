@@ -3,7 +3,7 @@
 ghost use Rattle.std.specs.Prelude.{ℕ, List};
 ghost use Rattle.wap_lex.specs.declared.token.Token.{Token};
 ghost use Rattle.wap_lex.specs.Tokens.{AreTokens};
-ghost use Rattle.wap_grammar.specs.Words.{lexemes_of};
+ghost use Rattle.wap_grammar.specs.Lexemes.{lexemes_of};
 ghost use Rattle.wap_grammar.specs.Programs.{Spells};
 ghost use Rattle.wap_grammar.specs.declared.program.program.Program.{Program};
 ghost use Rattle.wap_scope.specs.Faults.{faults};

@@ -1,3 +1,3 @@
 pub mod Noticing
 pub mod Listing
-pub mod Words
+pub mod NoticeWords

@@ -1,5 +1,5 @@
-//! Sites with other scripts, programs or pages in place of those of a site: what sessions show of
-//! them.
+//! Laws alone, which run nothing: what sessions show of sites with other scripts, programs or pages
+//! in place of those of a site.
 //!
 //! - `exchange`: What follows where other scripts stand in place of those of a site: units in place
 //!   of the sources that they agree with, and any in place of scripts that were only ever denied.

@@ -1,3 +1,3 @@
-pub mod Words
+pub mod RequestWords
 pub mod Prefixes
 pub mod Joining

@@ -19,7 +19,7 @@ use Rattle.wap_base.specs.Texts.{is_same_text, text_cmp}
 use Rattle.wap_base.specs.Utf8.{utf8_len}
 use Rattle.wap_url.specs.declared.url.Url.{Url}
 use Rattle.wap_url.specs.declared.fault.UrlFault.{UrlFault}
-use Rattle.wap_url.specs.Reading.{url_at}
+use Rattle.wap_url.specs.Calculation.{url_at}
 use Rattle.wap_url.specs.Printing.{printed, IsNormal}
 use Rattle.wap_vars.specs.declared.fault.VarFault.{VarFault}
 use Rattle.wap_vars.specs.declared.fault.VarFault.TheVariants.{BadName, TooLong, Full}

@@ -1,4 +1,4 @@
-pub mod Held
+pub mod CardAtHand
 pub mod Scenes
 pub mod Standing
 pub mod Saved

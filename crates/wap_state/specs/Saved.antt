@@ -4,7 +4,7 @@ use Rattle.std.specs.Fn.{iterate}
 use Rattle.std.specs.List.{flat_map}
 use Rattle.wap_url.specs.declared.url.Url.{Url}
 use Rattle.wap_url.specs.declared.fault.UrlFault.{UrlFault}
-use Rattle.wap_url.specs.Reading.{url_at}
+use Rattle.wap_url.specs.Calculation.{url_at}
 use Rattle.wap_url.specs.Printing.{printed}
 use Rattle.wap_libs.specs.Generator.{Generator, started_from, after_word}
 use Rattle.wap_image.specs.declared.context_parts.parts.ContextParts.{ContextParts}

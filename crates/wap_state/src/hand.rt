@@ -1,6 +1,6 @@
 //! The card at hand: the current one, and its deck.
 ghost use Rattle.std.specs.Prelude.{◌≡◌};
-ghost use Rattle.wap_state.specs.Held.{held_in};
+ghost use Rattle.wap_state.specs.CardAtHand.{held_in};
 
 use std::marker::Model;
 use wap_deck::good::{GoodDeck, View};
@@ -16,7 +16,7 @@ pub struct Current<'a> {
 }
 
 impl<'a> Model for Current<'a> {
-    ghost use Rattle.wap_state.specs.Held.{Held};
+    ghost use Rattle.wap_state.specs.CardAtHand.{Held};
     ghost use Rattle.wap_tokens.specs.contracts.markup.deck.Item as item;
     ghost use Rattle.std.specs.Coded.{codes};
 

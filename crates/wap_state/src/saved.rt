@@ -2,7 +2,7 @@
 ghost use Rattle.std.specs.Prelude.{◌≡◌, ◌≤◌, ◌<◌, ◌++◌, ◌∷◌, [], length, true, None, Ok};
 ghost use Rattle.std.specs.Prelude.{IfOk, OnOk};
 ghost use Rattle.std.specs.List.{AllByRecursion};
-ghost use Rattle.wap_url.specs.Reading.{url_at};
+ghost use Rattle.wap_url.specs.Calculation.{url_at};
 ghost use Rattle.wap_vars.specs.Variables.{AreVars};
 ghost use Rattle.wap_vars.specs.Setting.{set_in};
 ghost use Rattle.wap_image.specs.Items.{is_drawn, is_entry_text};

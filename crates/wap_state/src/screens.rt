@@ -4,7 +4,7 @@ ghost use Rattle.wap_url.specs.Segments.{IsPrefix};
 ghost use Rattle.wap_cardrules.specs.Setting.{defaults};
 ghost use Rattle.wap_cards.specs.inputs.Stopped.{DefaultsStand};
 ghost use Rattle.wap_world.specs.Setting.{with_set};
-ghost use Rattle.wap_state.specs.Held.{screen_held, show_held, restart_held};
+ghost use Rattle.wap_state.specs.CardAtHand.{screen_held, show_held, restart_held};
 ghost use Rattle.wap_state.specs.Scenes.{Plays, Leaves};
 
 use crate::hand::Current;

@@ -8,7 +8,7 @@ ghost use Rattle.wap_world.specs.declared.timer.Timer.TheVariants.{Running, Off,
 ghost use Rattle.wap_world.specs.Timers.{timer_from, start_timer, started};
 ghost use Rattle.wap_world.specs.Timers.{store_time, store_left, end_timer};
 ghost use Rattle.wap_state.specs.Scenes.{Plays, Leaves};
-ghost use Rattle.wap_state.specs.Held.{store_pairs, time_pairs};
+ghost use Rattle.wap_state.specs.CardAtHand.{store_pairs, time_pairs};
 
 use crate::state::State;
 use std::alloc::Global;

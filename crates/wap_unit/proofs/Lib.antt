@@ -1,6 +1,6 @@
 pub mod Texts
 pub mod Loops
 pub mod Readers
-pub mod Parts
+pub mod UnitItems
 pub mod UnitLaws
 pub mod SpellingLaws

@@ -1,3 +1,3 @@
-pub mod Steps
-pub mod Reading
+pub mod ByteReading
+pub mod UnitReading
 pub mod Fitting

@@ -11,8 +11,8 @@ use Rattle.std.proofs.lemmas.Slice.Eq.{bytes_eq-Decides}
 use Rattle.wap_url.specs.declared.url.Url.{Url}
 use Rattle.wap_url.specs.Characters.{is_slash, is_colon, is_allowed}
 use Rattle.wap_base.specs.Cuts.{onward, begins_with}
-use Rattle.wap_url.specs.Parts.{Parts, led_by, IsUrl, may_be_path, ends_word}
-use Rattle.wap_url.specs.Reading.{begins_with_slashes}
+use Rattle.wap_url.specs.UrlParts.{Parts, led_by, IsUrl, may_be_path, ends_word}
+use Rattle.wap_url.specs.Calculation.{begins_with_slashes}
 use Rattle.wap_url.specs.Printing.{text_without_fragment, without_fragment, IsNormal}
 use Rattle.wap_url.specs.Segments.{segments, path_of, all_but_last, last_segment}
 use Rattle.wap_url.specs.Joining.{kept_with, without_dots, resolved_path, rooted, merged_path}

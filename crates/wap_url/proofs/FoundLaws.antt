@@ -14,13 +14,13 @@ use Rattle.wap_url.specs.Refusal.{HasBadChar, IsRefused}
 use Rattle.wap_url.specs.Characters.{is_hash, is_slash, is_colon, is_question, is_allowed}
 use Rattle.wap_url.specs.Characters.{ends_scheme, ends_authority, is_scheme, is_host}
 use Rattle.wap_base.specs.Cuts.{until, onward, after_one, begins_with}
-use Rattle.wap_url.specs.Parts.{Parts, spelled, followed_by, led_by, authority, is_port}
-use Rattle.wap_url.specs.Parts.{url_of, IsSplit, Fits, IsUrl, ends_word, may_be_scheme}
-use Rattle.wap_url.specs.Parts.{may_be_host, may_be_port, may_be_path}
-use Rattle.wap_url.specs.Reading.{is_stop, front, fragment_of, has_bad_char, has_scheme, scheme_of}
-use Rattle.wap_url.specs.Reading.{after_scheme, begins_with_slashes, authority_of, after_authority}
-use Rattle.wap_url.specs.Reading.{host_in, port_in, tail_of, path_part, query_part, parts_with}
-use Rattle.wap_url.specs.Reading.{parts_of, passes_if_there, fault_of, unless, url_at}
+use Rattle.wap_url.specs.UrlParts.{Parts, spelled, followed_by, led_by, authority, is_port}
+use Rattle.wap_url.specs.UrlParts.{url_of, IsSplit, Fits, IsUrl, ends_word, may_be_scheme}
+use Rattle.wap_url.specs.UrlParts.{may_be_host, may_be_port, may_be_path}
+use Rattle.wap_url.specs.Calculation.{is_stop, front, fragment_of, has_bad_char, has_scheme, scheme_of}
+use Rattle.wap_url.specs.Calculation.{after_scheme, begins_with_slashes, authority_of, after_authority}
+use Rattle.wap_url.specs.Calculation.{host_in, port_in, tail_of, path_part, query_part, parts_with}
+use Rattle.wap_url.specs.Calculation.{parts_of, passes_if_there, fault_of, unless, url_at}
 use Rattle.wap_url.proofs.FrontLaws.{until-onward}
 use Rattle.wap_url.proofs.UntilLaws.{StopsAtOnce, all-weaker, all-front, all-back}
 use Rattle.wap_url.proofs.UntilLaws.{all-both, until-none, onward-stops, led-onward}

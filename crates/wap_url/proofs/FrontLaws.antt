@@ -11,7 +11,7 @@ use Rattle.std.proofs.lemmas.List.{get_or_at, drop_at}
 use Rattle.std.proofs.lemmas.Str.{encode_ascii, chars-encodes, IsCharBoundary-after_ascii}
 use Rattle.wap_base.specs.Cuts.{until, onward, begins_with}
 use Rattle.wap_url.specs.Characters.{is_hash, is_allowed}
-use Rattle.wap_url.specs.Reading.{is_stop, front, has_bad_char}
+use Rattle.wap_url.specs.Calculation.{is_stop, front, has_bad_char}
 use Rattle.wap_url.proofs.CharacterLaws.{allowed_high}
 use Rattle.wap_base.proofs.Utf8Cuts.{AllHigh, high_bytes, encode_some, SameCut, cut-encodes}
 

@@ -16,8 +16,8 @@ use Rattle.wap_url.specs.declared.url.Url.{Url}
 use Rattle.wap_url.specs.Characters.{is_scheme, is_scheme_character, is_host}
 use Rattle.wap_url.specs.Characters.{is_host_character, is_allowed, is_colon}
 use Rattle.wap_base.specs.Cuts.{begins_with}
-use Rattle.wap_url.specs.Parts.{Parts, is_port, port_number, url_of, IsSplit, Fits}
-use Rattle.wap_url.specs.Parts.{IsUrl, may_be_scheme, may_be_host, may_be_port}
+use Rattle.wap_url.specs.UrlParts.{Parts, is_port, port_number, url_of, IsSplit, Fits}
+use Rattle.wap_url.specs.UrlParts.{IsUrl, may_be_scheme, may_be_host, may_be_port}
 use Rattle.wap_url.specs.Printing.{parts_for, printed, IsNormal}
 use Rattle.wap_url.proofs.CharacterLaws.{scheme_high, host_high, digit_high}
 use Rattle.wap_url.proofs.CharacterLaws.{alphabetic_high, allowed_high}

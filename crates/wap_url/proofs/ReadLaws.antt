@@ -7,10 +7,10 @@ use Rattle.wap_url.specs.declared.fault.UrlFault.{UrlFault}
 use Rattle.wap_url.specs.declared.fault.UrlFault.TheVariants.{BadChar}
 use Rattle.wap_url.specs.Characters.{is_hash}
 use Rattle.wap_base.specs.Cuts.{until, onward, begins_with}
-use Rattle.wap_url.specs.Parts.{url_of}
-use Rattle.wap_url.specs.Reading.{is_stop, front, has_bad_char, fault_of, parts_of}
-use Rattle.wap_url.specs.Reading.{parts_with, unless, fragment_of, url_at}
-use Rattle.wap_url.specs.Parts.{IsUrl}
+use Rattle.wap_url.specs.UrlParts.{url_of}
+use Rattle.wap_url.specs.Calculation.{is_stop, front, has_bad_char, fault_of, parts_of}
+use Rattle.wap_url.specs.Calculation.{parts_with, unless, fragment_of, url_at}
+use Rattle.wap_url.specs.UrlParts.{IsUrl}
 use Rattle.wap_url.specs.Refusal.{IsRefused}
 use Rattle.wap_url.specs.Printing.{IsNormal}
 use Rattle.wap_url.proofs.FoundLaws.{url_takes, url_stops}

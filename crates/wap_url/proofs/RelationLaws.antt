@@ -56,7 +56,7 @@ use Rattle.std.proofs.lemmas.Slice.Eq.{bytes_eq-Decides}
 use Rattle.std.proofs.lemmas.Str.{encode_ascii, encodes_same, encodes-chars}
 use Rattle.std.proofs.lemmas.Str.Pattern.{NoCharPasses-char, drop_at_char}
 use Rattle.wap_url.specs.Characters.{is_slash, is_colon}
-use Rattle.wap_url.specs.Reading.{begins_with_slashes}
+use Rattle.wap_url.specs.Calculation.{begins_with_slashes}
 use Rattle.wap_url.specs.Segments.{segments, last_segment, all_but_last}
 use Rattle.wap_url.specs.Relative.{same_text, same_segments, same_folder, stands_alone}
 use Rattle.wap_base.proofs.Splits.{HasFirst, HasFirst-split, split-none}

@@ -5,7 +5,7 @@ use Rattle.std.specs.List.{list_all}
 use Rattle.std.proofs.lemmas.Bool.{cases_Bool, cases_lt, and_parts, and_from, cond-true, cond-false}
 use Rattle.std.proofs.lemmas.Bool.{not-true, not_from_false, eqb-true, agree_below, agree_below_at}
 use Rattle.wap_base.specs.Cuts.{until, onward, after_one}
-use Rattle.wap_url.specs.Parts.{led_by}
+use Rattle.wap_url.specs.UrlParts.{led_by}
 
 -- no character passes
 abbrev pub NonePasses : (ℕ → Bool) → List ℕ → Type 0

@@ -4,7 +4,7 @@ use Rattle.std.specs.Prelude.{Result, codes}
 use Rattle.wap_url.specs.declared.url.Url.{Url}
 use Rattle.wap_url.specs.declared.fault.UrlFault.{UrlFault}
 use Rattle.wap_url.specs.declared.fault.UrlFault.TheVariants.{BadChar}
-use Rattle.wap_url.specs.Reading.{url_at}
+use Rattle.wap_url.specs.Calculation.{url_at}
 use Rattle.wap_url.specs.Printing.{printed}
 use Rattle.wap_url.specs.Joining.{joined}
 use Rattle.wap_url.specs.Relative.{relative_form}

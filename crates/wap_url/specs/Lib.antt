@@ -1,6 +1,6 @@
 pub mod Characters
-pub mod Parts
-pub mod Reading
+pub mod UrlParts
+pub mod Calculation
 pub mod Refusal
 pub mod Printing
 pub mod Segments

@@ -6,7 +6,7 @@ use Rattle.std.specs.Char.{to_ascii_lowercase}
 use Rattle.std.specs.Fmt.{decimal}
 use Rattle.wap_url.specs.declared.url.Url.{Url}
 use Rattle.wap_url.specs.Characters.{is_slash}
-use Rattle.wap_url.specs.Parts.{Parts, spelled, IsSplit, Fits}
+use Rattle.wap_url.specs.UrlParts.{Parts, spelled, IsSplit, Fits}
 use Rattle.wap_base.specs.Ascii.{colon}
 
 -- the parts that spell the URL

@@ -4,8 +4,8 @@ use Rattle.std.specs.List.{list_all}
 use Rattle.wap_url.specs.declared.fault.UrlFault.{UrlFault}
 use Rattle.wap_url.specs.declared.fault.UrlFault.TheVariants.{BadChar, BadScheme, BadHost}
 use Rattle.wap_url.specs.declared.fault.UrlFault.TheVariants.{BadPort, NoMemory}
-use Rattle.wap_url.specs.Parts.{Parts, IsSplit}
-use Rattle.wap_url.specs.Reading.{fault_of}
+use Rattle.wap_url.specs.UrlParts.{Parts, IsSplit}
+use Rattle.wap_url.specs.Calculation.{fault_of}
 use Rattle.wap_url.specs.Characters.{is_allowed, is_hash}
 
 -- The first character before the fragment that may not stand there. Those before it are of

@@ -7,8 +7,8 @@ use Rattle.std.specs.Str.{bytes_eq}
 use Rattle.wap_url.specs.declared.url.Url.{Url}
 use Rattle.wap_url.specs.Characters.{is_slash, is_colon}
 use Rattle.wap_base.specs.Cuts.{begins_with}
-use Rattle.wap_url.specs.Parts.{led_by, IsUrl}
-use Rattle.wap_url.specs.Reading.{begins_with_slashes}
+use Rattle.wap_url.specs.UrlParts.{led_by, IsUrl}
+use Rattle.wap_url.specs.Calculation.{begins_with_slashes}
 use Rattle.wap_url.specs.Printing.{text_without_fragment, without_fragment, IsNormal}
 use Rattle.wap_url.specs.Segments.{segments, all_but_last, last_segment}
 use Rattle.wap_url.specs.Joining.{joined, is_dot_segment}

@@ -6,8 +6,8 @@ ghost use Rattle.wap_base.specs.Cuts.{begins_with};
 ghost use Rattle.std.specs.Str.Parse.{digits_value};
 ghost use Rattle.wap_url.specs.Characters.{is_scheme, is_scheme_character};
 ghost use Rattle.wap_url.specs.Characters.{is_host, is_host_character};
-ghost use Rattle.wap_url.specs.Parts.{is_port};
-ghost use Rattle.wap_url.specs.Reading.{fault_of};
+ghost use Rattle.wap_url.specs.UrlParts.{is_port};
+ghost use Rattle.wap_url.specs.Calculation.{fault_of};
 ghost use Rattle.wap_url.specs.inside.Slices.{parts_in};
 
 use crate::UrlFault;

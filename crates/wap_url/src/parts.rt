@@ -2,9 +2,9 @@
 ghost use Rattle.std.specs.Prelude.{◌≡◌, ◌==◌, List, ℕ, Option};
 ghost use Rattle.std.specs.Option.{option_copied, option_map, option_and_then};
 ghost use Rattle.wap_base.specs.Cuts.{begins_with, after_one};
-ghost use Rattle.wap_url.specs.Reading.{scheme_of, after_scheme, begins_with_slashes};
-ghost use Rattle.wap_url.specs.Reading.{authority_of, after_authority, host_in, port_in};
-ghost use Rattle.wap_url.specs.Reading.{host_of, port_of, tail_of, path_part, query_part};
+ghost use Rattle.wap_url.specs.Calculation.{scheme_of, after_scheme, begins_with_slashes};
+ghost use Rattle.wap_url.specs.Calculation.{authority_of, after_authority, host_in, port_in};
+ghost use Rattle.wap_url.specs.Calculation.{host_of, port_of, tail_of, path_part, query_part};
 
 use crate::cut::{Cut, begins_with_byte, cut_at};
 

@@ -1,7 +1,7 @@
 //! A URL as text, and the name of its page in the store.
 ghost use Rattle.std.specs.Prelude.{◌≡◌, ◌++◌, ◌∷◌, [], IfOk, OnOk};
 ghost use Rattle.std.specs.Fmt.{decimal};
-ghost use Rattle.wap_url.specs.Parts.{followed_by, led_by, authority, IsUrl};
+ghost use Rattle.wap_url.specs.UrlParts.{followed_by, led_by, authority, IsUrl};
 ghost use Rattle.wap_url.specs.Printing.{printed, text_without_fragment, parts_for, named_port};
 ghost use Rattle.wap_url.specs.Printing.{named_page, ends_in_slash, name_for, IsNormal};
 ghost use Rattle.std.specs.Option.{option_map, unwrap_or};

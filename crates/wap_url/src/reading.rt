@@ -5,9 +5,9 @@ ghost use Rattle.std.specs.Option.{option_and_then, option_copied};
 ghost use Rattle.wap_base.specs.Outcome.{Meets};
 ghost use Rattle.wap_base.specs.Cuts.{begins_with, until, onward};
 ghost use Rattle.wap_url.specs.Characters.{is_hash};
-ghost use Rattle.wap_url.specs.Parts.{url_of, port_number, is_port};
-ghost use Rattle.wap_url.specs.Reading.{url_at, is_stop, has_bad_char, fragment_of};
-ghost use Rattle.wap_url.specs.Reading.{fault_of, passes_if_there};
+ghost use Rattle.wap_url.specs.UrlParts.{url_of, port_number, is_port};
+ghost use Rattle.wap_url.specs.Calculation.{url_at, is_stop, has_bad_char, fragment_of};
+ghost use Rattle.wap_url.specs.Calculation.{fault_of, passes_if_there};
 ghost use Rattle.wap_url.specs.inside.Slices.{parts_in};
 
 use crate::checks::{fault_in, number_of};
@@ -21,7 +21,7 @@ use wap_base::{NoMemory, Text};
 impl Url {
     ghost use Rattle.wap_url.specs.declared.url.Url.{Url};
     ghost use Rattle.wap_url.specs.declared.fault.UrlFault.{UrlFault};
-    ghost use Rattle.wap_url.specs.Parts.{IsUrl};
+    ghost use Rattle.wap_url.specs.UrlParts.{IsUrl};
     ghost use Rattle.wap_url.specs.Refusal.{IsRefused};
     ghost use Rattle.wap_url.specs.Printing.{IsNormal};
 

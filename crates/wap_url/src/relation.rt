@@ -1,7 +1,7 @@
 //! A URL as seen from another.
 ghost use Rattle.std.specs.Prelude.{◌≡◌, IfOk, MatchOption, [], IsTrue, ◌↔◌};
 ghost use Rattle.std.specs.Str.{chars};
-ghost use Rattle.wap_url.specs.Reading.{begins_with_slashes};
+ghost use Rattle.wap_url.specs.Calculation.{begins_with_slashes};
 ghost use Rattle.wap_url.specs.Segments.{segments, all_but_last, last_segment};
 ghost use Rattle.wap_url.specs.Relative.{relative_form, local_path, same_folder, same_site};
 ghost use Rattle.wap_url.specs.Relative.{stands_alone, same_text, IsPage, LeadsBack};

@@ -2,5 +2,5 @@ pub mod WorkedRows
 pub mod Shifts
 pub mod Range
 pub mod Names
-pub mod Reading
+pub mod NumberLaws
 pub mod Kept

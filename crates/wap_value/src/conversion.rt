@@ -26,7 +26,7 @@ pub fn to_int(value: &Value) -> Option<i32>
 
 // A call, so that Integers are taken where they stand.
 #[inline(never)]
-#[tactic(auto, using(crate::proofs::Reading::spelled_is_read))]
+#[tactic(auto, using(crate::proofs::NumberLaws::spelled_is_read))]
 fn spelled_integer(text: &Text) -> Option<i32>
     ensures { result ≡ integer_of_text text.now }
 {

@@ -26,7 +26,7 @@ use Rattle.wap_unit.specs.Units.{IsConstant, IsUnit}
 use Rattle.wap_verify.specs.declared.step.Step.{Step}
 use Rattle.wap_verify.specs.declared.fault.VerifyFault.{VerifyFault}
 use Rattle.wap_verify.specs.declared.fault.VerifyFault.TheVariants as fault
-use Rattle.wap_verify.specs.Steps.{operand_fault, checked, instr_read, step_by, step_at}
+use Rattle.wap_verify.specs.CodePlaces.{operand_fault, checked, instr_read, step_by, step_at}
 use Rattle.wap_verify.specs.Sound.{is_aimed, IsSound, IsRoom, IsVerified}
 use Rattle.wap_verify.specs.Faults.{IsFunctionFault, item, target, underflow}
 use Rattle.wap_verify.specs.Faults.{depths, IsFault, pragma, function}

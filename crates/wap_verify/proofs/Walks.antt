@@ -14,7 +14,7 @@ use Rattle.wap_verify.specs.declared.step.Step.{Step}
 use Rattle.wap_verify.specs.declared.step.Way.{Way}
 use Rattle.wap_verify.specs.declared.fault.VerifyFault.{VerifyFault}
 use Rattle.wap_verify.specs.declared.fault.VerifyFault.TheVariants as fault
-use Rattle.wap_verify.specs.Steps.{step_at}
+use Rattle.wap_verify.specs.CodePlaces.{step_at}
 use Rattle.wap_verify.specs.Sound.{Runs, leads_within, has_target, is_aimed, IsSplit}
 use Rattle.wap_verify.specs.Faults.{IsFunctionFault, target}
 use Rattle.wap_verify.specs.inside.Work.{is_place, leads_to_mark, is_marked_step}

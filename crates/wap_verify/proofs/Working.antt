@@ -15,7 +15,7 @@ use Rattle.wap_verify.specs.declared.step.Step.{Step}
 use Rattle.wap_verify.specs.declared.step.Way.{Way}
 use Rattle.wap_verify.specs.declared.fault.VerifyFault.{VerifyFault}
 use Rattle.wap_verify.specs.declared.fault.VerifyFault.TheVariants as fault
-use Rattle.wap_verify.specs.Steps.{way_behind, way_on, step_at}
+use Rattle.wap_verify.specs.CodePlaces.{way_behind, way_on, step_at}
 use Rattle.wap_verify.specs.Paths.{Stand, HasWay, Leads, IsPath, Reaches}
 use Rattle.wap_verify.specs.Sound.{Runs, leads_within, has_target, is_aimed}
 use Rattle.wap_verify.specs.Sound.{IsSplit, IsSound, IsRoom}

@@ -8,7 +8,7 @@ use Rattle.wap_unit.specs.declared.unit.Code.{Code}
 use Rattle.wap_verify.specs.declared.step.Step.{Step}
 use Rattle.wap_verify.specs.declared.fault.VerifyFault.{VerifyFault}
 use Rattle.wap_verify.specs.declared.fault.VerifyFault.TheVariants as fault
-use Rattle.wap_verify.specs.Steps.{step_at}
+use Rattle.wap_verify.specs.CodePlaces.{step_at}
 use Rattle.wap_verify.specs.Paths.{Reaches}
 use Rattle.wap_verify.specs.Sound.{Runs, is_aimed, IsSplit, stray_pragma, AreSound}
 

@@ -1,4 +1,4 @@
-pub mod Steps
+pub mod CodePlaces
 pub mod Paths
 pub mod Sound
 pub mod Faults

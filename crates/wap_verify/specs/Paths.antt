@@ -5,7 +5,7 @@ use Rattle.wap_unit.specs.declared.unit.Unit.{Unit}
 use Rattle.wap_unit.specs.declared.unit.Code.{Code}
 use Rattle.wap_verify.specs.declared.step.Step.{Step}
 use Rattle.wap_verify.specs.declared.step.Way.{Way}
-use Rattle.wap_verify.specs.Steps.{way_on, step_at}
+use Rattle.wap_verify.specs.CodePlaces.{way_on, step_at}
 
 -- a place of the code and a number of values
 abbrev pub Stand : Type 0

@@ -9,7 +9,7 @@ use Rattle.wap_unit.specs.declared.instr.Instr.{Instr}
 use Rattle.wap_unit.specs.Instructions.{row_of, read_row}
 use Rattle.wap_verify.specs.declared.step.Step.{Step}
 use Rattle.wap_verify.specs.declared.step.Way.{Way}
-use Rattle.wap_verify.specs.Steps.{operand_fault, step_at}
+use Rattle.wap_verify.specs.CodePlaces.{operand_fault, step_at}
 use Rattle.wap_verify.specs.Paths.{HasWay, Reaches}
 use Rattle.wap_verify.specs.Sound.{IsVerified}
 

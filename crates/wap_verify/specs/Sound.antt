@@ -10,7 +10,7 @@ use Rattle.wap_unit.specs.Strings.{is_string}
 use Rattle.wap_verify.specs.declared.step.Step.{Step}
 use Rattle.wap_verify.specs.declared.step.Way.{Way}
 use Rattle.wap_verify.specs.declared.fault.VerifyFault.{VerifyFault}
-use Rattle.wap_verify.specs.Steps.{step_at}
+use Rattle.wap_verify.specs.CodePlaces.{step_at}
 use Rattle.wap_verify.specs.Paths.{Reaches}
 
 -- from one place to another the code is instructions at these places, one after the other, each

@@ -1,6 +1,6 @@
 //! Which units may be run: a test, what it says, and its law.
 //!
-//! - `runnable`: Whether a unit may be run, as a test on the unit alone that takes no memory.
+//! - `runnable`: Whether a unit may be run, as a test on the unit alone. It runs nothing.
 #![tactic(auto)]
 
 mod depths;

@@ -1,9 +1,9 @@
 //! What stands at a place of a function's code, with its operands looked at.
 ghost use Rattle.std.specs.Prelude.{◌≡◌, ◌+◌, ◌<◌, ◌≤◌, ◌^◌, length, slice_index, IfOk, IfSome};
 ghost use Rattle.wap_unit.specs.Instructions.{row_of, read_row};
-ghost use Rattle.wap_verify.specs.Steps.{arguments, values_taken, operand_fault, way_to};
-ghost use Rattle.wap_verify.specs.Steps.{way_on, step_of, pair, is_conditional_forward};
-ghost use Rattle.wap_verify.specs.Steps.{jump_by, pair_at, is_pair, fine_at, step_at};
+ghost use Rattle.wap_verify.specs.CodePlaces.{arguments, values_taken, operand_fault, way_to};
+ghost use Rattle.wap_verify.specs.CodePlaces.{way_on, step_of, pair, is_conditional_forward};
+ghost use Rattle.wap_verify.specs.CodePlaces.{jump_by, pair_at, is_pair, fine_at, step_at};
 ghost use Rattle.wap_verify.specs.inside.Work.{GoesOn};
 
 use crate::VerifyFault;
@@ -178,7 +178,7 @@ fn is_pair(after: After) -> bool
 }
 
 /// The short-circuit at a place, with the jump that has to stand next.
-#[tactic(auto, unfolding(crate::specs::Steps::pair_at))]
+#[tactic(auto, unfolding(crate::specs::CodePlaces::pair_at))]
 fn pair_at(
     function: u8,
     code: &[u8],
@@ -206,7 +206,7 @@ fn pair_at(
 }
 
 /// What stands at a place where there is this instruction, whose operands are in range.
-#[tactic(auto, unfolding(crate::specs::Steps::fine_at))]
+#[tactic(auto, unfolding(crate::specs::CodePlaces::fine_at))]
 fn fine_at(
     unit: &Unit,
     index: u8,
@@ -230,7 +230,7 @@ fn fine_at(
 }
 
 /// What stands at a place of the function with this index, or the first fault there.
-#[tactic(auto, unfolding(crate::specs::Steps::step_at))]
+#[tactic(auto, unfolding(crate::specs::CodePlaces::step_at))]
 #[inline(always)]
 pub(crate) fn step_at(
     unit: &Unit,

@@ -27,14 +27,14 @@ use Rattle.wap_tokens.specs.markup.Grammar.{IsInstruction, attribute_of, piece_o
 use Rattle.wap_tokens.specs.markup.Grammar.{on_attribute_page}
 use Rattle.wap_wbxml.specs.declared.fault.DocFault.{DocFault}
 use Rattle.wap_wbxml.specs.declared.fault.DocFault.TheVariants as doc
-use Rattle.wap_wbxml.specs.reading.Steps.{Reading, told}
+use Rattle.wap_wbxml.specs.reading.ByteReading.{Reading, told}
 use Rattle.wap_wbxml.specs.Places.{Input, place_before}
 use Rattle.wap_wbxml.specs.reading.Fronts.{lead_in, lead_at, inline_at, indexed_at, character_at}
 use Rattle.wap_tokens.specs.markup.Codes.{is_end}
-use Rattle.wap_wbxml.specs.reading.Parts.{no_token, as_none, as_short, leaf_at, start_at}
-use Rattle.wap_wbxml.specs.reading.Parts.{some_piece, piece_from, piece_led, next_piece}
-use Rattle.wap_wbxml.specs.reading.Parts.{pieces_at, attribute_behind, next_attribute}
-use Rattle.wap_wbxml.specs.reading.Parts.{attributes_at, end_from, end_at, instruction_at}
+use Rattle.wap_wbxml.specs.reading.BodyReading.{no_token, as_none, as_short, leaf_at, start_at}
+use Rattle.wap_wbxml.specs.reading.BodyReading.{some_piece, piece_from, piece_led, next_piece}
+use Rattle.wap_wbxml.specs.reading.BodyReading.{pieces_at, attribute_behind, next_attribute}
+use Rattle.wap_wbxml.specs.reading.BodyReading.{attributes_at, end_from, end_at, instruction_at}
 use Rattle.wap_wbxml.specs.Refusals.{Anything, RefusedThen}
 use Rattle.wap_tokens.specs.markup.Codes.{begins_piece}
 use Rattle.wap_wbxml.specs.Refusal.{RefusedLead, RefusedLeaf, NoToken, RefusedStart}

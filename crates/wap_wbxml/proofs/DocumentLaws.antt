@@ -30,10 +30,10 @@ use Rattle.wap_tokens.specs.markup.Documents.{IsOuter, IsRootBehind, IsRoot, fir
 use Rattle.wap_tokens.specs.markup.Documents.{out_of_root, IsBody, IsDocumentOf}
 use Rattle.wap_wbxml.specs.declared.fault.DocFault.{DocFault}
 use Rattle.wap_wbxml.specs.declared.fault.DocFault.TheVariants as doc
-use Rattle.wap_wbxml.specs.reading.Steps.{Reading, some, told}
+use Rattle.wap_wbxml.specs.reading.ByteReading.{Reading, some, told}
 use Rattle.wap_wbxml.specs.Places.{Input, place}
 use Rattle.wap_wbxml.specs.reading.Fronts.{opaque_at}
-use Rattle.wap_wbxml.specs.reading.Parts.{as_none, instruction_at}
+use Rattle.wap_wbxml.specs.reading.BodyReading.{as_none, instruction_at}
 use Rattle.wap_wbxml.specs.Places.{input_of}
 use Rattle.wap_wbxml.specs.reading.Whole.{version_at, identifier_from, identifier_at, or_no_charset}
 use Rattle.wap_wbxml.specs.reading.Whole.{charset_at, or_not_public, public_of, outer_from}

@@ -20,12 +20,12 @@ use Rattle.wap_tokens.specs.markup.Grammar.{Elements, IsTagBehind, IsKidBehind, 
 use Rattle.wap_tokens.specs.markup.Grammar.{IsElementOf, IsElement}
 use Rattle.wap_wbxml.specs.declared.fault.DocFault.{DocFault}
 use Rattle.wap_wbxml.specs.declared.fault.DocFault.TheVariants as doc
-use Rattle.wap_wbxml.specs.reading.Steps.{Reading, some, told}
+use Rattle.wap_wbxml.specs.reading.ByteReading.{Reading, some, told}
 use Rattle.wap_wbxml.specs.Places.{Input, place_before}
 use Rattle.wap_wbxml.specs.reading.Fronts.{lead_at}
-use Rattle.wap_wbxml.specs.reading.Parts.{no_token, as_short, leaf_at, instruction_at}
-use Rattle.wap_wbxml.specs.reading.Parts.{attributes_at, tag_at, when, ElementReader, kid_from}
-use Rattle.wap_wbxml.specs.reading.Parts.{next_kid, kids_at, element_by, element_at}
+use Rattle.wap_wbxml.specs.reading.BodyReading.{no_token, as_short, leaf_at, instruction_at}
+use Rattle.wap_wbxml.specs.reading.BodyReading.{attributes_at, tag_at, when, ElementReader, kid_from}
+use Rattle.wap_wbxml.specs.reading.BodyReading.{next_kid, kids_at, element_by, element_at}
 use Rattle.wap_wbxml.specs.Refusals.{Refusal, Anything, RefusedThen}
 use Rattle.wap_wbxml.specs.Refusal.{RefusedLead, RefusedUnless, RefusedTag, RefusedWhen}
 use Rattle.wap_wbxml.specs.Refusal.{ElementRefusal, RefusedKidBehind, RefusedKid}

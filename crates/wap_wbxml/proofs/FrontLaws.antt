@@ -18,7 +18,7 @@ use Rattle.wap_tokens.specs.markup.Charsets.{is_character}
 use Rattle.wap_tokens.specs.markup.Grammar.{IsLead, IsOpaque, IsCharacter}
 use Rattle.wap_wbxml.specs.declared.fault.DocFault.{DocFault}
 use Rattle.wap_wbxml.specs.declared.fault.DocFault.TheVariants as doc
-use Rattle.wap_wbxml.specs.reading.Steps.{Reading}
+use Rattle.wap_wbxml.specs.reading.ByteReading.{Reading}
 use Rattle.wap_wbxml.specs.Places.{place}
 use Rattle.wap_wbxml.specs.reading.Fronts.{switched_in, or_short, lead_at, number_from}
 use Rattle.wap_wbxml.specs.reading.Fronts.{number_at, opaque_at, character_from}

@@ -10,9 +10,9 @@ use Rattle.wap_tokens.specs.declared.markup.mark.Lead.{Lead}
 use Rattle.wap_tokens.specs.markup.Spellings.{Then}
 use Rattle.wap_tokens.specs.markup.Grammar.{IsLead}
 use Rattle.wap_wbxml.specs.declared.fault.DocFault.{DocFault}
-use Rattle.wap_wbxml.specs.reading.Steps.{Reading, Next, some, told, chained}
+use Rattle.wap_wbxml.specs.reading.ByteReading.{Reading, Next, some, told, chained}
 use Rattle.wap_wbxml.specs.reading.Fronts.{lead_in, or_short, lead_at}
-use Rattle.wap_wbxml.specs.reading.Parts.{as_short}
+use Rattle.wap_wbxml.specs.reading.BodyReading.{as_short}
 use Rattle.wap_wbxml.specs.Refusals.{Refusal, Anything, RefusedThen}
 use Rattle.wap_wbxml.specs.Refusal.{RefusedLead, RefusedUnless}
 use Rattle.wap_wbxml.proofs.Readings.{Reads, pair_same, joined, no_fault, no_value}

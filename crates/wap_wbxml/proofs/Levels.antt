@@ -3,7 +3,7 @@ use Rattle.std.proofs.Common.{◌≡◌, ℕ, zero, suc, ◌-◌, ◌<◌, List,
 use Rattle.wap_tokens.specs.declared.markup.mark.Lead.{Lead}
 use Rattle.wap_tokens.specs.markup.Grammar.{State}
 use Rattle.wap_wbxml.specs.Places.{Input}
-use Rattle.wap_wbxml.specs.reading.Parts.{element_by, element_at}
+use Rattle.wap_wbxml.specs.reading.BodyReading.{element_by, element_at}
 
 pub deeper : (input : Input) (levels : ℕ) (before : State) (lead : Lead) (bytes : List ℕ)
     → 0 < levels

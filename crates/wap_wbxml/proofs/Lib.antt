@@ -12,3 +12,4 @@ pub mod ElementLaws
 pub mod DocumentLaws
 pub mod Answering
 pub mod SpellingLemmas
+pub mod FaultNames

@@ -2,7 +2,7 @@
 use Rattle.std.proofs.Common.{◌≡◌, ℕ, suc, ◌+◌, ◌-◌, ◌<◌, List, [], ◌∷◌, ◌++◌, Option, Some}
 use Rattle.std.proofs.Common.{Ok, Err, refl, sym, ap, ◌∙◌, append_assoc, arith}
 use Rattle.wap_base.specs.Outcome.{◌>>=◌}
-use Rattle.wap_wbxml.specs.reading.Steps.{Reading, Next, told, chained, run_at}
+use Rattle.wap_wbxml.specs.reading.ByteReading.{Reading, Next, told, chained, run_at}
 
 -- what was read before, and what is still read
 abbrev pub with_front : {A S : Type 0} → List A → Reading (List A × S) → Reading (List A × S)

@@ -8,7 +8,7 @@ use Rattle.wap_tokens.specs.markup.Spellings.{Then, Told, Given, Never}
 use Rattle.wap_wbxml.specs.declared.fault.DocFault.{DocFault}
 use Rattle.wap_wbxml.specs.Refusals.{Refusal, NotRefused, EitherRefused}
 use Rattle.wap_wbxml.specs.Refusals.{BehindWhole, RefusedThen, Anything}
-use Rattle.wap_wbxml.specs.reading.Steps.{Reading, told}
+use Rattle.wap_wbxml.specs.reading.ByteReading.{Reading, told}
 
 -- A value that was read is spelled by a prefix of the bytes, and it ends there; what is so spelled
 -- is read; a fault is a refusal; and what is refused is a fault.

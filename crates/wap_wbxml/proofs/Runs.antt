@@ -8,7 +8,7 @@ use Rattle.wap_base.proofs.Choices.{bind_ok, bind_err}
 use Rattle.wap_tokens.specs.markup.Spellings.{Many, none, more, ManyOf, Ended}
 use Rattle.wap_wbxml.specs.declared.fault.DocFault.{DocFault}
 use Rattle.wap_wbxml.specs.Refusals.{Refusal, RefusedAmong, here, later, Anything}
-use Rattle.wap_wbxml.specs.reading.Steps.{Reading, Next, told, chained, run_at, all_by}
+use Rattle.wap_wbxml.specs.reading.ByteReading.{Reading, Next, told, chained, run_at, all_by}
 use Rattle.wap_wbxml.proofs.Readings.{Reads, pair_same, joined, no_fault}
 
 -- the laws of a reading of the next item, or of none at a stop

@@ -16,7 +16,7 @@ use Rattle.wap_tokens.specs.markup.Strings.{Strings, IsInline, IsIndexed, is_not
 use Rattle.wap_tokens.specs.markup.Grammar.{State, IsCounted, IsName, counted, table_size}
 use Rattle.wap_wbxml.specs.declared.fault.DocFault.{DocFault}
 use Rattle.wap_wbxml.specs.declared.fault.DocFault.TheVariants as doc
-use Rattle.wap_wbxml.specs.reading.Steps.{Reading, told}
+use Rattle.wap_wbxml.specs.reading.ByteReading.{Reading, told}
 use Rattle.wap_wbxml.specs.Places.{Input, place_before}
 use Rattle.wap_base.specs.Charsets.{text_in}
 use Rattle.wap_wbxml.specs.reading.Fronts.{number_at, or_no_text, zero_place, behind_zero}

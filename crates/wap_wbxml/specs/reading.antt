@@ -1,4 +1,4 @@
-pub mod Steps
+pub mod ByteReading
 pub mod Fronts
-pub mod Parts
+pub mod BodyReading
 pub mod Whole

@@ -4,9 +4,9 @@ ghost use Rattle.wap_base.specs.Outcome.{Meets};
 ghost use Rattle.wap_wbxml.specs.declared.fault.DocFault.TheVariants.{NoMemory};
 ghost use Rattle.wap_tokens.specs.markup.Codes.{attribute_mark};
 ghost use Rattle.wap_tokens.specs.markup.Codes.{is_end};
-ghost use Rattle.wap_wbxml.specs.reading.Parts.{start_at, next_piece, pieces_at, attribute_behind};
-ghost use Rattle.wap_wbxml.specs.reading.Parts.{next_attribute, attributes_at, when, end_at};
-ghost use Rattle.wap_wbxml.specs.reading.Parts.{instruction_at};
+ghost use Rattle.wap_wbxml.specs.reading.BodyReading.{start_at, next_piece, pieces_at, attribute_behind};
+ghost use Rattle.wap_wbxml.specs.reading.BodyReading.{next_attribute, attributes_at, when, end_at};
+ghost use Rattle.wap_wbxml.specs.reading.BodyReading.{instruction_at};
 
 use crate::DocFault;
 use crate::fronts::{find_lead, read_lead, read_name};
@@ -19,7 +19,7 @@ use wap_base::Rows;
 use wap_tokens::markup::{Attr, AttributeMark, Lead, Piece, Token};
 
 /// A processing instruction after its byte: one attribute and an end.
-#[tactic(auto, unfolding(crate::specs::reading::Parts::instruction_at))]
+#[tactic(auto, unfolding(crate::specs::reading::BodyReading::instruction_at))]
 pub fn read_instruction<'a>(
     alloc: Global,
     input: &Input<'_>,
@@ -36,7 +36,7 @@ pub fn read_instruction<'a>(
 }
 
 /// What follows an end, which the bytes have to begin with.
-#[tactic(auto, unfolding(crate::specs::reading::Parts::end_at))]
+#[tactic(auto, unfolding(crate::specs::reading::BodyReading::end_at))]
 fn read_end<'a>(input: &Input<'_>, state: &State, bytes: &'a [u8]) -> Result<&'a [u8], DocFault>
     ensures { Meets NoMemory (λ rest. rest.now) result
         (end_at input.now.total state.now bytes.now) }
@@ -91,7 +91,7 @@ fn read_attributes<'a>(
 }
 
 /// The next attribute, or none after the end.
-#[tactic(auto, unfolding(crate::specs::reading::Parts::next_attribute))]
+#[tactic(auto, unfolding(crate::specs::reading::BodyReading::next_attribute))]
 fn next_attribute<'a>(
     alloc: Global,
     input: &Input<'_>,
@@ -117,7 +117,7 @@ pub fn is_end(mark: AttributeMark) -> bool
 }
 
 /// An attribute after the byte that it begins with: its start, and its value.
-#[tactic(auto, unfolding(crate::specs::reading::Parts::attribute_behind))]
+#[tactic(auto, unfolding(crate::specs::reading::BodyReading::attribute_behind))]
 fn read_attribute<'a>(
     alloc: Global,
     input: &Input<'_>,
@@ -140,7 +140,7 @@ fn read_attribute<'a>(
 }
 
 /// An attribute's start after the byte that it begins with.
-#[tactic(auto, unfolding(crate::specs::reading::Parts::start_at))]
+#[tactic(auto, unfolding(crate::specs::reading::BodyReading::start_at))]
 pub fn read_start<'a>(
     alloc: Global,
     input: &Input<'_>,
@@ -190,7 +190,7 @@ pub fn read_pieces<'a>(
 }
 
 /// The next part of a value, or none before an end, an attribute or what can't stand here.
-#[tactic(auto, unfolding(crate::specs::reading::Parts::next_piece))]
+#[tactic(auto, unfolding(crate::specs::reading::BodyReading::next_piece))]
 fn next_piece<'a>(
     alloc: Global,
     input: &Input<'_>,

@@ -3,8 +3,8 @@ ghost use Rattle.std.specs.Prelude.{◌≡◌};
 ghost use Rattle.wap_base.specs.Outcome.{Meets};
 ghost use Rattle.wap_wbxml.specs.declared.fault.DocFault.TheVariants.{NoMemory};
 ghost use Rattle.wap_tokens.specs.markup.Codes.{is_named};
-ghost use Rattle.wap_wbxml.specs.reading.Parts.{tag_at, when, next_kid, kids_at};
-ghost use Rattle.wap_wbxml.specs.reading.Parts.{element_by, element_at};
+ghost use Rattle.wap_wbxml.specs.reading.BodyReading.{tag_at, when, next_kid, kids_at};
+ghost use Rattle.wap_wbxml.specs.reading.BodyReading.{element_by, element_at};
 
 use crate::DocFault;
 use crate::attributes::{read_attributes_when, read_instruction};
@@ -19,7 +19,7 @@ use wap_tokens::markup::{ContentMark, Element, Kid, Lead, Token};
 
 /// An element of so many levels at most, after the byte of its tag.
 #[cycle(elements)]
-#[tactic(auto, unfolding(crate::specs::reading::Parts::element_at))]
+#[tactic(auto, unfolding(crate::specs::reading::BodyReading::element_at))]
 pub(crate) fn read_element<'a>(
     alloc: Global,
     input: &Input<'_>,
@@ -41,7 +41,7 @@ pub(crate) fn read_element<'a>(
 
 /// An element in which elements of so many levels may stand, after the byte of its tag.
 #[cycle(elements)]
-#[tactic(auto, unfolding(crate::specs::reading::Parts::element_by))]
+#[tactic(auto, unfolding(crate::specs::reading::BodyReading::element_by))]
 fn read_parts<'a>(
     alloc: Global,
     input: &Input<'_>,
@@ -69,7 +69,7 @@ fn read_parts<'a>(
 }
 
 /// A tag after its byte.
-#[tactic(auto, unfolding(crate::specs::reading::Parts::tag_at))]
+#[tactic(auto, unfolding(crate::specs::reading::BodyReading::tag_at))]
 pub fn read_tag<'a>(
     alloc: Global,
     input: &Input<'_>,
@@ -133,7 +133,7 @@ fn read_kids<'a>(
 
 /// The next part of some content, or none after its end.
 #[cycle(elements)]
-#[tactic(auto, unfolding(crate::specs::reading::Parts::next_kid))]
+#[tactic(auto, unfolding(crate::specs::reading::BodyReading::next_kid))]
 fn next_kid<'a>(
     alloc: Global,
     input: &Input<'_>,

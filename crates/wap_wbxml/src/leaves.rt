@@ -3,7 +3,7 @@ ghost use Rattle.std.specs.Prelude.{◌≡◌};
 ghost use Rattle.wap_base.specs.Outcome.{Meets};
 ghost use Rattle.wap_tokens.specs.markup.Grammar.{leaf_of, piece_of, kid_of};
 ghost use Rattle.wap_wbxml.specs.declared.fault.DocFault.TheVariants.{NoMemory};
-ghost use Rattle.wap_wbxml.specs.reading.Parts.{leaf_at};
+ghost use Rattle.wap_wbxml.specs.reading.BodyReading.{leaf_at};
 
 use crate::DocFault;
 use crate::fronts::{read_character, read_indexed, read_inline, read_opaque};
@@ -13,7 +13,7 @@ use wap_base::{Bytes, Text};
 use wap_tokens::markup::{Kid, Leaf, LeafMark, Piece, Role};
 
 /// A string, a character, a reference, an extension or opaque data, after the byte that says so.
-#[tactic(auto, unfolding(crate::specs::reading::Parts::leaf_at))]
+#[tactic(auto, unfolding(crate::specs::reading::BodyReading::leaf_at))]
 pub fn read_leaf<'a>(
     alloc: Global,
     input: &Input<'_>,

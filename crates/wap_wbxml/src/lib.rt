@@ -12,6 +12,7 @@ mod header;
 mod input;
 mod leaves;
 mod marks;
+mod printing;
 pub mod spelling;
 mod state;
 
@@ -24,5 +25,6 @@ pub use header::{find_public, read_charset, read_identifier, read_version};
 pub use input::Input;
 pub use leaves::read_leaf;
 pub use marks::{attribute_mark, content_mark, has_attributes, has_content};
+pub use printing::{document_fault_text, print_document_fault};
 pub use state::State;
 pub use wap_tokens::markup::{Attr, Document, Element, Kid, Piece, Token};

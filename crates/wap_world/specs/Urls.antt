@@ -6,7 +6,7 @@ use Rattle.std.specs.Option.{option_map_or}
 use Rattle.wap_base.specs.Texts.{is_same_text}
 use Rattle.wap_url.specs.declared.url.Url.{Url}
 use Rattle.wap_url.specs.declared.fault.UrlFault.{UrlFault}
-use Rattle.wap_url.specs.Reading.{url_at}
+use Rattle.wap_url.specs.Calculation.{url_at}
 use Rattle.wap_url.specs.Joining.{joined}
 use Rattle.wap_url.specs.Printing.{text_without_fragment}
 use Rattle.wap_world.specs.declared.refusal.Refusal.{Refusal}

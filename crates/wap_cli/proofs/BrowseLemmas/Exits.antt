@@ -12,7 +12,7 @@ use Rattle.wap_keys.specs.declared.ending.Ending.TheVariants as way
 use Rattle.wap_keys.specs.declared.ending.Next.TheVariants as next
 use Rattle.wap_keys.specs.Lines.{Keys, keys_of}
 use Rattle.wap_keys.specs.Read.{AreFirst, HasGiven, IsRead}
-use Rattle.wap_keys.specs.Reading.{Reading, Answers, GivesUp, CountsFaults}
+use Rattle.wap_keys.specs.KeyReaders.{Reading, Answers, GivesUp, CountsFaults}
 use Rattle.wap_keys.proofs.ReaderLaws.{begun as nothing_read, given_of, gives_up_at_once}
 use Rattle.wap_keys.proofs.WholeLaws.{known_of, few_of, some_rest, none_left}
 use Rattle.wap_keys.proofs.FaultLaws.{ended_counts}

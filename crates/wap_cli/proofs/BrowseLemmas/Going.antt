@@ -10,7 +10,7 @@ use Rattle.wap_devices.proofs.Transfers.{Appends-then, Appends-nil}
 use Rattle.wap_base.specs.declared.key.Key.{Key}
 use Rattle.wap_base.specs.declared.key.Key.TheVariants.{Open}
 use Rattle.wap_keys.specs.declared.ending.Next.TheVariants as next
-use Rattle.wap_keys.specs.Reading.{Reading, HasRead, Answers}
+use Rattle.wap_keys.specs.KeyReaders.{Reading, HasRead, Answers}
 use Rattle.wap_world.specs.site.Pages.{Pages as JudgedPages}
 use Rattle.wap_world.specs.site.Misses.{Asked}
 use Rattle.wap_world.specs.site.Asking.{Stays, Asks}

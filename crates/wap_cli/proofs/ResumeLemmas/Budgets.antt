@@ -13,7 +13,7 @@ use Rattle.wap_base.specs.declared.key.Key.{Key}
 use Rattle.wap_base.specs.declared.key.Key.TheVariants as key
 use Rattle.wap_url.specs.declared.url.Url.{Url}
 use Rattle.wap_url.specs.declared.fault.UrlFault.{UrlFault}
-use Rattle.wap_url.specs.Reading.{url_at}
+use Rattle.wap_url.specs.Calculation.{url_at}
 use Rattle.wap_url.specs.Printing.{name_for}
 use Rattle.wap_value.specs.declared.value.Value.{Value}
 use Rattle.wap_value.specs.declared.value.Value.TheVariants.{Invalid}

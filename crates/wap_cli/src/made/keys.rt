@@ -7,7 +7,7 @@ use std::alloc::Global;
 use wap_base::{Key, NoMemory, Text};
 
 /// The key that opens the first deck, and so often the one that goes on to the next.
-#[tactic(auto, using(crate::proofs::MadeLemmas::Words::words))]
+#[tactic(auto, using(crate::proofs::MadeLemmas::KeyTexts::words))]
 pub(crate) fn keys_of(alloc: Global, count: usize) -> Result<Vec<Key>, NoMemory>
     ensures { IfOk result (λ keys. keys.items ≡ Open first_url ∷ replicate count onward) }
 {

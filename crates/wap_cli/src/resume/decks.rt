@@ -2,7 +2,7 @@
 ghost use Rattle.std.specs.Prelude.{◌≡◌, ◌<◌, ◌^◌, true, false, length, map, IfOk, Ok};
 ghost use Rattle.std.specs.Option.{option_to_list};
 ghost use Rattle.wap_url.specs.declared.url.Url.{Url};
-ghost use Rattle.wap_url.specs.Reading.{url_at};
+ghost use Rattle.wap_url.specs.Calculation.{url_at};
 ghost use Rattle.wap_url.specs.Printing.{name_for};
 ghost use Rattle.wap_image.specs.Items.{is_entry_text};
 ghost use Rattle.wap_image.specs.Rules.{AreParts};

@@ -10,7 +10,7 @@ use Rattle.wap_lex.specs.Tokens.{AreTokens}
 use Rattle.wap_lex.proofs.Unique.{one_list, one_fault, apart}
 use Rattle.wap_grammar.specs.declared.fault.ParseFault.{ParseFault}
 use Rattle.wap_grammar.specs.declared.precedence.TheConstants.{LEVEL_LIMIT}
-use Rattle.wap_grammar.specs.Words.{lexemes_of}
+use Rattle.wap_grammar.specs.Lexemes.{lexemes_of}
 use Rattle.wap_grammar.specs.Programs.{IsProgram}
 use Rattle.wap_grammar.specs.inside.Statements.{statement_at}
 use Rattle.wap_grammar.specs.inside.Programs.{program_at}

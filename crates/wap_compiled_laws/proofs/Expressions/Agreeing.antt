@@ -15,7 +15,7 @@ use Rattle.wap_unit.specs.declared.row.OpName.{OpName}
 use Rattle.wap_execution.specs.declared.action.Action.TheVariants.{Binary}
 use Rattle.wap_execution.specs.Actions.{action_of}
 use Rattle.wap_execution.specs.Effects.{Called, jumps_at}
-use Rattle.wap_meaning.specs.Parts.{Came, gave, over, Does, ◌>>=◌, give, load, store, kept, calling}
+use Rattle.wap_meaning.specs.SourceParts.{Came, gave, over, Does, ◌>>=◌, give, load, store, kept, calling}
 use Rattle.wap_meaning.specs.Expressions.{assigned, stepped, step_of, each_of, joined, chained}
 use Rattle.wap_meaning.specs.Expressions.{decides, as_boolean}
 use Rattle.wap_asm.specs.declared.form.Form.{Form}
@@ -25,7 +25,7 @@ use Rattle.wap_meaning.specs.coding.Coded.{jump_over}
 use Rattle.wap_meaning.specs.coding.Expressions.{load_code, store_code, assigned_code, binary_name}
 use Rattle.wap_meaning.specs.coding.Expressions.{joined_code, chain_code, cond_code, short_code}
 use Rattle.wap_meaning.specs.coding.Expressions.{step_code}
-use Rattle.wap_meaning.proofs.Steps.{give_keeps, load_keeps, store_keeps, kept_keeps, calling_keeps}
+use Rattle.wap_meaning.proofs.KeepingParts.{give_keeps, load_keeps, store_keeps, kept_keeps, calling_keeps}
 use Rattle.wap_meaning.proofs.Following.{Gave, from_gave, keeps_both}
 use Rattle.wap_meaning.specs.Keeping.{Keeps}
 use Rattle.wap_compiled_laws.proofs.Pieces.Pieces.{Sized, sized_both, Site, spot, onto, Piece, both}
@@ -35,9 +35,9 @@ use Rattle.wap_compiled_laws.proofs.Pieces.Instructions.{binary_piece}
 use Rattle.wap_compiled_laws.proofs.Pieces.Instructions.{pop_piece}
 use Rattle.wap_compiled_laws.proofs.Pieces.Jumps.{onto_shifts, branches, branches_piece}
 use Rattle.wap_compiled_laws.proofs.Pieces.Shorts.{short_piece}
-use Rattle.wap_compiled_laws.proofs.Pieces.Parts.{above, as_other, sized_one, assigned_piece}
-use Rattle.wap_compiled_laws.proofs.Pieces.Parts.{changed_piece}
-use Rattle.wap_compiled_laws.proofs.Pieces.Parts.{prefix_piece, postfix_piece, popped}
+use Rattle.wap_compiled_laws.proofs.Pieces.Assignments.{above, as_other, sized_one, assigned_piece}
+use Rattle.wap_compiled_laws.proofs.Pieces.Assignments.{changed_piece}
+use Rattle.wap_compiled_laws.proofs.Pieces.Assignments.{prefix_piece, postfix_piece, popped}
 use Rattle.wap_value.specs.declared.operator.UnOp.TheVariants as un
 use Rattle.wap_value.specs.declared.operator.BinOp.TheVariants as bin
 use Rattle.wap_unit.specs.declared.row.OpName.TheVariants as op

@@ -22,7 +22,7 @@ use Rattle.wap_grammar.specs.declared.program.expression.Expr.TheOpen.{Expr-F}
 use Rattle.wap_grammar.specs.declared.program.expression.Expr.TheFolds.{fold-roll-Expr, ind-Expr}
 use Rattle.wap_execution.specs.Frames.{constant_at}
 use Rattle.wap_execution.specs.Effects.{onward, effect_of}
-use Rattle.wap_meaning.specs.Parts.{Does, ◌>>=◌, give, kept, kept_by, calling}
+use Rattle.wap_meaning.specs.SourceParts.{Does, ◌>>=◌, give, kept, kept_by, calling}
 use Rattle.wap_meaning.specs.Names.{variable_at, function_at, numbers_of, callee_local}
 use Rattle.wap_meaning.specs.Names.{callee_external, callee_library, url_of}
 use Rattle.wap_meaning.specs.Expressions.{value_of, Around, eval_by, eval}
@@ -36,14 +36,14 @@ use Rattle.wap_compiled_laws.proofs.Pieces.Pieces.{Sized, sized_both, Site, onto
 use Rattle.wap_compiled_laws.proofs.Pieces.Pieces.{op_piece}
 use Rattle.wap_compiled_laws.proofs.Pieces.Instructions.{as_is, pushed, kept_settles, unary_piece}
 use Rattle.wap_compiled_laws.proofs.Pieces.Instructions.{binary_piece}
-use Rattle.wap_compiled_laws.proofs.Pieces.Parts.{piece_same, local_piece, library_piece}
-use Rattle.wap_compiled_laws.proofs.Pieces.Parts.{external_piece, popped}
+use Rattle.wap_compiled_laws.proofs.Pieces.Assignments.{piece_same, local_piece, library_piece}
+use Rattle.wap_compiled_laws.proofs.Pieces.Assignments.{external_piece, popped}
 use Rattle.wap_compiled_laws.proofs.Expressions.Agreeing.{Agrees, AllAgree, PairsAgree}
 use Rattle.wap_compiled_laws.proofs.Expressions.Agreeing.{assign_agrees, call_agrees}
 use Rattle.wap_compiled_laws.proofs.Expressions.Agreeing.{chain_agrees, change_agrees, cond_agrees}
 use Rattle.wap_compiled_laws.proofs.Expressions.Agreeing.{load_agrees}
 use Rattle.wap_compiled_laws.proofs.Expressions.Agreeing.{step_agrees}
-use Rattle.wap_meaning.proofs.Steps.{give_keeps, kept_keeps}
+use Rattle.wap_meaning.proofs.KeepingParts.{give_keeps, kept_keeps}
 use Rattle.wap_value.specs.declared.operator.UnOp.TheVariants as un
 use Rattle.wap_value.specs.declared.operator.BinOp.TheVariants as bin
 use Rattle.wap_unit.specs.declared.row.OpName.TheVariants as op

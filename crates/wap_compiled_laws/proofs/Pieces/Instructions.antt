@@ -15,7 +15,7 @@ use Rattle.wap_execution.specs.Effects.{Effect, onward, with_value, with_kept, s
 use Rattle.wap_execution.specs.Effects.{stuck as nowhere}
 use Rattle.wap_execution.specs.Outcomes.{stuck, Ended}
 use Rattle.wap_execution.specs.Running.{ended}
-use Rattle.wap_meaning.specs.Parts.{gave, over, Does, done, give, given, load, store, kept_by, kept}
+use Rattle.wap_meaning.specs.SourceParts.{gave, over, Does, done, give, given, load, store, kept_by, kept}
 use Rattle.wap_meaning.specs.coding.Coded.{Coded, plain, with_operand}
 use Rattle.wap_compiled_laws.proofs.Pieces.Standing.{at}
 use Rattle.wap_compiled_laws.proofs.Pieces.Pieces.{Site, settle, onto, Piece, op_piece}

@@ -7,7 +7,7 @@ use Rattle.wap_unit.specs.declared.row.OpName.{OpName}
 use Rattle.wap_execution.specs.Frames.{code_of}
 use Rattle.wap_execution.specs.Effects.{onward, jumps_at, effect_of}
 use Rattle.wap_execution.specs.Outcomes.{Ended}
-use Rattle.wap_meaning.specs.Parts.{Does, done, turn}
+use Rattle.wap_meaning.specs.SourceParts.{Does, done, turn}
 use Rattle.wap_asm.specs.declared.form.Form.TheVariants.{Jump, Label}
 use Rattle.wap_asm.specs.Placed.{JumpsOn}
 use Rattle.wap_asm.specs.Spellings.{operation_of}

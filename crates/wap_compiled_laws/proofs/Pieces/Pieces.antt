@@ -18,7 +18,7 @@ use Rattle.wap_execution.specs.Frames.{Function, Frame, code_of}
 use Rattle.wap_execution.specs.Effects.{Effect, effect_read, effect_with, effect_by, effect_at}
 use Rattle.wap_execution.specs.Outcomes.{Ended}
 use Rattle.wap_execution.specs.Running.{Onward, at_place, Calls}
-use Rattle.wap_meaning.specs.Parts.{Does, ◌>>=◌, done}
+use Rattle.wap_meaning.specs.SourceParts.{Does, ◌>>=◌, done}
 use Rattle.wap_asm.specs.declared.form.Form.{Form}
 use Rattle.wap_asm.specs.declared.form.Form.TheVariants.{Op, Label}
 use Rattle.wap_asm.specs.Placed.{Stands, IsPlaced}

@@ -19,7 +19,7 @@ use Rattle.wap_execution.specs.Frames.{Frame, code_of}
 use Rattle.wap_execution.specs.Effects.{onward, is_decided, decided, pair_with, pair_by}
 use Rattle.wap_execution.specs.Outcomes.{Ended}
 use Rattle.wap_execution.specs.Running.{at_place}
-use Rattle.wap_meaning.specs.Parts.{Does, done, give}
+use Rattle.wap_meaning.specs.SourceParts.{Does, done, give}
 use Rattle.wap_asm.specs.declared.form.Form.{Form}
 use Rattle.wap_asm.specs.declared.form.Form.TheVariants.{Op}
 use Rattle.wap_asm.specs.Placed.{Stands}

@@ -12,7 +12,7 @@ use Rattle.wap_execution.specs.Running.{ended, returned_by, Onward, Ways, at_pla
 use Rattle.wap_execution.specs.Running.{forward_by, looping_by, Calls}
 use Rattle.wap_execution.proofs.LawsLemmas.PlaceLaws.{IsBehind, leads_behind}
 use Rattle.wap_meaning.specs.Functions.{plain_ways}
-use Rattle.wap_meaning.specs.Parts.{turn, came_by, calling, done}
+use Rattle.wap_meaning.specs.SourceParts.{turn, came_by, calling, done}
 use Rattle.wap_execution.specs.laws.Forgetting.{forgotten}
 use Rattle.wap_meaning.specs.Keeping.{GiveNoTurns}
 use Rattle.wap_execution.proofs.LawsLemmas.Going.{going, goes_end, here, on_there, again_there}

@@ -30,9 +30,9 @@ use Rattle.wap_asm.specs.declared.form.Form.TheVariants.{Op, Jump, Label}
 use Rattle.wap_verify.specs.declared.step.Step.{Step}
 use Rattle.wap_verify.specs.declared.step.Way.{Way}
 use Rattle.wap_verify.specs.declared.fault.VerifyFault.TheVariants as fault
-use Rattle.wap_verify.specs.Steps.{values_taken, operand_fault, step_of, pair, pair_at, jump_by}
-use Rattle.wap_verify.specs.Steps.{jump_read, is_conditional_forward, is_pair, fine_at, checked}
-use Rattle.wap_verify.specs.Steps.{instr_read, step_by, step_at}
+use Rattle.wap_verify.specs.CodePlaces.{values_taken, operand_fault, step_of, pair, pair_at, jump_by}
+use Rattle.wap_verify.specs.CodePlaces.{jump_read, is_conditional_forward, is_pair, fine_at, checked}
+use Rattle.wap_verify.specs.CodePlaces.{instr_read, step_by, step_at}
 use Rattle.wap_verify.specs.Sound.{Runs, leads_within, has_target, is_aimed, IsSplit}
 use Rattle.wap_compiled_laws.proofs.Pieces.Pieces.{read_within}
 use Rattle.wap_compiled_laws.proofs.Depths.Flow.{Flow, goes, leaves, short, flow_of}

@@ -10,7 +10,7 @@ use Rattle.wap_unit.specs.declared.row.After.TheVariants.{On, Forward, Backward,
 use Rattle.wap_unit.specs.declared.row.Row.{Row}
 use Rattle.wap_unit.specs.declared.instr.Instr.{Instr}
 use Rattle.wap_verify.specs.declared.step.Step.{Step}
-use Rattle.wap_verify.specs.Steps.{step_of, pair, step_at}
+use Rattle.wap_verify.specs.CodePlaces.{step_of, pair, step_at}
 use Rattle.wap_verify.specs.Paths.{Stand, Reaches}
 use Rattle.wap_asm.specs.declared.form.Form.{Form}
 use Rattle.wap_asm.specs.declared.form.Form.TheVariants.{Op, Jump, Label}

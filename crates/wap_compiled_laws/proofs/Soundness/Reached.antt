@@ -13,7 +13,7 @@ use Rattle.wap_unit.specs.declared.row.Row.{Row}
 use Rattle.wap_unit.specs.declared.instr.Instr.{Instr}
 use Rattle.wap_verify.specs.declared.step.Step.{Step}
 use Rattle.wap_verify.specs.declared.step.Way.{Way}
-use Rattle.wap_verify.specs.Steps.{step_of, pair, step_at}
+use Rattle.wap_verify.specs.CodePlaces.{step_of, pair, step_at}
 use Rattle.wap_verify.specs.Paths.{Stand, HasWay, Leads, IsPath}
 use Rattle.wap_asm.specs.declared.form.Form.{Form}
 use Rattle.wap_asm.specs.declared.form.Form.TheVariants.{Op, Jump, Label}

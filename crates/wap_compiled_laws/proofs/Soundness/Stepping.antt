@@ -14,9 +14,9 @@ use Rattle.wap_unit.specs.declared.instr.Instr.{Instr}
 use Rattle.wap_unit.specs.Instructions.{read_row}
 use Rattle.wap_verify.specs.declared.step.Step.{Step}
 use Rattle.wap_verify.specs.declared.fault.VerifyFault.{VerifyFault}
-use Rattle.wap_verify.specs.Steps.{values_taken, operand_fault, step_of, pair, pair_at, jump_by}
-use Rattle.wap_verify.specs.Steps.{jump_read, is_conditional_forward, is_pair, fine_at, checked}
-use Rattle.wap_verify.specs.Steps.{instr_read, step_by, step_at}
+use Rattle.wap_verify.specs.CodePlaces.{values_taken, operand_fault, step_of, pair, pair_at, jump_by}
+use Rattle.wap_verify.specs.CodePlaces.{jump_read, is_conditional_forward, is_pair, fine_at, checked}
+use Rattle.wap_verify.specs.CodePlaces.{instr_read, step_by, step_at}
 use Rattle.wap_compiled_laws.proofs.Soundness.Spelled.{Stands}
 use Rattle.wap_compiled_laws.proofs.Depths.Flow.{goes, leaves, short}
 use Rattle.wap_compiled_laws.proofs.Soundness.Table.{Says, IsAs, row_is_as}

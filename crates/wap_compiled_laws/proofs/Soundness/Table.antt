@@ -11,7 +11,7 @@ use Rattle.wap_unit.specs.declared.row.Row.{Row}
 use Rattle.wap_unit.specs.declared.instr.Instr.{Instr}
 use Rattle.wap_unit.specs.Instructions.{has_code, row_of}
 use Rattle.wap_unit.specs.Rows.{rows}
-use Rattle.wap_verify.specs.Steps.{values_taken}
+use Rattle.wap_verify.specs.CodePlaces.{values_taken}
 use Rattle.wap_compiled_laws.proofs.Depths.Flow.{Flow, goes, leaves, short, flow_by}
 use Rattle.wap_unit.specs.declared.row.OpName.TheVariants as op
 

@@ -28,14 +28,14 @@ use Rattle.wap_lex.specs.Numbers as numbers
 use Rattle.wap_lex.specs.Numbers.{IsInteger, IsFloat}
 use Rattle.wap_lex.specs.Strings.{IsString, quoted}
 use Rattle.wap_lex.specs.Marks.{marks, is_mark}
-use Rattle.wap_lex.specs.Words.{is_reserved}
+use Rattle.wap_lex.specs.ReservedWords.{is_reserved}
 use Rattle.wap_lex.specs.Tokens.{IsShape, kind_of, token_before, Lexes, ends, piece, AreTokens}
 use Rattle.wap_grammar.specs.declared.lexeme.Lexeme.{Lexeme}
 use Rattle.wap_grammar.specs.declared.word.Word.{Word}
 use Rattle.wap_grammar.specs.declared.word.Word.TheVariants as word
 use Rattle.wap_grammar.specs.Values.{text_of}
-use Rattle.wap_grammar.specs.Words.{word_rows, word_spelled, word_of_kind, text_in, lexeme_of}
-use Rattle.wap_grammar.specs.Words.{lexemes_of}
+use Rattle.wap_grammar.specs.Lexemes.{word_rows, word_spelled, word_of_kind, text_in, lexeme_of}
+use Rattle.wap_grammar.specs.Lexemes.{lexemes_of}
 use Rattle.wap_grammar.proofs.Texts.{Textual, texts_of}
 use Rattle.wap_compiled_laws.proofs.SourceSizes.Strings.{text_short}
 

@@ -20,7 +20,7 @@ use Rattle.wap_grammar.specs.declared.word.Sign.TheVariants as signs
 use Rattle.wap_grammar.specs.Spellings.{token, name, sign, Several}
 use Rattle.wap_grammar.specs.Spellings as spelled
 use Rattle.wap_grammar.specs.Values.{text_of, integer_of, literal_of}
-use Rattle.wap_grammar.specs.Words.{text_in}
+use Rattle.wap_grammar.specs.Lexemes.{text_in}
 use Rattle.wap_grammar.specs.Programs.{IsAccess, IsProperty, IsUse}
 use Rattle.wap_grammar.specs.Programs as formed
 use Rattle.wap_meaning.specs.coding.Needs.{Need, Constant, Operator, Variable, Local, Other}

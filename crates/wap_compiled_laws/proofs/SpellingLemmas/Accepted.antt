@@ -22,7 +22,7 @@ use Rattle.wap_grammar.specs.Spellings as spelled
 use Rattle.wap_grammar.specs.Statements.{IsStatement}
 use Rattle.wap_grammar.specs.Programs.{IsUse, IsFunction, IsProgramOf}
 use Rattle.wap_grammar.specs.Programs as formed
-use Rattle.wap_grammar.specs.Words.{lexemes_of}
+use Rattle.wap_grammar.specs.Lexemes.{lexemes_of}
 use Rattle.wap_unit.specs.Spelling.{HasSpelling}
 use Rattle.wap_meaning.specs.Names.{Names, url_of, url_in, names_in}
 use Rattle.wap_meaning.specs.coding.Constants.{is_in, same_literal, with_literal, pooled}

@@ -25,8 +25,8 @@ use Rattle.wap_execution.specs.Actions.{action_of}
 use Rattle.wap_execution.specs.Effects.{Called, stored, jumps_at, effect_of}
 use Rattle.wap_execution.specs.Outcomes.{Outcome, value, exit, fatal, waits, stuck}
 use Rattle.wap_execution.specs.Running.{ended, Calls}
-use Rattle.wap_meaning.specs.Parts.{Came, gave, over, Does, from, ◌>>=◌, done, give, given, load}
-use Rattle.wap_meaning.specs.Parts.{store, kept, kept_by, turn, calling, called_with, came_by}
+use Rattle.wap_meaning.specs.SourceParts.{Came, gave, over, Does, from, ◌>>=◌, done, give, given, load}
+use Rattle.wap_meaning.specs.SourceParts.{store, kept, kept_by, turn, calling, called_with, came_by}
 use Rattle.wap_meaning.specs.Names.{Names, variable_at, callee_local, callee_external}
 use Rattle.wap_meaning.specs.Names.{callee_library}
 use Rattle.wap_meaning.specs.Expressions.{value_of, Around, decides, as_boolean, joined, chained}
@@ -40,7 +40,7 @@ use Rattle.wap_compiled_laws.proofs.Pieces.Pieces.{Site, spot, onto, Piece, near
 use Rattle.wap_compiled_laws.proofs.Pieces.Pieces.{op_here}
 use Rattle.wap_compiled_laws.proofs.Pieces.Instructions.{as_is, pushed, kept_settles}
 use Rattle.wap_compiled_laws.proofs.Pieces.Instructions.{stored_settles}
-use Rattle.wap_compiled_laws.proofs.Pieces.Parts.{from_from}
+use Rattle.wap_compiled_laws.proofs.Pieces.Assignments.{from_from}
 use Rattle.wap_compiled_laws.proofs.Expressions.Agreeing.{Agrees}
 use Rattle.wap_compiled_laws.proofs.Statements.Statements.{leaves}
 use Rattle.wap_value.specs.declared.operator.BinOp.TheVariants as bin

@@ -6,7 +6,7 @@ use Rattle.wap_value.specs.declared.value.Value.{Value}
 use Rattle.wap_value.specs.declared.value.Value.TheVariants.{Bool as Boolean}
 use Rattle.wap_execution.specs.Effects.{jumps_at}
 use Rattle.wap_execution.specs.Outcomes.{Ended}
-use Rattle.wap_meaning.specs.Parts.{Does, ◌>>=◌, done, give, turn}
+use Rattle.wap_meaning.specs.SourceParts.{Does, ◌>>=◌, done, give, turn}
 use Rattle.wap_meaning.specs.Statements.{Ending, goes_on, breaks, continues, returns, if_continues}
 use Rattle.wap_meaning.specs.Statements.{looped, loop}
 use Rattle.wap_meaning.specs.coding.Coded.{Exits, Coded, empty, one, ◌⨾◌, label, jump_over}
@@ -22,7 +22,7 @@ use Rattle.wap_compiled_laws.proofs.Pieces.Instructions.{as_is, pushed, nothing}
 use Rattle.wap_compiled_laws.proofs.Pieces.Jumps.{HasLabel, HasJump, label_here, test_here}
 use Rattle.wap_compiled_laws.proofs.Pieces.Jumps.{back_here, chosen}
 use Rattle.wap_compiled_laws.proofs.Expressions.Agreeing.{Agrees, choice_keeps}
-use Rattle.wap_meaning.proofs.Steps.{give_keeps, turn_keeps}
+use Rattle.wap_meaning.proofs.KeepingParts.{give_keeps, turn_keeps}
 use Rattle.wap_compiled_laws.proofs.Statements.Statements.{leaves, leaves_shifts, Runs}
 use Rattle.wap_unit.specs.declared.row.OpName.TheVariants as op
 

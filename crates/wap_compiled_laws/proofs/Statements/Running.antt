@@ -36,7 +36,7 @@ use Rattle.wap_compiled_laws.proofs.Statements.Statements.{choice_runs}
 use Rattle.wap_grammar.specs.declared.program.statement.Stmt.{Stmt, roll-Stmt, map-Stmt}
 use Rattle.wap_grammar.specs.declared.program.statement.Stmt.TheOpen.{Stmt-F}
 use Rattle.wap_grammar.specs.declared.program.statement.Stmt.TheFolds.{fold-roll-Stmt, ind-Stmt}
-use Rattle.wap_meaning.specs.Parts.{Came, gave, over, Does, from, give, done}
+use Rattle.wap_meaning.specs.SourceParts.{Came, gave, over, Does, from, give, done}
 use Rattle.wap_meaning.specs.Names.{variable_at}
 use Rattle.std.specs.Prelude.{if◌then◌else◌}
 use Rattle.wap_meaning.specs.coding.Constants.{Numbers}
@@ -45,7 +45,7 @@ use Rattle.wap_meaning.proofs.Following.{keeps_both}
 use Rattle.wap_compiled_laws.proofs.Pieces.Pieces.{sized_both, Site, spot, onto, Piece}
 use Rattle.wap_compiled_laws.proofs.Pieces.Instructions.{as_is, nothing}
 use Rattle.wap_compiled_laws.proofs.Expressions.Agreeing.{Agrees}
-use Rattle.wap_meaning.proofs.Steps.{give_keeps}
+use Rattle.wap_meaning.proofs.KeepingParts.{give_keeps}
 use Rattle.wap_compiled_laws.proofs.Expressions.Expressions.{around, Met, met_front, met_back}
 use Rattle.wap_compiled_laws.proofs.Expressions.Expressions.{agrees}
 use Rattle.wap_compiled_laws.proofs.Statements.Loops.{branch_runs, Tests, no_test, one_test}

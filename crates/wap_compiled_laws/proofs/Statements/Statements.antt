@@ -13,7 +13,7 @@ use Rattle.wap_execution.specs.Actions.{action_of}
 use Rattle.wap_execution.specs.Effects.{jumps_at, effect_of}
 use Rattle.wap_execution.specs.Outcomes.{value, Ended}
 use Rattle.wap_execution.specs.Running.{ended}
-use Rattle.wap_meaning.specs.Parts.{Came, Does, ◌>>=◌, done, give, load, store}
+use Rattle.wap_meaning.specs.SourceParts.{Came, Does, ◌>>=◌, done, give, load, store}
 use Rattle.wap_meaning.specs.Expressions.{assigned, stepped, step_of}
 use Rattle.wap_meaning.specs.Statements.{Ending, goes_on, breaks, continues, returns, if_goes_on}
 use Rattle.wap_meaning.specs.Statements.{and_then, in_order, dropped}
@@ -28,11 +28,11 @@ use Rattle.wap_compiled_laws.proofs.Pieces.Pieces.{front, behind, Sized, sized_b
 use Rattle.wap_compiled_laws.proofs.Pieces.Pieces.{After, onto}
 use Rattle.wap_compiled_laws.proofs.Pieces.Pieces.{Reaches, nearer, Piece, both, op_here, op_piece}
 use Rattle.wap_compiled_laws.proofs.Pieces.Instructions.{as_is, pushed, nothing, store_piece}
-use Rattle.wap_compiled_laws.proofs.Pieces.Parts.{from_same, from_from, piece_same, change_piece}
+use Rattle.wap_compiled_laws.proofs.Pieces.Assignments.{from_same, from_from, piece_same, change_piece}
 use Rattle.wap_compiled_laws.proofs.Pieces.Jumps.{HasLabel, jump_here, Shifts, branches}
 use Rattle.wap_compiled_laws.proofs.Pieces.Jumps.{branches_piece}
 use Rattle.wap_compiled_laws.proofs.Expressions.Agreeing.{Agrees, choice_keeps, sized_branches}
-use Rattle.wap_meaning.proofs.Steps.{give_keeps, load_keeps, store_keeps}
+use Rattle.wap_meaning.proofs.KeepingParts.{give_keeps, load_keeps, store_keeps}
 use Rattle.wap_unit.specs.declared.row.OpName.TheVariants as op
 
 module _ {S : Type 0} (site : Site S) where

@@ -47,7 +47,7 @@ use Rattle.wap_context.specs.Browsers.{Browser, IsOver}
 use Rattle.wap_context.specs.Pausing.{waits_of}
 use Rattle.wap_context.specs.Missing.{Missed}
 use Rattle.wap_context.specs.Sites.{fragment_call, IfOver}
-use Rattle.wap_context.specs.inside.Held.{show_at, begun_at}
+use Rattle.wap_context.specs.inside.AtHand.{show_at, begun_at}
 
 -- ---- whether a script is started
 

@@ -2,7 +2,7 @@
 ghost use Rattle.std.specs.Prelude.{◌≡◌, nat_eq, codes, if◌then◌else◌, IfOk, Ok};
 ghost use Rattle.std.specs.Option.{option_copied};
 ghost use Rattle.std.specs.List.{starts_with, ends_with};
-ghost use Rattle.wap_url.specs.Reading.{url_at};
+ghost use Rattle.wap_url.specs.Calculation.{url_at};
 ghost use Rattle.wap_execution.specs.declared.library.HostOut.TheVariants as out;
 ghost use Rattle.wap_libs.specs.Row.{argument};
 ghost use Rattle.wap_machine.specs.Hosts.{IsNoBudget};

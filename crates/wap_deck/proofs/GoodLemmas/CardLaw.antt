@@ -20,7 +20,7 @@ use Rattle.wap_deck.specs.good.Texts.{part_at, value_at, behind_value}
 use Rattle.wap_deck.specs.good.inside.Nodes.{item_by, node_at, item_at, front_node, IsRead}
 use Rattle.wap_deck.specs.good.inside.Nodes.{IsContent}
 use Rattle.wap_deck.specs.declared.good.cards.Place.{Place}
-use Rattle.wap_deck.specs.good.inside.Held.{deck_in, IsHeld, StandsAt, StandAt, tagged}
+use Rattle.wap_deck.specs.good.inside.KeptBytes.{deck_in, IsHeld, StandsAt, StandAt, tagged}
 use Rattle.wap_base.specs.declared.fault.NoMemory.{NoMemory}
 use Rattle.wap_deck.proofs.GoodLemmas.Runs.{fewer}
 use Rattle.wap_deck.proofs.GoodLemmas.Taking.{item_takes}

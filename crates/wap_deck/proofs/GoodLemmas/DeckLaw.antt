@@ -25,7 +25,7 @@ use Rattle.wap_wbxml.specs.spelling.Spellable.{IsSpellable, HasTexts}
 use Rattle.wap_deck.specs.good.inside.Nodes.{node_at}
 use Rattle.wap_deck.specs.good.Characters.{OfNode}
 use Rattle.wap_deck.specs.good.inside.Header.{HasTable}
-use Rattle.wap_deck.specs.good.inside.Held.{table_in, deck_in, IsHeld}
+use Rattle.wap_deck.specs.good.inside.KeptBytes.{table_in, deck_in, IsHeld}
 use Rattle.wap_wbxml.proofs.SpellingLemmas.Growing.{grows_same}
 use Rattle.wap_wbxml.proofs.SpellingLemmas.Tables.{length-table}
 use Rattle.wap_deck.proofs.GoodLemmas.Opening.{seen}

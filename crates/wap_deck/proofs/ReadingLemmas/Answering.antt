@@ -15,8 +15,8 @@ use Rattle.wap_wbxml.specs.reading.Whole.{typed_at, document_at, whole_at, all_o
 use Rattle.wap_wbxml.proofs.DocumentLaws.{document_takes, document_again}
 use Rattle.wap_wbxml.proofs.DocumentLaws.{document_stops, document_fails}
 use Rattle.wap_deck.proofs.DocumentsLemmas.Normality.{deck_is_normal}
-use Rattle.wap_wbxml.specs.reading.Steps.{Reading, told}
-use Rattle.wap_deck.specs.reading.inside.Parts.{alone_in}
+use Rattle.wap_wbxml.specs.reading.ByteReading.{Reading, told}
+use Rattle.wap_deck.specs.reading.inside.DocumentParts.{alone_in}
 use Rattle.wap_deck.specs.reading.Meanings.{IsMeant, meaning, deck_at}
 
 -- nothing after the document, or the fault that there is something

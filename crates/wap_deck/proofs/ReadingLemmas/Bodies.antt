@@ -11,13 +11,13 @@ use Rattle.wap_tokens.specs.markup.Decks.{deck_of}
 use Rattle.wap_tokens.specs.markup.Documents.{first_state, into_root, out_of_root}
 use Rattle.wap_tokens.specs.markup.Grammar.{State}
 use Rattle.wap_wbxml.specs.Places.{Input, input_of}
-use Rattle.wap_wbxml.specs.reading.Steps.{Reading, told}
+use Rattle.wap_wbxml.specs.reading.ByteReading.{Reading, told}
 use Rattle.wap_wbxml.specs.reading.Fronts.{opaque_at}
 use Rattle.wap_wbxml.specs.reading.Whole.{version_at, identifier_at, charset_at, public_of}
 use Rattle.wap_wbxml.specs.reading.Whole.{outers_at, root_at, body_at, whole_at}
 use Rattle.wap_wbxml.specs.reading.Whole as whole
 use Rattle.wap_deck.specs.reading.inside.Gathering.{read_as}
-use Rattle.wap_deck.specs.reading.inside.Parts.{root_node, rooted, root_node_at}
+use Rattle.wap_deck.specs.reading.inside.DocumentParts.{root_node, rooted, root_node_at}
 
 -- what stands after the root is left out
 outers_dropped : (root : Element) (outers : Reading (List Attr × State))

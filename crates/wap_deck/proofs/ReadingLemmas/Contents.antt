@@ -18,13 +18,13 @@ use Rattle.wap_tokens.specs.markup.Decks.{KidLevel, part_marks, piece_part, mark
 use Rattle.wap_tokens.specs.markup.Decks.{kids_marks, element_marks}
 use Rattle.wap_tokens.specs.markup.Grammar.{State, on_tag_page, piece_of, kid_of, of_kid}
 use Rattle.wap_wbxml.specs.Places.{Input}
-use Rattle.wap_wbxml.specs.reading.Steps.{Reading, told, some}
+use Rattle.wap_wbxml.specs.reading.ByteReading.{Reading, told, some}
 use Rattle.wap_wbxml.specs.reading.Fronts.{lead_at}
-use Rattle.wap_wbxml.specs.reading.Parts.{leaf_at, instruction_at, kid_from, next_kid, element_at}
+use Rattle.wap_wbxml.specs.reading.BodyReading.{leaf_at, instruction_at, kid_from, next_kid, element_at}
 use Rattle.wap_deck.specs.documents.inside.Adding.{marks_after}
 use Rattle.wap_deck.proofs.DocumentsLemmas.Joining.{marks_after_append}
 use Rattle.wap_deck.specs.reading.inside.Gathering.{read_as, gathered, with_next}
-use Rattle.wap_deck.specs.reading.inside.Parts.{element_added, kid_added, kids_added}
+use Rattle.wap_deck.specs.reading.inside.DocumentParts.{element_added, kid_added, kids_added}
 
 -- all kids after items
 pub kids_gathered : (levels : ℕ) (items : List Item) (kids : List Kid)

@@ -21,14 +21,14 @@ use Rattle.wap_tokens.specs.markup.Decks.{kids_marks, element_marks}
 use Rattle.wap_tokens.specs.markup.Grammar.{State, on_tag_page, element_of}
 use Rattle.wap_wbxml.specs.declared.fault.DocFault.{DocFault}
 use Rattle.wap_wbxml.specs.Places.{Input}
-use Rattle.wap_wbxml.specs.reading.Steps.{Reading, told}
-use Rattle.wap_wbxml.specs.reading.Parts.{tag_at, when, attributes_at, kids_at}
-use Rattle.wap_wbxml.specs.reading.Parts.{element_by, element_at}
+use Rattle.wap_wbxml.specs.reading.ByteReading.{Reading, told}
+use Rattle.wap_wbxml.specs.reading.BodyReading.{tag_at, when, attributes_at, kids_at}
+use Rattle.wap_wbxml.specs.reading.BodyReading.{element_by, element_at}
 use Rattle.wap_deck.specs.documents.inside.Adding.{marks_after}
 use Rattle.wap_deck.proofs.DocumentsLemmas.Joining.{added_to_none}
 use Rattle.wap_deck.specs.reading.inside.Gathering.{read_as}
-use Rattle.wap_deck.specs.reading.inside.Parts.{element_added, kids_added, node_of}
-use Rattle.wap_deck.specs.reading.inside.Parts.{node_at, content_at, root_node}
+use Rattle.wap_deck.specs.reading.inside.DocumentParts.{element_added, kids_added, node_of}
+use Rattle.wap_deck.specs.reading.inside.DocumentParts.{node_at, content_at, root_node}
 
 module _ (levels : ℕ) (lead : Lead) (token : Token) where
   -- an element of this tag

@@ -15,10 +15,10 @@ use Rattle.wap_tokens.specs.markup.Decks.{start_of, value_after, attribute, attr
 use Rattle.wap_tokens.specs.markup.Codes.{attribute_mark}
 use Rattle.wap_tokens.specs.markup.Grammar.{State, on_attribute_page, attribute_of}
 use Rattle.wap_wbxml.specs.Places.{Input}
-use Rattle.wap_wbxml.specs.reading.Steps.{Reading, told}
-use Rattle.wap_wbxml.specs.reading.Parts.{start_at, pieces_at, attribute_behind}
+use Rattle.wap_wbxml.specs.reading.ByteReading.{Reading, told}
+use Rattle.wap_wbxml.specs.reading.BodyReading.{start_at, pieces_at, attribute_behind}
 use Rattle.wap_deck.specs.reading.inside.Gathering.{read_as, gathered}
-use Rattle.wap_deck.specs.reading.inside.Parts.{attribute_added}
+use Rattle.wap_deck.specs.reading.inside.DocumentParts.{attribute_added}
 
 -- the attributes of a node
 abbrev Attributes : Type 0

@@ -3,7 +3,7 @@ use Rattle.std.proofs.Common.{◌≡◌, ℕ, zero, suc, ◌+◌, ◌-◌, ◌<�
 use Rattle.std.proofs.Common.{Option, Some, None, Ok, Err, refl, sym, ap, ◌∙◌, arith}
 use Rattle.wap_base.specs.Outcome.{◌>>=◌}
 use Rattle.wap_wbxml.specs.declared.fault.DocFault.{DocFault}
-use Rattle.wap_wbxml.specs.reading.Steps.{Reading, Next, told, chained, run_at}
+use Rattle.wap_wbxml.specs.reading.ByteReading.{Reading, Next, told, chained, run_at}
 use Rattle.wap_deck.specs.reading.inside.Gathering.{read_as, gathered, with_next, gone_on}
 use Rattle.wap_deck.specs.reading.inside.Gathering.{gather_at}
 

@@ -6,7 +6,7 @@ use Rattle.wap_tokens.specs.declared.markup.document.Piece.{Piece}
 use Rattle.wap_tokens.specs.markup.Decks.{value_after}
 use Rattle.wap_deck.proofs.DocumentsLemmas.Joining.{value_after_added}
 use Rattle.wap_deck.specs.reading.inside.Gathering.{gathered}
-use Rattle.wap_deck.specs.reading.inside.Parts.{piece_added}
+use Rattle.wap_deck.specs.reading.inside.DocumentParts.{piece_added}
 
 -- pieces after those before them
 more_pieces : (text : List ℕ) (known pieces : List Piece)

@@ -23,9 +23,9 @@ use Rattle.wap_wbxml.specs.spelling.Spelling.{bit, bits, attr_spelling, kid_spel
 use Rattle.wap_wbxml.specs.spelling.Spelling.{element_spelling}
 use Rattle.wap_wbxml.specs.spelling.inside.Written.{written}
 use Rattle.wap_wbxml.proofs.SpellingLemmas.Appending.{in_turn, each_none}
-use Rattle.wap_deck.specs.writing.inside.Parts.{part_spelling, content_bit, has_any}
+use Rattle.wap_deck.specs.writing.inside.WrittenTexts.{part_spelling, content_bit, has_any}
 use Rattle.wap_deck.proofs.WritingLemmas.Lists.{each_one, each_flat}
-use Rattle.wap_deck.proofs.WritingLemmas.Parts.{opened, parts_kids}
+use Rattle.wap_deck.proofs.WritingLemmas.PiecesAndKids.{opened, parts_kids}
 
 -- ---- whether content follows
 

@@ -7,7 +7,7 @@ use Rattle.std.specs.List.{flat_map}
 use Rattle.std.proofs.Math.Seq.{drop-cons}
 use Rattle.wap_base.specs.declared.name.Part.TheVariants.{Lit}
 use Rattle.wap_tokens.specs.markup.Writing.{run_before, runs_of, run_kid, part_kids}
-use Rattle.wap_deck.specs.writing.inside.Parts.{has_any}
+use Rattle.wap_deck.specs.writing.inside.WrittenTexts.{has_any}
 
 -- ---- a literal
 

@@ -17,8 +17,8 @@ use Rattle.wap_wbxml.specs.spelling.Names.{place_of}
 use Rattle.wap_wbxml.specs.spelling.Spelling.{piece_spelling, attr_spelling}
 use Rattle.wap_wbxml.specs.spelling.inside.Written.{written}
 use Rattle.wap_wbxml.proofs.SpellingLemmas.Appending.{in_turn, written_none}
-use Rattle.wap_deck.specs.writing.inside.Parts.{part_spelling}
-use Rattle.wap_deck.proofs.WritingLemmas.Parts.{parts_pieces}
+use Rattle.wap_deck.specs.writing.inside.WrittenTexts.{part_spelling}
+use Rattle.wap_deck.proofs.WritingLemmas.PiecesAndKids.{parts_pieces}
 
 module _ (attribute : AttrName × List Part) where
   abbrev pieces : List Piece

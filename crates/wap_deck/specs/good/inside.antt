@@ -2,4 +2,4 @@ pub mod Header
 pub mod Nodes
 pub mod Starts
 pub mod Notes
-pub mod Held
+pub mod KeptBytes

@@ -6,7 +6,7 @@ ghost use Rattle.wap_deck.specs.good.Lent.{item_of};
 ghost use Rattle.wap_deck.specs.good.Readers.{all_of, IsBehind};
 ghost use Rattle.wap_deck.specs.good.inside.Nodes.{item_at, front_node, IsRead};
 ghost use Rattle.wap_deck.specs.good.inside.Notes.{AreNotes, AreLent};
-ghost use Rattle.wap_deck.specs.good.inside.Held.{deck_in, IsHeld, StandAt, tagged, IsKept};
+ghost use Rattle.wap_deck.specs.good.inside.KeptBytes.{deck_in, IsHeld, StandAt, tagged, IsKept};
 
 use crate::good::children::next_child;
 use crate::good::head::kids_begin;

@@ -49,7 +49,7 @@ impl Model for GoodDeck {
 
     ghost coded = { Prim.hlevel (codes, item.the_row.coded) };
 
-    ghost use Rattle.wap_deck.specs.good.inside.Held.{deck_in, IsKept};
+    ghost use Rattle.wap_deck.specs.good.inside.KeptBytes.{deck_in, IsKept};
 
     ghost view = { λ good. deck_in good.table good.root good.bytes };
 

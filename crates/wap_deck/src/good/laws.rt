@@ -11,7 +11,7 @@ ghost use Rattle.wap_wbxml.specs.spelling.Spellable.{IsSpellable};
 ghost use Rattle.wap_deck.specs.good.Characters.{OfNode};
 ghost use Rattle.wap_deck.specs.declared.good.laws.TheConstants.{HEADER_LENGTH};
 ghost use Rattle.wap_deck.specs.good.inside.Header.{HasTable};
-ghost use Rattle.wap_deck.specs.good.inside.Held.{IsHeld, table_in, deck_in};
+ghost use Rattle.wap_deck.specs.good.inside.KeptBytes.{IsHeld, table_in, deck_in};
 
 /// How many bytes stand before the length of the string table in what is written for a deck: the
 /// version, the public identifier and the character set take one each.

@@ -5,10 +5,10 @@ ghost use Rattle.std.specs.Str.{chars};
 ghost use Rattle.wap_base.specs.Outcome.{Meets};
 ghost use Rattle.wap_tokens.specs.markup.Decks.{attribute, value_after};
 ghost use Rattle.wap_wbxml.specs.declared.fault.DocFault.TheVariants.{NoMemory};
-ghost use Rattle.wap_wbxml.specs.reading.Parts.{pieces_at, attribute_behind};
-ghost use Rattle.wap_wbxml.specs.reading.Parts.{next_attribute, attributes_at, when};
+ghost use Rattle.wap_wbxml.specs.reading.BodyReading.{pieces_at, attribute_behind};
+ghost use Rattle.wap_wbxml.specs.reading.BodyReading.{next_attribute, attributes_at, when};
 ghost use Rattle.wap_deck.specs.reading.inside.Gathering.{read_as, with_next};
-ghost use Rattle.wap_deck.specs.reading.inside.Parts.{attribute_added};
+ghost use Rattle.wap_deck.specs.reading.inside.DocumentParts.{attribute_added};
 
 use crate::documents::{rows_for, start_of};
 use crate::reading::rows::add_to_few;
@@ -61,7 +61,7 @@ fn read_attributes<'a>(
 }
 
 /// Adds the next attribute, if it is known, and says whether there was one before the end.
-#[tactic(auto, unfolding(wap_wbxml::specs::reading::Parts::next_attribute))]
+#[tactic(auto, unfolding(wap_wbxml::specs::reading::BodyReading::next_attribute))]
 fn add_next_attribute<'a>(
     alloc: Global,
     input: &Input<'_>,
@@ -82,7 +82,7 @@ fn add_next_attribute<'a>(
 }
 
 /// Adds an attribute, if it is known, after the byte that it begins with.
-#[tactic(auto, unfolding(wap_wbxml::specs::reading::Parts::attribute_behind))]
+#[tactic(auto, unfolding(wap_wbxml::specs::reading::BodyReading::attribute_behind))]
 fn add_attribute<'a>(
     alloc: Global,
     input: &Input<'_>,

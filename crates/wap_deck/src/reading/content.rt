@@ -3,11 +3,11 @@ ghost use Rattle.std.specs.Prelude.{◌≡◌, suc, [], ◌∷◌, ◌++◌};
 ghost use Rattle.wap_base.specs.Outcome.{Meets};
 ghost use Rattle.wap_tokens.specs.declared.markup.deck.Item.{Item};
 ghost use Rattle.wap_wbxml.specs.declared.fault.DocFault.TheVariants.{NoMemory};
-ghost use Rattle.wap_wbxml.specs.reading.Parts.{when, next_kid, kids_at};
-ghost use Rattle.wap_wbxml.specs.reading.Parts.{element_by, element_at};
+ghost use Rattle.wap_wbxml.specs.reading.BodyReading.{when, next_kid, kids_at};
+ghost use Rattle.wap_wbxml.specs.reading.BodyReading.{element_by, element_at};
 ghost use Rattle.wap_deck.specs.reading.inside.Gathering.{read_as, with_next};
-ghost use Rattle.wap_deck.specs.reading.inside.Parts.{element_added, kid_added, kids_added};
-ghost use Rattle.wap_deck.specs.reading.inside.Parts.{node_at, content_at};
+ghost use Rattle.wap_deck.specs.reading.inside.DocumentParts.{element_added, kid_added, kids_added};
+ghost use Rattle.wap_deck.specs.reading.inside.DocumentParts.{node_at, content_at};
 
 use crate::documents::{add_text, rows_for, tag_in};
 use crate::reading::attributes::read_attributes_when;
@@ -23,7 +23,7 @@ use wap_wbxml::{
 
 /// Adds what an element of so many levels at most gives, after the byte of its tag.
 #[cycle(content)]
-#[tactic(auto, unfolding(wap_wbxml::specs::reading::Parts::element_at))]
+#[tactic(auto, unfolding(wap_wbxml::specs::reading::BodyReading::element_at))]
 fn add_element<'a>(
     alloc: Global,
     input: &Input<'_>,
@@ -48,7 +48,7 @@ fn add_element<'a>(
 /// Adds what an element gives in which elements of so many levels may stand, after the byte of its
 /// tag: a node, or its content where the tag isn't known.
 #[cycle(content)]
-#[tactic(auto, unfolding(wap_wbxml::specs::reading::Parts::element_by))]
+#[tactic(auto, unfolding(wap_wbxml::specs::reading::BodyReading::element_by))]
 fn add_parts<'a>(
     alloc: Global,
     input: &Input<'_>,
@@ -93,7 +93,7 @@ fn add_node<'a>(
 
 /// A node of this tag, after the byte and the name of the tag.
 #[cycle(content)]
-#[tactic(auto, unfolding(crate::specs::reading::inside::Parts::node_at))]
+#[tactic(auto, unfolding(crate::specs::reading::inside::DocumentParts::node_at))]
 pub(crate) fn read_node<'a>(
     alloc: Global,
     input: &Input<'_>,
@@ -116,7 +116,7 @@ pub(crate) fn read_node<'a>(
 /// Adds the content of an element whose tag isn't known, after the byte and the name of the tag.
 /// Its attributes are read and left out.
 #[cycle(content)]
-#[tactic(auto, unfolding(crate::specs::reading::inside::Parts::content_at))]
+#[tactic(auto, unfolding(crate::specs::reading::inside::DocumentParts::content_at))]
 fn add_content<'a>(
     alloc: Global,
     input: &Input<'_>,
@@ -186,7 +186,7 @@ fn add_items<'a>(
 
 /// Adds what the next part of some content gives, and says whether there was one before the end.
 #[cycle(content)]
-#[tactic(auto, unfolding(wap_wbxml::specs::reading::Parts::next_kid))]
+#[tactic(auto, unfolding(wap_wbxml::specs::reading::BodyReading::next_kid))]
 fn add_next_kid<'a>(
     alloc: Global,
     input: &Input<'_>,

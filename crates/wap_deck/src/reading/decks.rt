@@ -9,12 +9,12 @@ ghost use Rattle.wap_tokens.specs.markup.Normal.{IsNormal};
 ghost use Rattle.wap_wbxml.specs.declared.fault.DocFault.{DocFault};
 ghost use Rattle.wap_wbxml.specs.declared.fault.DocFault.TheVariants.{NoMemory};
 ghost use Rattle.wap_wbxml.specs.Refusal.{IsRefused};
-ghost use Rattle.wap_wbxml.specs.reading.Steps.{told};
-ghost use Rattle.wap_wbxml.specs.reading.Parts.{element_at};
+ghost use Rattle.wap_wbxml.specs.reading.ByteReading.{told};
+ghost use Rattle.wap_wbxml.specs.reading.BodyReading.{element_at};
 ghost use Rattle.wap_wbxml.specs.reading.Whole.{root_at, body_at, whole_at};
 ghost use Rattle.wap_deck.specs.reading.Meanings.{IsMeant, deck_at};
 ghost use Rattle.wap_deck.specs.reading.inside.Gathering.{read_as};
-ghost use Rattle.wap_deck.specs.reading.inside.Parts.{root_node, root_node_at, alone_in};
+ghost use Rattle.wap_deck.specs.reading.inside.DocumentParts.{root_node, root_node_at, alone_in};
 
 use crate::documents::tag_in;
 use crate::reading::content::read_node;
@@ -75,7 +75,7 @@ fn read_whole(alloc: Global, total: usize, bytes: &[u8]) -> Result<(Deck, &[u8])
 }
 
 /// The node of the root, with processing instructions before and after it, which are dropped.
-#[tactic(auto, unfolding(crate::specs::reading::inside::Parts::root_node_at))]
+#[tactic(auto, unfolding(crate::specs::reading::inside::DocumentParts::root_node_at))]
 fn read_body<'a>(
     alloc: Global,
     input: &Input<'_>,

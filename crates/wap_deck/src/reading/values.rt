@@ -5,9 +5,9 @@ ghost use Rattle.wap_base.specs.Outcome.{Meets};
 ghost use Rattle.wap_tokens.specs.markup.Decks.{piece_part, value_after};
 ghost use Rattle.wap_tokens.specs.markup.Grammar.{piece_of};
 ghost use Rattle.wap_wbxml.specs.declared.fault.DocFault.TheVariants as fault;
-ghost use Rattle.wap_wbxml.specs.reading.Parts.{next_piece, pieces_at};
+ghost use Rattle.wap_wbxml.specs.reading.BodyReading.{next_piece, pieces_at};
 ghost use Rattle.wap_deck.specs.reading.inside.Gathering.{read_as, with_next};
-ghost use Rattle.wap_deck.specs.reading.inside.Parts.{piece_added};
+ghost use Rattle.wap_deck.specs.reading.inside.DocumentParts.{piece_added};
 
 use crate::documents::{add_any, begin_value, character, decode_part, literal, reference};
 use std::alloc::Global;
@@ -52,7 +52,7 @@ pub(crate) fn read_value<'a>(
 
 /// Adds what the next piece of a value gives, and says whether there was one. There is none before
 /// an end, an attribute or what can't stand here.
-#[tactic(auto, unfolding(wap_wbxml::specs::reading::Parts::next_piece))]
+#[tactic(auto, unfolding(wap_wbxml::specs::reading::BodyReading::next_piece))]
 fn add_next_piece<'a>(
     alloc: Global,
     input: &Input<'_>,

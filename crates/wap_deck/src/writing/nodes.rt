@@ -4,7 +4,7 @@ ghost use Rattle.wap_tokens.specs.markup.Writing.{item_kids, items_kids, node_ki
 ghost use Rattle.wap_wbxml.specs.spelling.Writings.{each, ended};
 ghost use Rattle.wap_wbxml.specs.spelling.Spelling.{bit, kid_spelling, element_spelling};
 ghost use Rattle.wap_wbxml.specs.spelling.inside.Written.{written};
-ghost use Rattle.wap_deck.specs.writing.inside.Parts.{content_bit, has_any};
+ghost use Rattle.wap_deck.specs.writing.inside.WrittenTexts.{content_bit, has_any};
 
 use crate::writing::attributes::write_attributes;
 use crate::writing::texts::{have_content, write_parts};

@@ -25,7 +25,7 @@ use Rattle.wap_execution.specs.Running.{finished, forward_by, looping_by, goes}
 use Rattle.wap_execution.specs.laws.Settings.{Counted, counting}
 use Rattle.wap_execution.specs.laws.Dialogs.{answered_by, continued, with_count}
 use Rattle.wap_execution.specs.laws.Bounds.{started, most_instructions}
-use Rattle.wap_execution.proofs.LawsLemmas.Parts.{followed, forward, looping}
+use Rattle.wap_execution.proofs.LawsLemmas.FrameRuns.{followed, forward, looping}
 use Rattle.wap_execution.proofs.LawsLemmas.GrowthLaws.{Grows, grows_keeps, continued_grows}
 use Rattle.wap_execution.proofs.LawsLemmas.RunLaws.{Keeps, Follows, EnterFollows, OnwardFollows}
 use Rattle.wap_execution.proofs.LawsLemmas.RunLaws.{followed_follows, forward_follows}

@@ -23,7 +23,7 @@ use Rattle.wap_execution.specs.Running.{resumed, finished, forward_by, looping_b
 use Rattle.wap_execution.specs.laws.Settings.{uncounted, Counted, counting}
 use Rattle.wap_execution.specs.laws.Dialogs.{answered_by, continued, alone, with_count}
 use Rattle.wap_execution.specs.laws.Counts.{without_count, AgreesUncounted}
-use Rattle.wap_execution.proofs.LawsLemmas.Parts.{followed, forward, looping}
+use Rattle.wap_execution.proofs.LawsLemmas.FrameRuns.{followed, forward, looping}
 
 module _ {S : Type 0} (limits : Limits) (host : Hosting S) where
   abbrev State : Type 0

@@ -16,7 +16,7 @@ use Rattle.wap_execution.specs.Running.{ended, returned_by, returned, Enter, Onw
 use Rattle.wap_execution.specs.Running.{Ways, ways_of, forward_by}
 use Rattle.wap_execution.specs.Running.{at_place, run_by, began, enter, run, resumed, finished}
 use Rattle.wap_execution.specs.Running.{looping_by, goes}
-use Rattle.wap_execution.proofs.LawsLemmas.Parts.{followed, forward, looping}
+use Rattle.wap_execution.proofs.LawsLemmas.FrameRuns.{followed, forward, looping}
 use Rattle.wap_execution.specs.laws.Instructions.{settled}
 use Rattle.wap_execution.proofs.LawsLemmas.Going.{TurnsFall, forward_here, forward_end}
 use Rattle.wap_execution.proofs.LawsLemmas.Going.{forward_past}

@@ -28,7 +28,7 @@ use Rattle.wap_execution.specs.laws.Settings.{uncounted}
 use Rattle.wap_execution.specs.laws.Keyed.{Answering, answered_in, keyed, gone_on}
 use Rattle.wap_execution.specs.laws.Keyed.{answered_each, AgreesKeyed}
 use Rattle.wap_execution.specs.laws.Keyed.{unrolled_by, GoesOnKeyed}
-use Rattle.wap_execution.proofs.LawsLemmas.Parts.{followed, forward, looping}
+use Rattle.wap_execution.proofs.LawsLemmas.FrameRuns.{followed, forward, looping}
 use Rattle.wap_execution.proofs.LawsLemmas.RunLaws.{Any, any_keeps, resumed_follows}
 use Rattle.wap_execution.proofs.LawsLemmas.RunLaws.{finished_follows}
 use Rattle.wap_execution.proofs.LawsLemmas.PlaceLaws.{IsBehind, leads_behind}

@@ -20,7 +20,7 @@ use Rattle.wap_execution.specs.Outcomes.{Outcome, value, exit, fatal, waits, stu
 use Rattle.wap_execution.specs.Running.{ended, returned_by, Enter, Onward, library_gave, entered}
 use Rattle.wap_execution.specs.Running.{called, at_place, run_by, began, enter, run, resumed}
 use Rattle.wap_execution.specs.Running.{finished, forward_by, looping_by, goes}
-use Rattle.wap_execution.proofs.LawsLemmas.Parts.{followed, forward, looping}
+use Rattle.wap_execution.proofs.LawsLemmas.FrameRuns.{followed, forward, looping}
 use Rattle.wap_execution.proofs.LawsLemmas.Going.{TurnsFall}
 
 -- ---- turns only fall, and a state's kin are kept

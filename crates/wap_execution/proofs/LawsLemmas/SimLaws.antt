@@ -23,7 +23,7 @@ use Rattle.wap_execution.specs.Running.{entered, called, at_place, forward_by, l
 use Rattle.wap_execution.specs.Running.{run_by, began, enter, run, resumed, finished}
 use Rattle.wap_execution.specs.laws.Settings.{uncounted}
 use Rattle.wap_execution.specs.laws.Simulation.{Stays, Both, AreAlike, ComeToSame, RunAlike}
-use Rattle.wap_execution.proofs.LawsLemmas.Parts.{followed, forward, looping}
+use Rattle.wap_execution.proofs.LawsLemmas.FrameRuns.{followed, forward, looping}
 use Rattle.wap_execution.proofs.LawsLemmas.RunLaws.{Keeps, Follows, EnterFollows, OnwardFollows}
 use Rattle.wap_execution.proofs.LawsLemmas.RunLaws.{returned_follows, library_follows}
 use Rattle.wap_execution.proofs.LawsLemmas.RunLaws.{entered_follows}

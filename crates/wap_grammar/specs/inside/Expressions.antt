@@ -14,11 +14,11 @@ use Rattle.wap_grammar.specs.declared.lexeme.Lexeme.{Lexeme}
 use Rattle.wap_grammar.specs.declared.precedence.TheConstants.{UNARY, CONDITIONAL}
 use Rattle.wap_grammar.specs.declared.precedence.TheConstants.{ASSIGNMENT, COMMA}
 use Rattle.wap_grammar.specs.declared.word.Sign.TheVariants as sign
-use Rattle.wap_grammar.specs.Words.{unary_of, step_of, assignment_of, operator_of}
-use Rattle.wap_grammar.specs.Words.{is_sign, is_name, is_comma}
+use Rattle.wap_grammar.specs.Lexemes.{unary_of, step_of, assignment_of, operator_of}
+use Rattle.wap_grammar.specs.Lexemes.{is_sign, is_name, is_comma}
 use Rattle.wap_grammar.specs.Values.{id_of, literal_of, called}
-use Rattle.wap_grammar.specs.inside.Steps.{Reading, word_of, span_of, after, syntax, nested}
-use Rattle.wap_grammar.specs.inside.Steps.{told, closed, id_at, Next, items_at}
+use Rattle.wap_grammar.specs.inside.TokenReading.{Reading, word_of, span_of, after, syntax, nested}
+use Rattle.wap_grammar.specs.inside.TokenReading.{told, closed, id_at, Next, items_at}
 
 -- expressions of a level of precedence, tightest first
 abbrev pub Reader : Type 0

@@ -13,11 +13,11 @@ use Rattle.wap_grammar.specs.declared.fault.ParseFault.{ParseFault}
 use Rattle.wap_grammar.specs.declared.lexeme.Lexeme.{Lexeme}
 use Rattle.wap_grammar.specs.declared.word.Sign.{Sign}
 use Rattle.wap_grammar.specs.declared.word.Sign.TheVariants as sign
-use Rattle.wap_grammar.specs.Words.{word_of, is_sign, is_text}
+use Rattle.wap_grammar.specs.Lexemes.{word_of, is_sign, is_text}
 use Rattle.wap_grammar.specs.Values.{text_of}
 use Rattle.wap_grammar.specs.Programs.{from_to}
-use Rattle.wap_grammar.specs.inside.Steps.{Reading, span_of, after, syntax, told}
-use Rattle.wap_grammar.specs.inside.Steps.{expect_at, closed, id_at, Next, items_at}
+use Rattle.wap_grammar.specs.inside.TokenReading.{Reading, span_of, after, syntax, told}
+use Rattle.wap_grammar.specs.inside.TokenReading.{expect_at, closed, id_at, Next, items_at}
 use Rattle.wap_grammar.specs.inside.Statements.{Statements, listed_at, block_at}
 
 unfoldable pub text_at : List ℕ → List Lexeme → Reading (List ℕ)

@@ -11,10 +11,10 @@ use Rattle.wap_grammar.specs.declared.word.Sign.{Sign}
 use Rattle.wap_grammar.specs.declared.word.Sign.TheVariants as sign
 use Rattle.wap_grammar.specs.declared.start.Start.{Start}
 use Rattle.wap_grammar.specs.declared.start.Start.TheVariants as start
-use Rattle.wap_grammar.specs.Words.{word_of, is_sign, is_comma, is_equals, start_of}
+use Rattle.wap_grammar.specs.Lexemes.{word_of, is_sign, is_comma, is_equals, start_of}
 use Rattle.wap_grammar.specs.Statements.{done_first}
-use Rattle.wap_grammar.specs.inside.Steps.{Reading, span_of, after, nested, told}
-use Rattle.wap_grammar.specs.inside.Steps.{expect_at, closed, id_at, Next, items_at}
+use Rattle.wap_grammar.specs.inside.TokenReading.{Reading, span_of, after, nested, told}
+use Rattle.wap_grammar.specs.inside.TokenReading.{expect_at, closed, id_at, Next, items_at}
 use Rattle.wap_grammar.specs.inside.Expressions.{Reader, expression_at}
 
 -- an item after a comma, or none

@@ -15,7 +15,7 @@ use Rattle.clap.specs.declared.error.Error.{Error}
 use Rattle.clap.specs.declared.error.kind.ErrorKind.TheVariants as kind
 use Rattle.clap.specs.declared.builder.command.Command.{Command}
 use Rattle.clap.specs.declared.parser.matches.ArgMatches.{ArgMatches}
-use Rattle.wap_keys.specs.words.Reading.{Use, uses_of}
+use Rattle.wap_keys.specs.words.Arguments.{Use, uses_of}
 use Rattle.wap_keys.specs.words.inside.Matching.{HasUses, AreMatched, AreTexts}
 use Rattle.wap_keys.proofs.WordsLemmas.Rules.{Spoken, rules, option_rules, app, shape, built_is}
 use Rattle.wap_keys.proofs.WordsLemmas.Rules.{named_simple, all_simple, all_free, none_early}

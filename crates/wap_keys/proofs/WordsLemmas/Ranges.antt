@@ -27,13 +27,13 @@ use Rattle.wap_keys.specs.declared.words.words.PageCommand.{PageCommand}
 use Rattle.wap_keys.specs.declared.words.word.Word.{Word}
 use Rattle.wap_keys.specs.declared.words.word.Word.TheVariants as word
 use Rattle.wap_keys.specs.words.Ranges.{HasRanges, BrowsesInRange}
-use Rattle.wap_keys.specs.words.Reading.{uses_of, text_of}
-use Rattle.wap_keys.specs.words.Words.{at_least, number_of, greatest_number, limits_by, browse_form}
-use Rattle.wap_keys.specs.words.Words.{browse_with, browse_by, browse_of, page_form, page_by}
-use Rattle.wap_keys.specs.words.Words.{page_of}
-use Rattle.wap_keys.specs.words.Words.{prepare_form, prepare_by, prepare_of, make_by, make_of}
-use Rattle.wap_keys.specs.words.Words.{replay_form, replay_with, replay_by, replay_of}
-use Rattle.wap_keys.specs.words.Words.{resume_form, resume_by, resume_of, command_by}
+use Rattle.wap_keys.specs.words.Arguments.{uses_of, text_of}
+use Rattle.wap_keys.specs.words.Commands.{at_least, number_of, greatest_number, limits_by, browse_form}
+use Rattle.wap_keys.specs.words.Commands.{browse_with, browse_by, browse_of, page_form, page_by}
+use Rattle.wap_keys.specs.words.Commands.{page_of}
+use Rattle.wap_keys.specs.words.Commands.{prepare_form, prepare_by, prepare_of, make_by, make_of}
+use Rattle.wap_keys.specs.words.Commands.{replay_form, replay_with, replay_by, replay_of}
+use Rattle.wap_keys.specs.words.Commands.{resume_form, resume_by, resume_of, command_by}
 
 -- what is there after a step was there before it
 bound_some : {A B : Type 0} (o : Option A) (next : A → Option B) (y : B)

@@ -19,7 +19,7 @@ use Rattle.clap.specs.declared.builder.value_parser.Reading.TheVariants as readi
 use Rattle.clap.specs.declared.parser.matches.ValueSource.TheVariants.{CommandLine}
 use Rattle.clap.specs.declared.error.kind.ErrorKind.TheVariants as kind
 use Rattle.clap.proofs.WalkLemmas.{list_any-map}
-use Rattle.wap_keys.specs.words.Reading.{Form, Use, is_given, is_option}
+use Rattle.wap_keys.specs.words.Arguments.{Form, Use, is_given, is_option}
 use Rattle.wap_keys.specs.words.inside.Matching.{app_by, option_named, row_of_use}
 
 abbrev pub ready : Text → Option Text → Option ℕ → Rule

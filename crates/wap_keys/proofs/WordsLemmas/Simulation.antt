@@ -13,9 +13,9 @@ use Rattle.clap.specs.Faults.{defaults_fault, default_fault, given_default_fault
 use Rattle.clap.specs.Faults.{check_fault, long_fault, use_fault}
 use Rattle.clap.specs.Kinds.{Kinds, check_kinds, or_else}
 use Rattle.clap.specs.declared.error.kind.ErrorKind.TheVariants as kind
-use Rattle.wap_keys.specs.words.Reading.{Use, Read, is_given, is_option, after_dashes, with_words}
-use Rattle.wap_keys.specs.words.Reading.{uses_in, uses_of, with_use, with_value, with_text}
-use Rattle.wap_keys.specs.words.Reading.{with_first}
+use Rattle.wap_keys.specs.words.Arguments.{Use, Read, is_given, is_option, after_dashes, with_words}
+use Rattle.wap_keys.specs.words.Arguments.{uses_in, uses_of, with_use, with_value, with_text}
+use Rattle.wap_keys.specs.words.Arguments.{with_first}
 use Rattle.wap_keys.specs.words.inside.Matching.{AreTexts}
 use Rattle.wap_keys.proofs.WordsLemmas.WordKinds.{IsPlain, IsShort, by_kind}
 use Rattle.wap_keys.proofs.WordsLemmas.Rules.{Spoken, positional, ready, option_rule, option_rules}

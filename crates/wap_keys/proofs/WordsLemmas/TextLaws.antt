@@ -5,15 +5,15 @@ use Rattle.std.specs.Borrow.{Bor}
 use Rattle.std.proofs.lemmas.List.{take_more, map-append}
 use Rattle.clap.specs.declared.parser.matches.ArgMatches.{ArgMatches}
 use Rattle.wap_keys.specs.declared.words.words.PageCommand.{PageCommand}
-use Rattle.wap_keys.specs.words.Words.{limits_by, browse_by, browse_of, resume_by, resume_of}
-use Rattle.wap_keys.specs.words.Words.{page_by, page_of, replay_by, replay_of}
-use Rattle.wap_keys.specs.words.Words.{prepare_by, prepare_of, make_by, make_of}
+use Rattle.wap_keys.specs.words.Commands.{limits_by, browse_by, browse_of, resume_by, resume_of}
+use Rattle.wap_keys.specs.words.Commands.{page_by, page_of, replay_by, replay_of}
+use Rattle.wap_keys.specs.words.Commands.{prepare_by, prepare_of, make_by, make_of}
 use Rattle.std.specs.Prelude.{encode_utf8_all, option_map, find, slice_get, option_and_then}
 use Rattle.std.specs.Prelude.{Option, Bool, true, false, Some, map, cond}
 use Rattle.std.specs.Str.{IsUtf8, bytes_eq}
 use Rattle.wap_base.specs.Texts.{is_same_text}
 use Rattle.clap.specs.Walk.{Text, Row, first_of}
-use Rattle.wap_keys.specs.words.Reading.{Use, text_of}
+use Rattle.wap_keys.specs.words.Arguments.{Use, text_of}
 use Rattle.wap_keys.specs.words.inside.Matching.{row_of_use, AreTexts, HasUses, AreMatched, text_in}
 
 -- one text more

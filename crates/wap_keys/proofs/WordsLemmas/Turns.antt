@@ -14,7 +14,7 @@ use Rattle.clap.specs.Faults.{bundle_fault, long_fault, positional_fault, stray_
 use Rattle.clap.specs.Faults.{bundle_step_fault, short_fault, use_fault}
 use Rattle.clap.specs.Kinds.{Kinds, or_else}
 use Rattle.clap.specs.declared.error.kind.ErrorKind.TheVariants as kind
-use Rattle.wap_keys.specs.words.Reading.{Use, is_equals, is_option}
+use Rattle.wap_keys.specs.words.Arguments.{Use, is_equals, is_option}
 use Rattle.wap_keys.proofs.WordsLemmas.WordKinds.{IsPlain, IsShort, first_flag}
 use Rattle.wap_keys.proofs.WordsLemmas.Rules.{Spoken, positional, positional_rule, option_rule}
 use Rattle.wap_keys.proofs.WordsLemmas.Rules.{rules, shape, option_found, option_missing}

@@ -9,7 +9,7 @@ use Rattle.clap.specs.Faults.{defaults_fault, check_fault, use_fault}
 use Rattle.clap.specs.Kinds.{Kinds, or_else}
 use Rattle.clap.specs.declared.error.kind.ErrorKind.{ErrorKind}
 use Rattle.clap.specs.declared.error.kind.ErrorKind.TheVariants as kind
-use Rattle.wap_keys.specs.words.Reading.{Use, is_given, is_option}
+use Rattle.wap_keys.specs.words.Arguments.{Use, is_given, is_option}
 use Rattle.wap_keys.proofs.WordsLemmas.Rules.{Spoken, ready, rules, shape, option_found}
 use Rattle.wap_keys.proofs.WordsLemmas.Rules.{rows_of_uses, used_once, once_fault}
 

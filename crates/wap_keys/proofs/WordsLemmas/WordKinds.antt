@@ -5,7 +5,7 @@ use Rattle.std.specs.Prelude.{◌==◌, ◌&&◌, slice_get, option_and_then}
 use Rattle.std.specs.Str.{IsUtf8, bytes_eq, chars, encode_utf8_all}
 use Rattle.std.proofs.lemmas.Str.{IsUtf8-drop, IsCharBoundary-after_ascii, chars-encodes}
 use Rattle.clap.specs.Lexer.{strip_byte, long_of, long_of_rest, short_of, short_of_rest}
-use Rattle.wap_keys.specs.words.Reading.{is_dashed, after_dashes}
+use Rattle.wap_keys.specs.words.Arguments.{is_dashed, after_dashes}
 
 pub record IsPlain (word : List ℕ) : Type 0 where
   pub long : long_of word ≡ None

@@ -22,7 +22,7 @@ use Rattle.wap_keys.specs.declared.reader.More.TheVariants as more
 use Rattle.wap_keys.specs.Lines.{key_before}
 use Rattle.wap_keys.specs.Prefixes.{is_unended}
 use Rattle.wap_keys.specs.Read.{Takes}
-use Rattle.wap_keys.specs.Reading.{Reading, said_yet}
+use Rattle.wap_keys.specs.KeyReaders.{Reading, said_yet}
 
 -- ---- lines
 

@@ -2,8 +2,8 @@
 ghost use Rattle.std.specs.Prelude.{◌≡◌, IfOk, map, drop, option_map, option_and_then};
 ghost use Rattle.std.specs.Prelude.{encode_utf8_all, codes, Option};
 ghost use Rattle.wap_base.specs.declared.limits.Limits.{Limits};
-ghost use Rattle.wap_keys.specs.words.Reading.{uses_of};
-ghost use Rattle.wap_keys.specs.words.Words.{limits_by, browse_form, browse_by, browse_of};
+ghost use Rattle.wap_keys.specs.words.Arguments.{uses_of};
+ghost use Rattle.wap_keys.specs.words.Commands.{limits_by, browse_form, browse_by, browse_of};
 ghost use Rattle.wap_keys.specs.words.inside.Matching.{text_in};
 
 use crate::words::matching::{browse_matches, text_in, texts_of};

@@ -1,9 +1,9 @@
 //! The commands on folders: `prepare` and `make`.
 ghost use Rattle.std.specs.Prelude.{◌≡◌, IfOk, map, drop, option_map, option_and_then};
 ghost use Rattle.std.specs.Prelude.{encode_utf8_all, codes};
-ghost use Rattle.wap_keys.specs.words.Reading.{uses_of};
-ghost use Rattle.wap_keys.specs.words.Words.{prepare_form, prepare_by, prepare_of};
-ghost use Rattle.wap_keys.specs.words.Words.{page_form, make_by, make_of};
+ghost use Rattle.wap_keys.specs.words.Arguments.{uses_of};
+ghost use Rattle.wap_keys.specs.words.Commands.{prepare_form, prepare_by, prepare_of};
+ghost use Rattle.wap_keys.specs.words.Commands.{page_form, make_by, make_of};
 ghost use Rattle.wap_keys.specs.words.inside.Matching.{text_in};
 
 use crate::decimal_of;

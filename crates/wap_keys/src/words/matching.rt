@@ -2,9 +2,9 @@
 ghost use Rattle.std.specs.Prelude.{◌≡◌, false, IfOk, map, drop, option_map, encode_utf8_all};
 ghost use Rattle.clap.specs.Simple.{app_of};
 ghost use Rattle.clap.specs.Walk.{rule_of};
-ghost use Rattle.wap_keys.specs.words.Reading.{uses_of};
-ghost use Rattle.wap_keys.specs.words.Words.{browse_form, resume_form, page_form, prepare_form};
-ghost use Rattle.wap_keys.specs.words.Words.{replay_form};
+ghost use Rattle.wap_keys.specs.words.Arguments.{uses_of};
+ghost use Rattle.wap_keys.specs.words.Commands.{browse_form, resume_form, page_form, prepare_form};
+ghost use Rattle.wap_keys.specs.words.Commands.{replay_form};
 ghost use Rattle.wap_keys.specs.words.inside.Matching.{option_named, app_by, AreMatched};
 ghost use Rattle.wap_keys.specs.words.inside.Matching.{IsMatchedBy};
 ghost use Rattle.wap_keys.specs.words.inside.Matching.{AreTexts, text_in};

@@ -1,6 +1,6 @@
 //! The numbers of words: their ranges, and what they are where none is given.
 ghost use Rattle.std.specs.Prelude.{◌≡◌, ◌≤◌, option_map, IfSome};
-ghost use Rattle.wap_keys.specs.words.Words.{number_of};
+ghost use Rattle.wap_keys.specs.words.Commands.{number_of};
 
 use crate::decimal_of;
 

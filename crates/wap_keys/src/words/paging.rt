@@ -1,8 +1,8 @@
 //! Commands on one page.
 ghost use Rattle.std.specs.Prelude.{◌≡◌, IfOk, map, drop, option_and_then};
 ghost use Rattle.std.specs.Prelude.{encode_utf8_all, codes};
-ghost use Rattle.wap_keys.specs.words.Reading.{uses_of};
-ghost use Rattle.wap_keys.specs.words.Words.{page_form, page_by, page_of};
+ghost use Rattle.wap_keys.specs.words.Arguments.{uses_of};
+ghost use Rattle.wap_keys.specs.words.Commands.{page_form, page_by, page_of};
 ghost use Rattle.wap_keys.specs.words.inside.Matching.{text_in};
 
 use crate::words::matching::{page_matches, text_in, texts_of};

@@ -1,8 +1,8 @@
 //! The command `replay`.
 ghost use Rattle.std.specs.Prelude.{◌≡◌, IfOk, map, drop, option_map, option_and_then};
 ghost use Rattle.std.specs.Prelude.{encode_utf8_all, codes};
-ghost use Rattle.wap_keys.specs.words.Reading.{uses_of};
-ghost use Rattle.wap_keys.specs.words.Words.{limits_by, replay_form, replay_by, replay_of};
+ghost use Rattle.wap_keys.specs.words.Arguments.{uses_of};
+ghost use Rattle.wap_keys.specs.words.Commands.{limits_by, replay_form, replay_by, replay_of};
 ghost use Rattle.wap_keys.specs.words.inside.Matching.{text_in};
 
 use crate::words::browsing::limits_in;

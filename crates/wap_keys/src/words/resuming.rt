@@ -1,8 +1,8 @@
 //! The command `resume`.
 ghost use Rattle.std.specs.Prelude.{◌≡◌, IfOk, map, drop, option_map, option_and_then};
 ghost use Rattle.std.specs.Prelude.{encode_utf8_all, codes};
-ghost use Rattle.wap_keys.specs.words.Reading.{uses_of};
-ghost use Rattle.wap_keys.specs.words.Words.{resume_form, resume_by, resume_of};
+ghost use Rattle.wap_keys.specs.words.Arguments.{uses_of};
+ghost use Rattle.wap_keys.specs.words.Commands.{resume_form, resume_by, resume_of};
 ghost use Rattle.wap_keys.specs.words.inside.Matching.{text_in};
 
 use crate::words::matching::{resume_matches, text_in, texts_of};

@@ -2,7 +2,7 @@
 ghost use Rattle.std.specs.Prelude.{◌≡◌};
 ghost use Rattle.std.specs.Map.{lookup};
 ghost use Rattle.std.specs.Str.{bytes_eq};
-ghost use Rattle.wap_keys.specs.words.Words.{word_named};
+ghost use Rattle.wap_keys.specs.words.Commands.{word_named};
 ghost use Rattle.wap_keys.specs.words.inside.Matching.{by_name};
 
 use crate::words::PageCommand;

@@ -1,6 +1,6 @@
 //! Commands, and the words that say them.
 ghost use Rattle.std.specs.Prelude.{◌≡◌, IfOk, IfSome};
-ghost use Rattle.wap_keys.specs.words.Words.{command};
+ghost use Rattle.wap_keys.specs.words.Commands.{command};
 ghost use Rattle.wap_keys.specs.words.Ranges.{HasRanges};
 
 use crate::words::browsing::{read_browse, read_image};

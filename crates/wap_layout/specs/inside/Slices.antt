@@ -4,7 +4,7 @@ use Rattle.std.specs.Prelude.{Bool, ◌||◌, nat_le, true, false, ◌∷◌}
 use Rattle.std.specs.List.{flat_map, slice_split}
 use Rattle.std.specs.Str.{chars, IsAscii, IsUtf8}
 use Rattle.wap_base.specs.Ascii.{space}
-use Rattle.wap_layout.specs.Words.{is_blank, is_line_feed, words_of, unless_empty}
+use Rattle.wap_layout.specs.Blanks.{is_blank, is_line_feed, words_of, unless_empty}
 use Rattle.wap_layout.specs.Pieces.{kept}
 use Rattle.wap_layout.specs.Calculation.{cut_word, fill}
 use Rattle.wap_layout.specs.declared.flow.Mode.TheVariants.{Preformatted}

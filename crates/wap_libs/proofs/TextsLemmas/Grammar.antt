@@ -23,7 +23,7 @@ use Rattle.wap_libs.specs.FormatReading.{◌>>=◌, up_to_65535, number_at, behi
 use Rattle.wap_libs.specs.FormatReading.{precision_at, conversion_at, specifier_at}
 use Rattle.wap_libs.specs.FormatReading.{piece_behind_percent, piece_at, pieces_at, pieces_of}
 use Rattle.wap_libs.proofs.TextsLemmas.FormatLaws.{within_65535, up_to-Some}
-use Rattle.wap_libs.proofs.TextsLemmas.Reading.{goes_on, pieces_of-goes_on}
+use Rattle.wap_libs.proofs.TextsLemmas.FormatPieces.{goes_on, pieces_of-goes_on}
 
 -- no digit begins the text
 begins_digit : List ℕ → Bool

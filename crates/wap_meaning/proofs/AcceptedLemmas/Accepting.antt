@@ -13,11 +13,11 @@ use Rattle.wap_lex.specs.declared.token.Token.{Token}
 use Rattle.wap_lex.specs.declared.fault.LexFault.{LexFault}
 use Rattle.wap_lex.specs.declared.fault.LexFault.TheVariants.{NotText}
 use Rattle.wap_lex.specs.Tokens.{AreTokens}
-use Rattle.wap_lex.specs.Reading.{pieces_at}
+use Rattle.wap_lex.specs.Calculation.{pieces_at}
 use Rattle.wap_lex.proofs.Sources.{read_ok, read_again}
 use Rattle.wap_grammar.specs.declared.fault.ParseFault.{ParseFault}
 use Rattle.wap_grammar.specs.declared.precedence.TheConstants.{LEVEL_LIMIT}
-use Rattle.wap_grammar.specs.Words.{lexemes_of}
+use Rattle.wap_grammar.specs.Lexemes.{lexemes_of}
 use Rattle.wap_grammar.specs.inside.Statements.{statement_at}
 use Rattle.wap_grammar.specs.inside.Programs.{program_at}
 use Rattle.wap_grammar.proofs.Whole.{program_ok, program_again}
@@ -32,8 +32,8 @@ use Rattle.wap_meaning.specs.compiled.Pool.{pool}
 use Rattle.wap_meaning.specs.compiled.Wide.{function_wide}
 use Rattle.wap_meaning.specs.compiled.Accepted.{most_constants, most_code, IsSourceOf, HasRoom}
 use Rattle.wap_meaning.specs.compiled.Accepted.{IsAccepted}
-use Rattle.wap_meaning.specs.accepted.Reading.{tokens_at, read, spelled_by, is_short, fits, if_fits}
-use Rattle.wap_meaning.specs.accepted.Reading.{accepted_in}
+use Rattle.wap_meaning.specs.accepted.AcceptedPrograms.{tokens_at, read, spelled_by, is_short, fits, if_fits}
+use Rattle.wap_meaning.specs.accepted.AcceptedPrograms.{accepted_in}
 
 -- ---- room, and names in order
 

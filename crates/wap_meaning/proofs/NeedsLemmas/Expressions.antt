@@ -27,10 +27,10 @@ use Rattle.wap_meaning.specs.coding.Needs.{Need, literal_needs, assign_needs, ex
 use Rattle.wap_meaning.specs.coding.Needs as need
 use Rattle.wap_meaning.specs.needs.Drawn.{Drawn, no_more, skip, here}
 use Rattle.wap_meaning.proofs.NeedsLemmas.Drawing.{in_a_row, same, past, Draws, several}
-use Rattle.wap_meaning.proofs.NeedsLemmas.Parts.{of_literal, of_variable, of_assignment, of_step}
-use Rattle.wap_meaning.proofs.NeedsLemmas.Parts.{of_unary}
-use Rattle.wap_meaning.proofs.NeedsLemmas.Parts.{of_chain, of_choice, of_local, of_external}
-use Rattle.wap_meaning.proofs.NeedsLemmas.Parts.{of_library}
+use Rattle.wap_meaning.proofs.NeedsLemmas.TreeNeeds.{of_literal, of_variable, of_assignment, of_step}
+use Rattle.wap_meaning.proofs.NeedsLemmas.TreeNeeds.{of_unary}
+use Rattle.wap_meaning.proofs.NeedsLemmas.TreeNeeds.{of_chain, of_choice, of_local, of_external}
+use Rattle.wap_meaning.proofs.NeedsLemmas.TreeNeeds.{of_library}
 
 -- ---- what is called
 

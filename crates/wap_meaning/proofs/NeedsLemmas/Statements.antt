@@ -22,9 +22,9 @@ use Rattle.wap_meaning.specs.coding.Needs.{declared_needs}
 use Rattle.wap_meaning.specs.coding.Needs.{stmt_needs}
 use Rattle.wap_meaning.specs.needs.Drawn.{Drawn, no_more, skip, here}
 use Rattle.wap_meaning.proofs.NeedsLemmas.Drawing.{in_a_row, same, past, Draws, several, listed}
-use Rattle.wap_meaning.proofs.NeedsLemmas.Parts.{of_empty, of_value, of_block, of_variables, of_if}
-use Rattle.wap_meaning.proofs.NeedsLemmas.Parts.{of_else}
-use Rattle.wap_meaning.proofs.NeedsLemmas.Parts.{of_while, of_for, of_break, of_continue, of_return}
+use Rattle.wap_meaning.proofs.NeedsLemmas.TreeNeeds.{of_empty, of_value, of_block, of_variables, of_if}
+use Rattle.wap_meaning.proofs.NeedsLemmas.TreeNeeds.{of_else}
+use Rattle.wap_meaning.proofs.NeedsLemmas.TreeNeeds.{of_while, of_for, of_break, of_continue, of_return}
 use Rattle.wap_meaning.proofs.NeedsLemmas.Expressions.{draws_expression}
 
 -- what a statement needs that may be missing

@@ -4,7 +4,7 @@ use Rattle.std.specs.List.{All}
 use Rattle.wap_lex.specs.declared.token.Token.{Token}
 use Rattle.wap_lex.specs.Tokens.{AreTokens}
 use Rattle.wap_grammar.specs.declared.precedence.TheConstants.{LEVEL_LIMIT}
-use Rattle.wap_grammar.specs.Words.{lexemes_of}
+use Rattle.wap_grammar.specs.Lexemes.{lexemes_of}
 use Rattle.wap_grammar.specs.Programs.{IsProgram}
 use Rattle.wap_grammar.specs.declared.program.program.Program.{Program}
 use Rattle.wap_scope.specs.Scoped.{IsScoped}

@@ -11,7 +11,7 @@ use Rattle.wap_grammar.specs.declared.program.expression.Literal.TheVariants.{St
 use Rattle.wap_grammar.specs.declared.lexeme.Lexeme.{Lexeme}
 use Rattle.wap_grammar.specs.declared.word.Word.TheVariants as word
 use Rattle.wap_grammar.specs.Values.{literal_of}
-use Rattle.wap_grammar.specs.Words.{text_in}
+use Rattle.wap_grammar.specs.Lexemes.{text_in}
 use Rattle.wap_meaning.specs.coding.Needs.{Need, Constant, Operator, Variable, Local, Other}
 use Rattle.wap_meaning.specs.coding.Needs.{Library}
 use Rattle.wap_meaning.specs.coding.Needs.{stmt_needs}

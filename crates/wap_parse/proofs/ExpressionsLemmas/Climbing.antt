@@ -14,8 +14,8 @@ use Rattle.wap_grammar.specs.declared.lexeme.Lexeme.{Lexeme}
 use Rattle.wap_grammar.specs.declared.precedence.TheConstants.{CONDITIONAL, ASSIGNMENT}
 use Rattle.wap_grammar.specs.declared.word.Word.{Word}
 use Rattle.wap_grammar.specs.declared.word.Word.TheVariants as word
-use Rattle.wap_grammar.specs.Words.{word_of, precedence, operator_of}
-use Rattle.wap_grammar.specs.inside.Steps.{Reading, told, items_at}
+use Rattle.wap_grammar.specs.Lexemes.{word_of, precedence, operator_of}
+use Rattle.wap_grammar.specs.inside.TokenReading.{Reading, told, items_at}
 use Rattle.wap_grammar.specs.inside.Expressions.{Reader, chained, unary_at, operand_by}
 use Rattle.wap_grammar.specs.inside.Expressions.{next_operand, chain_at, part_at}
 use Rattle.wap_grammar.proofs.Items.{items_none}

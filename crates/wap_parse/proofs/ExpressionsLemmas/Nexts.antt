@@ -8,8 +8,8 @@ use Rattle.wap_grammar.specs.declared.fault.ParseFault.{ParseFault}
 use Rattle.wap_grammar.specs.declared.lexeme.Lexeme.{Lexeme}
 use Rattle.wap_grammar.specs.declared.precedence.TheConstants.{ASSIGNMENT}
 use Rattle.wap_grammar.specs.declared.word.Sign.TheVariants as sign
-use Rattle.wap_grammar.specs.Words.{word_of, operator_of, is_sign, is_comma}
-use Rattle.wap_grammar.specs.inside.Steps.{Reading, span_of, after, told}
+use Rattle.wap_grammar.specs.Lexemes.{word_of, operator_of, is_sign, is_comma}
+use Rattle.wap_grammar.specs.inside.TokenReading.{Reading, span_of, after, told}
 use Rattle.wap_grammar.specs.inside.Expressions.{Reader, next_operand, next_argument}
 use Rattle.wap_grammar.specs.inside.Statements.{next_listed}
 use Rattle.wap_grammar.specs.inside.Programs.{next_use, use_at}

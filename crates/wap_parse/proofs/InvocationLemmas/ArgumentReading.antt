@@ -15,19 +15,19 @@ use Rattle.wap_grammar.specs.declared.lexeme.Lexeme.{Lexeme}
 use Rattle.wap_grammar.specs.declared.word.Word.{Word}
 use Rattle.wap_grammar.specs.declared.word.Word.TheVariants as word
 use Rattle.wap_grammar.specs.declared.word.Sign.TheVariants as signs
-use Rattle.wap_grammar.specs.Words.{word_of, is_sign, sign_of}
+use Rattle.wap_grammar.specs.Lexemes.{word_of, is_sign, sign_of}
 use Rattle.wap_grammar.specs.Values.{literal_of}
 use Rattle.wap_grammar.specs.Spellings.{token, sign, AreListed, listed}
-use Rattle.wap_grammar.specs.inside.Steps.{span_of, after, syntax, told, closed}
+use Rattle.wap_grammar.specs.inside.TokenReading.{span_of, after, syntax, told, closed}
 use Rattle.wap_grammar.specs.inside.Statements.{listed_at}
 use Rattle.wap_grammar.proofs.Firsts.{value_same, told_ok, sign_first, Ends}
 use Rattle.wap_grammar.proofs.Items.{Reads}
-use Rattle.wap_grammar.proofs.Parts.{closing_ok, closing_again, reads_listed}
+use Rattle.wap_grammar.proofs.CommaLists.{closing_ok, closing_again, reads_listed}
 use Rattle.wap_parse.specs.invocation.Calls.{value_of, IsArgument, literal, signed}
 use Rattle.wap_parse.specs.invocation.Calls.{AreArguments, none, some}
-use Rattle.wap_parse.specs.invocation.Reading.{literal_by, literal_at, is_integer, is_next}
-use Rattle.wap_parse.specs.invocation.Reading.{signed_at}
-use Rattle.wap_parse.specs.invocation.Reading.{sign_in, argument_by, argument_at, arguments_at}
+use Rattle.wap_parse.specs.invocation.Calculation.{literal_by, literal_at, is_integer, is_next}
+use Rattle.wap_parse.specs.invocation.Calculation.{signed_at}
+use Rattle.wap_parse.specs.invocation.Calculation.{sign_in, argument_by, argument_at, arguments_at}
 
 -- ---- words
 

@@ -9,18 +9,18 @@ use Rattle.wap_value.specs.declared.value.Value.{Value}
 use Rattle.wap_grammar.specs.declared.program.program.Id.{Id}
 use Rattle.wap_lex.specs.declared.token.Token.{Token}
 use Rattle.wap_lex.specs.declared.fault.LexFault.{LexFault}
-use Rattle.wap_lex.specs.Reading.{pieces_at}
+use Rattle.wap_lex.specs.Calculation.{pieces_at}
 use Rattle.wap_lex.proofs.Sources.{read_ok, read_again}
 use Rattle.wap_grammar.specs.declared.lexeme.Lexeme.{Lexeme}
 use Rattle.wap_grammar.specs.declared.word.Sign.TheVariants as signs
-use Rattle.wap_grammar.specs.Words.{lexemes_of}
+use Rattle.wap_grammar.specs.Lexemes.{lexemes_of}
 use Rattle.wap_grammar.specs.Values.{id_of}
 use Rattle.wap_grammar.specs.Spellings.{name, sign}
-use Rattle.wap_grammar.specs.inside.Steps.{Reading, span_of, expect_at, id_at}
+use Rattle.wap_grammar.specs.inside.TokenReading.{Reading, span_of, expect_at, id_at}
 use Rattle.wap_grammar.proofs.Firsts.{expect_ok, id_ok}
 use Rattle.wap_parse.specs.declared.invocation.invocation.Invocation.{Invocation}
 use Rattle.wap_parse.specs.invocation.Calls.{AreArguments, SpellsCall, call, is_spaced, IsCall}
-use Rattle.wap_parse.specs.invocation.Reading.{arguments_at, ended, call_at, spelled_by, call_of}
+use Rattle.wap_parse.specs.invocation.Calculation.{arguments_at, ended, call_at, spelled_by, call_of}
 use Rattle.wap_parse.proofs.InvocationLemmas.ArgumentReading.{arguments_ok, arguments_again}
 
 -- ---- tokens

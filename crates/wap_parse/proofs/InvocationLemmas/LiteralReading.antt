@@ -9,14 +9,14 @@ use Rattle.wap_grammar.specs.declared.fault.ParseFault.{ParseFault}
 use Rattle.wap_grammar.specs.declared.lexeme.Lexeme.{Lexeme}
 use Rattle.wap_grammar.specs.declared.word.Word.{Word}
 use Rattle.wap_grammar.specs.declared.word.Word.TheVariants as word
-use Rattle.wap_grammar.specs.Words.{word_of}
+use Rattle.wap_grammar.specs.Lexemes.{word_of}
 use Rattle.wap_grammar.specs.Values.{literal_of}
 use Rattle.wap_grammar.specs.Spellings.{token}
-use Rattle.wap_grammar.specs.inside.Steps.{Reading, syntax, told, id_at}
+use Rattle.wap_grammar.specs.inside.TokenReading.{Reading, syntax, told, id_at}
 use Rattle.wap_grammar.specs.inside.Expressions.{primary_by, primary_at, unary_at, part_at}
 use Rattle.wap_grammar.specs.inside.Expressions.{expression_at, named_at, callee_at}
 use Rattle.wap_grammar.proofs.Firsts.{value_same}
-use Rattle.wap_parse.specs.invocation.Reading.{literal_by, literal_at}
+use Rattle.wap_parse.specs.invocation.Calculation.{literal_by, literal_at}
 use Rattle.wap_parse.specs.invocation.inside.Literals.{is_literal}
 
 -- an integer is a literal where it is in range, and else begins no expression

@@ -6,9 +6,9 @@ use Rattle.wap_lex.specs.declared.token.Token.{Token}
 use Rattle.wap_lex.specs.declared.fault.LexFault.{LexFault}
 use Rattle.wap_lex.specs.declared.fault.LexFault.TheVariants as fault
 use Rattle.wap_lex.specs.Tokens.{AreTokens}
-use Rattle.wap_lex.specs.Reading.{pieces_at}
+use Rattle.wap_lex.specs.Calculation.{pieces_at}
 use Rattle.wap_lex.proofs.Sources.{read_ok, read_again}
-use Rattle.wap_parse.specs.invocation.Reading.{spelled_by, call_of}
+use Rattle.wap_parse.specs.invocation.Calculation.{spelled_by, call_of}
 
 -- the call is that of the tokens
 pub by_tokens : (fragment src : List ℕ) (tokens : List Token) → src ≡ encode_utf8_all fragment →

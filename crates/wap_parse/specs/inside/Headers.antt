@@ -5,7 +5,7 @@ use Rattle.wap_grammar.specs.declared.program.expression.Expr.{Expr}
 use Rattle.wap_grammar.specs.declared.program.statement.Stmt.{Stmt}
 use Rattle.wap_grammar.specs.declared.lexeme.Lexeme.{Lexeme}
 use Rattle.wap_grammar.specs.declared.word.Sign.TheVariants as sign
-use Rattle.wap_grammar.specs.inside.Steps.{Reading, told, expect_at}
+use Rattle.wap_grammar.specs.inside.TokenReading.{Reading, told, expect_at}
 use Rattle.wap_grammar.specs.inside.Expressions.{Reader}
 use Rattle.wap_grammar.specs.inside.Statements.{optional_at, initial_at}
 

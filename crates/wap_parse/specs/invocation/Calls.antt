@@ -19,7 +19,7 @@ use Rattle.wap_grammar.specs.declared.lexeme.Lexeme.{Lexeme}
 use Rattle.wap_grammar.specs.declared.word.Word.{Word}
 use Rattle.wap_grammar.specs.declared.word.Word.TheVariants as word
 use Rattle.wap_grammar.specs.declared.word.Sign.TheVariants.{Open, Close}
-use Rattle.wap_grammar.specs.Words.{text_in, lexemes_of, sign_of}
+use Rattle.wap_grammar.specs.Lexemes.{text_in, lexemes_of, sign_of}
 use Rattle.wap_grammar.specs.Values.{literal_of}
 use Rattle.wap_grammar.specs.Spellings.{token, name, sign, AreListed}
 use Rattle.wap_parse.specs.declared.invocation.invocation.Invocation.{Invocation}

@@ -3,7 +3,7 @@ ghost use Rattle.std.specs.Prelude.{◌≡◌};
 ghost use Rattle.wap_base.specs.Outcome.{Meets};
 ghost use Rattle.wap_grammar.specs.declared.fault.ParseFault.TheVariants.{NoMemory};
 ghost use Rattle.wap_grammar.specs.Values.{called};
-ghost use Rattle.wap_grammar.specs.inside.Steps.{told, id_at};
+ghost use Rattle.wap_grammar.specs.inside.TokenReading.{told, id_at};
 ghost use Rattle.wap_grammar.specs.inside.Expressions.{callee_after, callee_at};
 ghost use Rattle.wap_grammar.specs.inside.Expressions.{variable_at, prefixed};
 

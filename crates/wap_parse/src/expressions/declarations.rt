@@ -2,7 +2,7 @@
 ghost use Rattle.std.specs.Prelude.{◌∷◌};
 ghost use Rattle.wap_base.specs.Outcome.{Meets};
 ghost use Rattle.wap_grammar.specs.declared.fault.ParseFault.TheVariants as faults;
-ghost use Rattle.wap_grammar.specs.inside.Steps.{told, items_at};
+ghost use Rattle.wap_grammar.specs.inside.TokenReading.{told, items_at};
 ghost use Rattle.wap_grammar.specs.inside.Expressions.{expression_at};
 ghost use Rattle.wap_grammar.specs.inside.Statements.{next_listed, listed_at, declaration_after};
 ghost use Rattle.wap_grammar.specs.inside.Statements.{declaration_at, variables_at};

@@ -2,7 +2,7 @@
 ghost use Rattle.std.specs.Prelude.{◌<◌, ◌∷◌};
 ghost use Rattle.wap_base.specs.Outcome.{Meets};
 ghost use Rattle.wap_grammar.specs.declared.fault.ParseFault.TheVariants as faults;
-ghost use Rattle.wap_grammar.specs.inside.Steps.{told, items_at};
+ghost use Rattle.wap_grammar.specs.inside.TokenReading.{told, items_at};
 ghost use Rattle.wap_grammar.specs.inside.Expressions.{next_argument, arguments_at, named_at};
 ghost use Rattle.wap_grammar.specs.inside.Expressions.{primary_at, unary_at, next_operand};
 ghost use Rattle.wap_grammar.specs.inside.Expressions.{branches_at};

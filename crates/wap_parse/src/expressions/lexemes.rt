@@ -2,7 +2,7 @@
 ghost use Rattle.std.specs.Prelude.{◌≡◌, IfOk, map, unwrap_or};
 ghost use Rattle.std.specs.Map.{lookup};
 ghost use Rattle.wap_base.specs.Texts.{is_same_text};
-ghost use Rattle.wap_grammar.specs.Words.{word_spelled, text_in, lexeme_of, lexemes_of};
+ghost use Rattle.wap_grammar.specs.Lexemes.{word_spelled, text_in, lexeme_of, lexemes_of};
 ghost use Rattle.wap_grammar.specs.declared.word.Word.TheVariants.{Unused};
 
 use std::alloc::Global;
@@ -52,7 +52,7 @@ pub(crate) fn text_in(src: &[u8], span: Span) -> &[u8]
 }
 
 /// What a mark or reserved word is.
-#[tactic(auto, unfolding(wap_grammar::specs::Words::word_spelled, wap_grammar::specs::Words::word_rows))]
+#[tactic(auto, unfolding(wap_grammar::specs::Lexemes::word_spelled, wap_grammar::specs::Lexemes::word_rows))]
 fn word_spelled(text: &[u8]) -> Word
     ensures { result ≡ word_spelled text.now }
 {

@@ -3,7 +3,7 @@ ghost use Rattle.std.specs.Prelude.{◌≡◌};
 ghost use Rattle.wap_base.specs.Outcome.{Meets};
 ghost use Rattle.wap_grammar.specs.declared.fault.ParseFault.TheVariants as faults;
 ghost use Rattle.wap_grammar.specs.Programs.{from_to};
-ghost use Rattle.wap_grammar.specs.inside.Steps.{told, items_at};
+ghost use Rattle.wap_grammar.specs.inside.TokenReading.{told, items_at};
 ghost use Rattle.wap_grammar.specs.inside.Programs.{agent_of, note_of, url_at, who_at};
 ghost use Rattle.wap_grammar.specs.inside.Programs.{meta_at, use_at, next_use};
 ghost use Rattle.wap_parse.specs.expressions.inside.Properties.{ended_at};

@@ -1,9 +1,9 @@
 //! What stands first among some tokens.
 ghost use Rattle.std.specs.Prelude.{◌≡◌, ◌<◌, ◌≤◌, IfSome};
-ghost use Rattle.wap_grammar.specs.Words.{word_of, precedence, sign_of, unary_of, step_of};
-ghost use Rattle.wap_grammar.specs.Words.{assignment_of, operator_of, is_sign, is_name};
-ghost use Rattle.wap_grammar.specs.Words.{is_text, is_comma, is_equals};
-ghost use Rattle.wap_grammar.specs.inside.Steps.{span_of, after};
+ghost use Rattle.wap_grammar.specs.Lexemes.{word_of, precedence, sign_of, unary_of, step_of};
+ghost use Rattle.wap_grammar.specs.Lexemes.{assignment_of, operator_of, is_sign, is_name};
+ghost use Rattle.wap_grammar.specs.Lexemes.{is_text, is_comma, is_equals};
+ghost use Rattle.wap_grammar.specs.inside.TokenReading.{span_of, after};
 ghost use Rattle.wap_parse.specs.expressions.inside.Climbing.{looser_of};
 
 use wap_grammar::program::Span;

@@ -2,10 +2,10 @@
 ghost use Rattle.std.specs.Prelude.{◌≡◌, ◌∷◌};
 ghost use Rattle.wap_base.specs.Outcome.{Meets};
 ghost use Rattle.wap_grammar.specs.declared.fault.ParseFault.TheVariants as faults;
-ghost use Rattle.wap_grammar.specs.inside.Steps.{told, items_at};
+ghost use Rattle.wap_grammar.specs.inside.TokenReading.{told, items_at};
 ghost use Rattle.wap_grammar.specs.inside.Statements.{next_listed, listed_at};
-ghost use Rattle.wap_parse.specs.invocation.Reading.{is_next, signed_at, sign_in};
-ghost use Rattle.wap_parse.specs.invocation.Reading.{argument_at, arguments_at};
+ghost use Rattle.wap_parse.specs.invocation.Calculation.{is_next, signed_at, sign_in};
+ghost use Rattle.wap_parse.specs.invocation.Calculation.{argument_at, arguments_at};
 
 use crate::expressions::{
     after, close, is_comma, is_sign, list_of_one, span_of, syntax_fault, word_of,
@@ -39,7 +39,7 @@ fn is_next(before: Span, lexemes: &[Lexeme]) -> bool
 }
 
 /// An integer after its sign.
-#[tactic(auto, unfolding(crate::specs::invocation::Reading::signed_at))]
+#[tactic(auto, unfolding(crate::specs::invocation::Calculation::signed_at))]
 fn read_signed<'a>(
     alloc: Global,
     src: &[u8],
@@ -58,7 +58,7 @@ fn read_signed<'a>(
 }
 
 /// An argument.
-#[tactic(auto, unfolding(crate::specs::invocation::Reading::argument_at))]
+#[tactic(auto, unfolding(crate::specs::invocation::Calculation::argument_at))]
 fn read_argument<'a>(
     alloc: Global,
     src: &[u8],
@@ -75,7 +75,7 @@ fn read_argument<'a>(
 }
 
 /// Arguments, and the parenthesis after them.
-#[tactic(auto, unfolding(crate::specs::invocation::Reading::arguments_at))]
+#[tactic(auto, unfolding(crate::specs::invocation::Calculation::arguments_at))]
 pub(crate) fn read_arguments<'a>(
     alloc: Global,
     src: &[u8],

@@ -2,7 +2,7 @@
 ghost use Rattle.std.specs.Prelude.{◌≡◌, ◌≢◌, Ok, IfOk};
 ghost use Rattle.wap_base.specs.Outcome.{Meets};
 ghost use Rattle.wap_grammar.specs.declared.fault.ParseFault.TheVariants as faults;
-ghost use Rattle.wap_parse.specs.invocation.Reading.{ended, call_at, spelled_by, call_of};
+ghost use Rattle.wap_parse.specs.invocation.Calculation.{ended, call_at, spelled_by, call_of};
 
 use crate::expressions::{expect, lexemes_of, read_id, syntax_fault};
 use crate::invocation::Invocation;
@@ -59,7 +59,7 @@ fn spelled_by(alloc: Global, src: &[u8], tokens: &[Token]) -> Result<Option<Invo
 }
 
 /// A name, and arguments in parentheses up to the end.
-#[tactic(auto, unfolding(crate::specs::invocation::Reading::call_at))]
+#[tactic(auto, unfolding(crate::specs::invocation::Calculation::call_at))]
 fn read_spelled(alloc: Global, src: &[u8], lexemes: &[Lexeme]) -> Result<Invocation, ParseFault>
     ensures { Meets faults.NoMemory (λ call. call) result (call_at src.now lexemes.now) }
 {

@@ -2,7 +2,7 @@
 ghost use Rattle.std.specs.Prelude.{◌≡◌, ◌↔◌, ℕ, List};
 ghost use Rattle.wap_parse.specs.declared.invocation.invocation.Invocation.{Invocation};
 ghost use Rattle.wap_parse.specs.invocation.Calls.{IsCall};
-ghost use Rattle.wap_parse.specs.invocation.Reading.{call_of};
+ghost use Rattle.wap_parse.specs.invocation.Calculation.{call_of};
 
 /// A fragment is the call that is read from it, and no other.
 pub fn calls_are_read()

@@ -3,7 +3,7 @@ ghost use Rattle.std.specs.Prelude.{◌≡◌};
 ghost use Rattle.wap_base.specs.Outcome.{Meets};
 ghost use Rattle.wap_grammar.specs.declared.fault.ParseFault.TheVariants as faults;
 ghost use Rattle.wap_parse.specs.invocation.Calls.{value_of};
-ghost use Rattle.wap_parse.specs.invocation.Reading.{literal_at};
+ghost use Rattle.wap_parse.specs.invocation.Calculation.{literal_at};
 ghost use Rattle.wap_parse.specs.invocation.inside.Literals.{is_literal};
 
 use crate::expressions::{read_expression, syntax_fault, word_of};

@@ -17,7 +17,7 @@ use Rattle.wap_grammar.specs.Expressions.{Expressions, IsCallee, IsArgument, Are
 use Rattle.wap_grammar.specs.Expressions.{IsUnary, IsOperand, IsLooser, IsPart, IsExpression}
 use Rattle.wap_grammar.specs.Expressions as expressed
 use Rattle.wap_scope.specs.Places.{reference_places}
-use Rattle.wap_scope.proofs.Parts.{of_literal, of_variable, of_assignment, of_step, of_unary}
+use Rattle.wap_scope.proofs.TreeNames.{of_literal, of_variable, of_assignment, of_step, of_unary}
 use Rattle.wap_scope.proofs.OrderLemmas.Among.{no_more, skip, here, in_a_row, same, past, Finds}
 use Rattle.wap_scope.proofs.OrderLemmas.Among.{several}
 use Rattle.wap_scope.proofs.OrderLemmas.Says.{expr_places, all_places, operand_places, chain_places}

@@ -14,8 +14,8 @@ use Rattle.wap_grammar.specs.declared.program.statement.Stmt.TheVariants as stmt
 use Rattle.wap_scope.specs.Names.{Reference, Mention, Refers, references, refers}
 use Rattle.wap_scope.specs.Names.{refers_if, declares, mentions}
 use Rattle.wap_scope.specs.Places.{reference_places, mention_places}
-use Rattle.wap_scope.proofs.Parts.{of_chain, of_choice, of_local, of_external, of_library}
-use Rattle.wap_scope.proofs.Parts.{of_block, of_variables, of_if, of_else, of_while, of_for}
+use Rattle.wap_scope.proofs.TreeNames.{of_chain, of_choice, of_local, of_external, of_library}
+use Rattle.wap_scope.proofs.TreeNames.{of_block, of_variables, of_if, of_else, of_while, of_for}
 
 -- ---- lists
 

@@ -17,7 +17,7 @@ use Rattle.wap_grammar.specs.Expressions.{Expressions, IsExpression}
 use Rattle.wap_grammar.specs.Statements.{IsDeclaration, IsOptional, done_first, IsInitial}
 use Rattle.wap_grammar.specs.Statements.{IsCondition, IsElse, IsStatementOf, IsStatement}
 use Rattle.wap_grammar.specs.Statements as stated
-use Rattle.wap_scope.proofs.Parts.{of_empty, of_value, of_break, of_continue, of_return}
+use Rattle.wap_scope.proofs.TreeNames.{of_empty, of_value, of_break, of_continue, of_return}
 use Rattle.wap_scope.proofs.OrderLemmas.Among.{Among, no_more, skip, here, in_a_row, same, past}
 use Rattle.wap_scope.proofs.OrderLemmas.Among.{Finds}
 use Rattle.wap_scope.proofs.OrderLemmas.Among.{several, listed}

@@ -3,7 +3,7 @@ use Rattle.std.proofs.Common.{ℕ, ◌+◌, ◌≤◌, List, length, Option, Som
 use Rattle.wap_lex.specs.declared.token.Kind.{Kind}
 use Rattle.wap_lex.specs.declared.token.Token.{Token}
 use Rattle.wap_lex.specs.Tokens.{kind_of, token_before, Lexes, ends, piece}
-use Rattle.wap_grammar.specs.Words.{lexemes_of}
+use Rattle.wap_grammar.specs.Lexemes.{lexemes_of}
 use Rattle.wap_scope.specs.Places.{AscendFrom}
 use Rattle.wap_scope.proofs.Ascending.{from_earlier}
 use Rattle.wap_scope.proofs.OrderLemmas.Among.{spans}

@@ -8,9 +8,8 @@ ghost use Rattle.wap_world.specs.inboxes.Notices.{entry_lines};
 use itoa::Buffer;
 use std::alloc::Global;
 use wap_base::{NoMemory, Text};
-use wap_faults::push_fault_text;
 use wap_layout::buffer::Lines;
-use wap_push::{Inbox, Indication, PushFault};
+use wap_push::{Inbox, Indication, PushFault, push_fault_text};
 
 /// One line.
 pub(crate) fn one_line(alloc: Global, line: &Text) -> Result<Lines, NoMemory>

@@ -15,7 +15,7 @@ use Rattle.wap_url.specs.declared.url.Url.{Url}
 use Rattle.wap_url.specs.Characters.{is_slash, is_allowed, is_scheme, is_host}
 use Rattle.wap_url.specs.Segments.{segments, path_of, all_but_last}
 use Rattle.wap_url.specs.inside.Segments.{folder_of}
-use Rattle.wap_url.specs.Parts.{may_be_scheme, may_be_host, may_be_port, may_be_path, is_port}
+use Rattle.wap_url.specs.UrlParts.{may_be_scheme, may_be_host, may_be_port, may_be_path, is_port}
 use Rattle.wap_url.specs.Printing.{IsNormal, parts_for, printed}
 use Rattle.wap_url.specs.Joining.{is_here, is_above, is_dot_segment, kept_with, end_of, without_dots}
 use Rattle.wap_url.specs.Joining.{resolved, resolved_path, lead_segments, merged_path, target, rooted}

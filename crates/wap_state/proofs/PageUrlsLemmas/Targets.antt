@@ -8,7 +8,7 @@ use Rattle.wap_base.proofs.Choices.{ok_same}
 use Rattle.wap_url.specs.declared.url.Url.{Url}
 use Rattle.wap_url.specs.declared.fault.UrlFault.{UrlFault}
 use Rattle.wap_url.specs.Printing.{IsNormal, printed}
-use Rattle.wap_url.specs.Reading.{url_at}
+use Rattle.wap_url.specs.Calculation.{url_at}
 use Rattle.wap_url.specs.Joining.{joined}
 use Rattle.wap_url.proofs.AgainLaws.{url_again}
 use Rattle.wap_url.proofs.NormalLaws.{normal_again}

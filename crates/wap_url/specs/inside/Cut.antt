@@ -3,7 +3,7 @@ use Rattle.std.specs.Prelude.{ℕ, Bool}
 use Rattle.wap_url.specs.declared.cut.Cut.{Cut}
 use Rattle.wap_url.specs.declared.cut.Cut.TheVariants.{Fragment, Scheme, Authority, Colon, Question}
 use Rattle.wap_url.specs.Characters.{is_colon, is_question, ends_scheme, ends_authority}
-use Rattle.wap_url.specs.Reading.{is_stop}
+use Rattle.wap_url.specs.Calculation.{is_stop}
 
 abbrev pub stops : Cut → ℕ → Bool
 stops Fragment = is_stop

@@ -2,7 +2,7 @@
 use Rattle.std.specs.Prelude.{ℕ, List, Option}
 use Rattle.std.specs.Option.{option_copied}
 use Rattle.wap_url.specs.declared.parts.Slices.{Slices}
-use Rattle.wap_url.specs.Parts.{Parts}
+use Rattle.wap_url.specs.UrlParts.{Parts}
 
 -- the parts that the slices hold, beside a fragment
 abbrev pub parts_in : Slices → Option (List ℕ) → Parts

@@ -19,9 +19,9 @@ use Rattle.wap_asm.proofs.Gifts.{gives-row}
 use Rattle.wap_verify.specs.declared.step.Step.{Step}
 use Rattle.wap_verify.specs.declared.fault.VerifyFault.{VerifyFault}
 use Rattle.wap_verify.specs.declared.fault.VerifyFault.TheVariants as fault
-use Rattle.wap_verify.specs.Steps.{values_taken, operand_fault, step_of, pair}
-use Rattle.wap_verify.specs.Steps.{is_conditional_forward, jump_read, jump_by, pair_at, is_pair}
-use Rattle.wap_verify.specs.Steps.{fine_at, checked, instr_read, step_by, step_at}
+use Rattle.wap_verify.specs.CodePlaces.{values_taken, operand_fault, step_of, pair}
+use Rattle.wap_verify.specs.CodePlaces.{is_conditional_forward, jump_read, jump_by, pair_at, is_pair}
+use Rattle.wap_verify.specs.CodePlaces.{fine_at, checked, instr_read, step_by, step_at}
 use Rattle.wap_verify.specs.inside.Work.{GoesOn}
 
 -- an instruction that was read ends behind its place, within the code

@@ -14,7 +14,7 @@ use Rattle.wap_verify.specs.declared.step.Step.{Step}
 use Rattle.wap_verify.specs.declared.step.Way.{Way}
 use Rattle.wap_verify.specs.declared.fault.VerifyFault.{VerifyFault}
 use Rattle.wap_verify.specs.declared.fault.VerifyFault.TheVariants as fault
-use Rattle.wap_verify.specs.Steps.{way_on}
+use Rattle.wap_verify.specs.CodePlaces.{way_on}
 use Rattle.wap_verify.specs.Paths.{Stand}
 use Rattle.wap_verify.specs.Sound.{IsSplit, IsSound}
 use Rattle.wap_verify.specs.inside.Work.{State, depth_of, followed, AgreesWith}

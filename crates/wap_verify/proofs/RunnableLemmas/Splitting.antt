@@ -9,7 +9,7 @@ use Rattle.wap_unit.specs.declared.unit.Unit.{Unit}
 use Rattle.wap_unit.specs.declared.unit.Code.{Code}
 use Rattle.wap_verify.specs.declared.step.Step.{Step}
 use Rattle.wap_verify.specs.declared.fault.VerifyFault.{VerifyFault}
-use Rattle.wap_verify.specs.Steps.{step_at}
+use Rattle.wap_verify.specs.CodePlaces.{step_at}
 use Rattle.wap_verify.specs.Sound.{Runs, is_aimed, IsSplit}
 use Rattle.wap_verify.specs.Faults.{IsFunctionFault, item, target}
 use Rattle.wap_verify.proofs.Walks.{runs_push}

@@ -7,7 +7,7 @@ use Rattle.wap_unit.specs.declared.unit.Unit.{Unit}
 use Rattle.wap_unit.specs.declared.unit.Code.{Code}
 use Rattle.wap_verify.specs.declared.step.Step.{Step}
 use Rattle.wap_verify.specs.declared.step.Way.{Way}
-use Rattle.wap_verify.specs.Steps.{way_on, step_at}
+use Rattle.wap_verify.specs.CodePlaces.{way_on, step_at}
 use Rattle.wap_verify.specs.Paths.{Stand, HasWay, Reaches}
 use Rattle.wap_verify.specs.Sound.{Runs, is_aimed}
 

@@ -11,7 +11,7 @@ use Rattle.wap_verify.specs.declared.step.Step.{Step}
 use Rattle.wap_verify.specs.declared.step.Way.{Way}
 use Rattle.wap_verify.specs.declared.fault.VerifyFault.{VerifyFault}
 use Rattle.wap_verify.specs.declared.fault.VerifyFault.TheVariants as fault
-use Rattle.wap_verify.specs.Steps.{way_on, step_at}
+use Rattle.wap_verify.specs.CodePlaces.{way_on, step_at}
 use Rattle.wap_verify.specs.Paths.{Stand}
 use Rattle.wap_verify.specs.Sound.{is_aimed, stray_pragma}
 use Rattle.wap_verify.specs.inside.Work.{State, depth_of, followed, effort}

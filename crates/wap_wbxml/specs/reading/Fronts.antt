@@ -15,7 +15,7 @@ use Rattle.wap_tokens.specs.markup.Grammar.{State, counted, table_size}
 use Rattle.wap_wbxml.specs.declared.fault.DocFault.{DocFault}
 use Rattle.wap_wbxml.specs.declared.fault.DocFault.TheVariants as fault
 use Rattle.wap_wbxml.specs.Places.{Input, place, place_before}
-use Rattle.wap_wbxml.specs.reading.Steps.{Reading}
+use Rattle.wap_wbxml.specs.reading.ByteReading.{Reading}
 
 -- ---- the byte that an item begins with
 

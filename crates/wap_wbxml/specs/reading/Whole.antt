@@ -24,9 +24,9 @@ use Rattle.wap_tokens.specs.markup.Documents.{first_state, into_root, out_of_roo
 use Rattle.wap_wbxml.specs.declared.fault.DocFault.{DocFault}
 use Rattle.wap_wbxml.specs.declared.fault.DocFault.TheVariants as fault
 use Rattle.wap_wbxml.specs.Places.{Input, place, input_of}
-use Rattle.wap_wbxml.specs.reading.Steps.{Reading, Next, some, told, all_by}
+use Rattle.wap_wbxml.specs.reading.ByteReading.{Reading, Next, some, told, all_by}
 use Rattle.wap_wbxml.specs.reading.Fronts.{lead_at, number_at, opaque_at}
-use Rattle.wap_wbxml.specs.reading.Parts.{no_token, as_none, instruction_at, element_at}
+use Rattle.wap_wbxml.specs.reading.BodyReading.{no_token, as_none, instruction_at, element_at}
 
 -- ---- the header
 

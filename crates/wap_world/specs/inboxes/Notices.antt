@@ -6,7 +6,7 @@ use Rattle.wap_base.specs.Ascii.{space, digit_zero}
 use Rattle.wap_push.specs.declared.indication.Indication.{Indication}
 use Rattle.wap_push.specs.declared.fault.PushFault.{PushFault}
 use Rattle.wap_push.specs.Inbox.{is_of, alerts}
-use Rattle.wap_faults.specs.Faults.{push_text}
+use Rattle.wap_push.specs.Printing.{push_text}
 
 -- why what was pushed is no indication
 abbrev pub no_push_line : PushFault → List ℕ

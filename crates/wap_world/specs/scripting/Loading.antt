@@ -6,7 +6,7 @@ use Rattle.std.specs.Option.{option_map_or}
 use Rattle.std.specs.List.{starts_with, ends_with}
 use Rattle.wap_url.specs.declared.url.Url.{Url}
 use Rattle.wap_url.specs.declared.fault.UrlFault.{UrlFault}
-use Rattle.wap_url.specs.Reading.{url_at}
+use Rattle.wap_url.specs.Calculation.{url_at}
 use Rattle.wap_url.specs.Printing.{name_for, text_without_fragment}
 use Rattle.wap_url.specs.Relative.{relative_form}
 use Rattle.wap_value.specs.declared.value.Value.{Value}

@@ -3,7 +3,7 @@ use Rattle.std.specs.Option.{option_flatten}
 use Rattle.wap_tokens.specs.declared.markup.name.AttrName.TheVariants as attrs
 use Rattle.wap_cardrules.specs.declared.task.Task.{Task}
 use Rattle.wap_cardrules.specs.Events.{bound_in}
-use Rattle.wap_cards.proofs.Words.{word_onpick}
+use Rattle.wap_cards.proofs.ComparedTexts.{word_onpick}
 use Rattle.wap_cards.proofs.events.onpick.Goals as goal
 
 pub returns : goal.returns

@@ -1,7 +1,7 @@
 use Rattle.std.proofs.Common.{sym, ap, ◌∙◌}
 use Rattle.wap_cardrules.specs.declared.event.Event.{Event}
 use Rattle.wap_cardrules.specs.Events.{named}
-use Rattle.wap_cards.proofs.Words.{word_onenterforward, word_onenterbackward, word_ontimer}
+use Rattle.wap_cards.proofs.ComparedTexts.{word_onenterforward, word_onenterbackward, word_ontimer}
 use Rattle.wap_cards.proofs.events.type_of.Goals as goal
 
 pub returns-in-Forward : goal.returns-in-Forward

@@ -1,7 +1,7 @@
 use Rattle.std.proofs.Common.{◌∙◌, ap, List, ℕ}
 use Rattle.std.specs.Str.{chars}
 use Rattle.wap_base.specs.Texts.{is_same_text}
-use Rattle.wap_cards.proofs.Words.{word_same}
+use Rattle.wap_cards.proofs.ComparedTexts.{word_same}
 use Rattle.wap_cards.proofs.tasks.is_filled.Goals as goal
 
 pub returns : goal.returns

@@ -1,7 +1,7 @@
 use Rattle.std.proofs.Common.{◌∙◌, ap, codes, List, ℕ, Option}
 use Rattle.std.specs.Str.{chars}
 use Rattle.wap_tokens.specs.markup.Trees.{is_text, plain_value}
-use Rattle.wap_cards.proofs.Words.{word_true}
+use Rattle.wap_cards.proofs.ComparedTexts.{word_true}
 use Rattle.wap_cards.proofs.values.is_true.Goals as goal
 
 pub returns : goal.returns

@@ -3,7 +3,7 @@ use Rattle.std.specs.Borrow.{Bor}
 use Rattle.std.specs.Option.{option_copied}
 use Rattle.std.specs.Str.{chars}
 use Rattle.wap_tokens.specs.markup.Trees.{is_text}
-use Rattle.wap_cards.proofs.Words.{same_word}
+use Rattle.wap_cards.proofs.ComparedTexts.{same_word}
 use Rattle.wap_cards.proofs.values.is_word.Goals as goal
 
 pub returns-in-Some : goal.returns-in-Some

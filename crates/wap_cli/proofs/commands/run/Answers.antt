@@ -1,4 +1,4 @@
-use Rattle.wap_keys.specs.words.Words.{command}
+use Rattle.wap_keys.specs.words.Commands.{command}
 use Rattle.wap_cli.proofs.Serving.{nothing_runs}
 use Rattle.wap_cli.proofs.commands.run.Goals as goal
 

@@ -4,7 +4,7 @@ use Rattle.std.specs.Prelude.{nat_eq, codes, option_and_then, if◌then◌else�
 use Rattle.std.specs.List.{starts_with}
 use Rattle.wap_url.specs.declared.url.Url.{Url}
 use Rattle.wap_url.specs.declared.fault.UrlFault.{UrlFault}
-use Rattle.wap_url.specs.Reading.{url_at}
+use Rattle.wap_url.specs.Calculation.{url_at}
 use Rattle.wap_value.specs.declared.value.Value.{Value}
 use Rattle.wap_value.specs.Conversion.{text_of}
 use Rattle.wap_world.specs.declared.refusal.Refusal.{Refusal}

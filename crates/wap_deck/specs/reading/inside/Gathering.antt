@@ -3,7 +3,7 @@
 use Rattle.std.specs.Prelude.{ℕ, zero, suc, Bool, true, false, List, [], ◌∷◌, Option, Some, None}
 use Rattle.std.specs.Prelude.{Ok}
 use Rattle.wap_base.specs.Outcome.{◌>>=◌}
-use Rattle.wap_wbxml.specs.reading.Steps.{Reading, Next, told}
+use Rattle.wap_wbxml.specs.reading.ByteReading.{Reading, Next, told}
 
 -- what was read, made into something else; the state stays
 abbrev pub read_as : {A B S : Type 0} → (A → B) → Reading (A × S) → Reading (B × S)

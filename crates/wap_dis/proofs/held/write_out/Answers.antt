@@ -1,6 +1,6 @@
 use Rattle.std.proofs.Common.{List, ℕ, Ok, Err, true, refl, subst}
 use Rattle.wap_devices.specs.Sinks.{Puts}
-use Rattle.wap_dis.specs.inside.Held.{state}
+use Rattle.wap_dis.specs.inside.Gathered.{state}
 use Rattle.wap_dis.proofs.Putting.{writes_both, fails_first, fails_second}
 use Rattle.wap_dis.proofs.held.write_out.Goals as goal
 

@@ -6,8 +6,8 @@ use Rattle.wap_dis.specs.declared.word.Word.TheVariants.{Name, Number}
 use Rattle.wap_dis.specs.Names.{name_of}
 use Rattle.wap_dis.specs.Listing.{line, operand_count, instr_words}
 use Rattle.wap_dis.specs.inside.Gathering.{Gathers}
-use Rattle.wap_dis.specs.inside.Held.{state}
-use Rattle.wap_dis.specs.inside.Words.{word_bytes}
+use Rattle.wap_dis.specs.inside.Gathered.{state}
+use Rattle.wap_dis.specs.inside.LineWords.{word_bytes}
 use Rattle.wap_dis.proofs.lines.put_instr_line.Goals as goal
 
 pub returns : goal.returns

@@ -2,7 +2,7 @@ use Rattle.std.proofs.Common.{ℕ, List, [], ◌∷◌, codes, subst}
 use Rattle.std.specs.Fmt.{decimal}
 use Rattle.wap_dis.specs.Listing.{line}
 use Rattle.wap_dis.specs.inside.Gathering.{Gathers}
-use Rattle.wap_dis.specs.inside.Held.{state}
+use Rattle.wap_dis.specs.inside.Gathered.{state}
 use Rattle.wap_dis.proofs.lines.put_unit_line.Goals as goal
 
 pub returns : goal.returns

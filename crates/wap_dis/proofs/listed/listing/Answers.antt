@@ -3,7 +3,7 @@ use Rattle.std.proofs.lemmas.List.{append-nil}
 use Rattle.wap_unit.specs.declared.unit.Unit.{Unit}
 use Rattle.wap_dis.specs.Listing.{listing}
 use Rattle.wap_dis.specs.inside.Gathering.{Gathers}
-use Rattle.wap_dis.specs.inside.Held.{state}
+use Rattle.wap_dis.specs.inside.Gathered.{state}
 use Rattle.wap_dis.proofs.Putting.{gathers_then, gathers_whole, gathers_broken}
 use Rattle.wap_dis.proofs.Putting.{unlike}
 use Rattle.wap_dis.proofs.listed.listing.Goals as goal

@@ -1,5 +1,5 @@
 use Rattle.std.proofs.Common.{◌<◌, ◌≤◌, length, arith}
-use Rattle.wap_dis.specs.inside.Held.{state}
+use Rattle.wap_dis.specs.inside.Gathered.{state}
 use Rattle.wap_dis.proofs.Lists.{puts_byte}
 use Rattle.wap_dis.proofs.listed.put_bytes.Goals as goal
 

@@ -2,7 +2,7 @@ use Rattle.std.proofs.Common.{◌-◌, take, drop}
 use Rattle.std.specs.List.{flat_map, enumerate_from}
 use Rattle.wap_dis.specs.Listing.{byte_line}
 use Rattle.wap_dis.specs.inside.Gathering.{Gathers}
-use Rattle.wap_dis.specs.inside.Held.{state}
+use Rattle.wap_dis.specs.inside.Gathered.{state}
 use Rattle.wap_dis.proofs.listed.put_bytes.Given as goal
 
 abbrev pub invariant-loop-place : goal.invariant-loop-place

@@ -3,7 +3,7 @@ use Rattle.std.proofs.Common.{sym, ap, subst, ◌∙◌, append_assoc, arith}
 use Rattle.std.proofs.lemmas.List.{append-nil}
 use Rattle.wap_dis.specs.Listing.{byte_lines, instr_line, code_from}
 use Rattle.wap_dis.specs.inside.Gathering.{Gathers}
-use Rattle.wap_dis.specs.inside.Held.{state}
+use Rattle.wap_dis.specs.inside.Gathered.{state}
 use Rattle.wap_dis.proofs.Putting.{gathers_then}
 use Rattle.wap_dis.proofs.Lists.{code_step, code_end, code_none}
 use Rattle.wap_dis.proofs.listed.put_code.Goals as goal

@@ -1,6 +1,6 @@
 use Rattle.std.proofs.Common.{◌<◌, length, arith}
 use Rattle.wap_dis.specs.Listing.{constant_line}
-use Rattle.wap_dis.specs.inside.Held.{state}
+use Rattle.wap_dis.specs.inside.Gathered.{state}
 use Rattle.wap_dis.proofs.Lists.{puts_indexed}
 use Rattle.wap_dis.proofs.listed.put_constants.Goals as goal
 

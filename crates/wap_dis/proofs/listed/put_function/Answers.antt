@@ -1,7 +1,7 @@
 use Rattle.std.proofs.Common.{ℕ, List, length, subst}
 use Rattle.wap_dis.specs.Listing.{head_line, code_from}
 use Rattle.wap_dis.specs.inside.Gathering.{Gathers}
-use Rattle.wap_dis.specs.inside.Held.{state}
+use Rattle.wap_dis.specs.inside.Gathered.{state}
 use Rattle.wap_dis.proofs.Putting.{gathers_then}
 use Rattle.wap_dis.proofs.listed.put_function.Goals as goal
 

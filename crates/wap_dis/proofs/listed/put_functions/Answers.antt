@@ -1,7 +1,7 @@
 use Rattle.std.proofs.Common.{◌<◌, ◌≡◌, List, length, get_or, subst, arith}
 use Rattle.wap_unit.specs.declared.unit.Code.{Code}
 use Rattle.wap_dis.specs.Listing.{function_lines}
-use Rattle.wap_dis.specs.inside.Held.{state}
+use Rattle.wap_dis.specs.inside.Gathered.{state}
 use Rattle.wap_dis.proofs.Lists.{puts_indexed}
 use Rattle.wap_dis.proofs.listed.put_functions.Goals as goal
 

@@ -4,7 +4,7 @@ use Rattle.wap_unit.specs.declared.unit.Constant.{Constant}
 use Rattle.wap_unit.specs.declared.unit.Pragma.{Pragma}
 use Rattle.wap_dis.specs.Listing.{unit_line, constant_line, pragma_line, function_lines, listing}
 use Rattle.wap_dis.specs.inside.Gathering.{Gathers}
-use Rattle.wap_dis.specs.inside.Held.{state}
+use Rattle.wap_dis.specs.inside.Gathered.{state}
 use Rattle.wap_dis.proofs.Putting.{gathers_then}
 use Rattle.wap_dis.proofs.listed.put_listing.Goals as goal
 

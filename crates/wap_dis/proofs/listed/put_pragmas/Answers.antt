@@ -1,7 +1,7 @@
 use Rattle.std.proofs.Common.{◌<◌, length, get_or, refl, arith}
 use Rattle.wap_unit.specs.declared.unit.Pragma.TheVariants.{Domain}
 use Rattle.wap_dis.specs.Listing.{pragma_line}
-use Rattle.wap_dis.specs.inside.Held.{state}
+use Rattle.wap_dis.specs.inside.Gathered.{state}
 use Rattle.wap_dis.proofs.Lists.{puts_indexed}
 use Rattle.wap_dis.proofs.listed.put_pragmas.Goals as goal
 

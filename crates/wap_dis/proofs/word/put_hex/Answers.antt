@@ -1,6 +1,6 @@
 use Rattle.std.proofs.Common.{ℕ, ◌<◌, ◌/◌, get_or, ◌∷◌, [], length, ap, ◌∙◌, arith}
 use Rattle.wap_dis.specs.Listing.{hex_digit, hex_byte}
-use Rattle.wap_dis.specs.inside.Held.{state}
+use Rattle.wap_dis.specs.inside.Gathered.{state}
 use Rattle.wap_dis.proofs.Putting.{puts_at}
 use Rattle.wap_dis.proofs.word.put_hex.Goals as goal
 

@@ -2,7 +2,7 @@ use Rattle.std.proofs.Common.{take}
 use Rattle.std.specs.List.{flat_map}
 use Rattle.wap_dis.specs.Listing.{hex_byte}
 use Rattle.wap_dis.specs.inside.Gathering.{Gathers}
-use Rattle.wap_dis.specs.inside.Held.{state}
+use Rattle.wap_dis.specs.inside.Gathered.{state}
 use Rattle.wap_dis.proofs.word.put_hex.Given as goal
 
 abbrev pub invariant-loop-byte : goal.invariant-loop-byte

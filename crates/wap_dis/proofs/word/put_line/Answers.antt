@@ -1,8 +1,8 @@
 use Rattle.std.proofs.Common.{List, ℕ, [], ◌∷◌, ◌++◌, map}
 use Rattle.std.specs.List.{flat_map}
 use Rattle.wap_dis.specs.Listing.{spaced}
-use Rattle.wap_dis.specs.inside.Held.{state}
-use Rattle.wap_dis.specs.inside.Words.{word_bytes}
+use Rattle.wap_dis.specs.inside.Gathered.{state}
+use Rattle.wap_dis.specs.inside.LineWords.{word_bytes}
 use Rattle.wap_dis.proofs.Putting.{gathers_then}
 use Rattle.wap_dis.proofs.word.put_line.Goals as goal
 

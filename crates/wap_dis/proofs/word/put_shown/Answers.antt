@@ -1,6 +1,6 @@
 use Rattle.std.proofs.Common.{ℕ, ◌<◌, ◌∷◌, [], length, ap, arith}
 use Rattle.wap_dis.specs.Listing.{shown_byte}
-use Rattle.wap_dis.specs.inside.Held.{state}
+use Rattle.wap_dis.specs.inside.Gathered.{state}
 use Rattle.wap_dis.proofs.Putting.{puts_one}
 use Rattle.wap_dis.proofs.word.put_shown.Goals as goal
 

@@ -4,8 +4,8 @@ use Rattle.wap_dis.specs.declared.word.Word.{Word}
 use Rattle.wap_dis.specs.declared.word.Word.TheVariants.{Name}
 use Rattle.wap_dis.specs.Listing.{spaced}
 use Rattle.wap_dis.specs.inside.Gathering.{Gathers}
-use Rattle.wap_dis.specs.inside.Held.{state}
-use Rattle.wap_dis.specs.inside.Words.{word_bytes}
+use Rattle.wap_dis.specs.inside.Gathered.{state}
+use Rattle.wap_dis.specs.inside.LineWords.{word_bytes}
 use Rattle.wap_dis.proofs.Putting.{gathers_then, puts_at, flat_map-map}
 use Rattle.wap_dis.proofs.word.put_words.Goals as goal
 

@@ -1,9 +1,9 @@
 use Rattle.std.proofs.Common.{take, map}
 use Rattle.std.specs.List.{flat_map}
 use Rattle.wap_dis.specs.Listing.{spaced}
-use Rattle.wap_dis.specs.inside.Words.{word_bytes}
+use Rattle.wap_dis.specs.inside.LineWords.{word_bytes}
 use Rattle.wap_dis.specs.inside.Gathering.{Gathers}
-use Rattle.wap_dis.specs.inside.Held.{state}
+use Rattle.wap_dis.specs.inside.Gathered.{state}
 use Rattle.wap_dis.proofs.word.put_words.Given as goal
 
 abbrev pub invariant-loop-word : goal.invariant-loop-word

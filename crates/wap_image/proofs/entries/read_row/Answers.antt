@@ -1,7 +1,7 @@
 use Rattle.std.proofs.Common.{[], Err, ap, ◌∙◌}
 use Rattle.std.proofs.lemmas.Result.{err_from_is_err_and}
-use Rattle.wap_image.specs.inside.Steps.{many}
-use Rattle.wap_image.specs.inside.Reading.{entry_at}
+use Rattle.wap_image.specs.inside.ByteReading.{many}
+use Rattle.wap_image.specs.inside.ImageReading.{entry_at}
 use Rattle.wap_image.proofs.Loops.{one_more, at_fault, at_exit}
 use Rattle.wap_image.proofs.entries.read_row.Goals as goal
 

@@ -1,5 +1,5 @@
 use Rattle.std.proofs.Common.{◌∙◌}
-use Rattle.wap_image.proofs.Words.{http_is}
+use Rattle.wap_image.proofs.SchemeWord.{http_is}
 use Rattle.wap_image.proofs.items.is_http.Goals as goal
 
 pub returns : goal.returns

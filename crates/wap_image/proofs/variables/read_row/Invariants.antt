@@ -1,6 +1,6 @@
 use Rattle.std.proofs.Common.{[]}
-use Rattle.wap_image.specs.inside.Steps.{many}
-use Rattle.wap_image.specs.inside.Reading.{variable_at}
+use Rattle.wap_image.specs.inside.ByteReading.{many}
+use Rattle.wap_image.specs.inside.ImageReading.{variable_at}
 use Rattle.wap_image.proofs.Loops.{Continues}
 use Rattle.wap_image.proofs.variables.read_row.Given as goal
 

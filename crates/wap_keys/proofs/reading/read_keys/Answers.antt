@@ -1,7 +1,7 @@
 -- Keys are read call by call: what each call answers goes on from what was read before.
 use Rattle.std.proofs.Common.{List, [], ◌++◌, ◌∷◌, sym, subst}
 use Rattle.wap_base.specs.declared.key.Key.{Key}
-use Rattle.wap_keys.specs.Reading.{HasRead, Answers}
+use Rattle.wap_keys.specs.KeyReaders.{HasRead, Answers}
 use Rattle.wap_keys.proofs.ReaderLaws.{given_of}
 use Rattle.wap_keys.proofs.ReaderSteps.{on_err, then_read, then_ended, then_lost}
 use Rattle.wap_keys.specs.Read.{GivesSome}

@@ -1,5 +1,5 @@
 use Rattle.std.proofs.Common.{ℕ, List}
-use Rattle.wap_keys.specs.Reading.{HasRead, room}
+use Rattle.wap_keys.specs.KeyReaders.{HasRead, room}
 use Rattle.wap_keys.proofs.reading.read_keys.Given as goal
 
 -- the reader has said the keys of what was taken

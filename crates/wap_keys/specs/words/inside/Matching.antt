@@ -9,7 +9,7 @@ use Rattle.clap.specs.Simple.{App, new_rule, new_shape}
 use Rattle.clap.specs.declared.parser.matches.ArgMatches.{ArgMatches}
 use Rattle.clap.specs.declared.parser.matches.ValueSource.TheVariants.{CommandLine}
 use Rattle.clap.specs.declared.builder.value_parser.Reading.TheVariants as reading
-use Rattle.wap_keys.specs.words.Reading.{Form, Use, is_option, uses_of}
+use Rattle.wap_keys.specs.words.Arguments.{Form, Use, is_option, uses_of}
 use Rattle.wap_keys.specs.declared.words.word.Word.{Word}
 
 abbrev pub option_named : Text → Rule

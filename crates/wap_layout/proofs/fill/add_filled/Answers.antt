@@ -1,6 +1,6 @@
 use Rattle.std.proofs.Common.{◌≡◌, ◌++◌, List, ℕ, ap, ◌∙◌, subst}
 use Rattle.std.specs.Prelude.{OnOk}
-use Rattle.wap_layout.specs.Words.{unless_empty}
+use Rattle.wap_layout.specs.Blanks.{unless_empty}
 use Rattle.wap_layout.proofs.Begun.{all_filled, is_none}
 use Rattle.wap_layout.proofs.fill.add_filled.Goals as goal
 

@@ -2,7 +2,7 @@ use Rattle.std.proofs.Common.{◌≡◌, ◌++◌, length}
 use denote.Text.{Utf8}
 use denote.Shadow.{shadow}
 use Rattle.std.specs.Str.{chars}
-use Rattle.wap_layout.specs.Words.{words_of}
+use Rattle.wap_layout.specs.Blanks.{words_of}
 use Rattle.wap_layout.specs.Calculation.{filled}
 use Rattle.wap_layout.specs.inside.Slices.{fill_text}
 use Rattle.wap_layout.proofs.fill.add_filled.Given as goal

@@ -3,7 +3,7 @@ use denote.Text.{Utf8}
 use denote.Shadow.{shadow}
 use Rattle.std.specs.List.{flat_map, slice_split}
 use Rattle.std.specs.Str.{chars}
-use Rattle.wap_layout.specs.Words.{is_line_feed}
+use Rattle.wap_layout.specs.Blanks.{is_line_feed}
 use Rattle.wap_layout.specs.Pieces.{kept}
 use Rattle.wap_layout.specs.Calculation.{piece_lines}
 use Rattle.wap_layout.specs.inside.Endings.{is_hard}

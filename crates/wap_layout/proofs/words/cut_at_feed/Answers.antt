@@ -1,6 +1,6 @@
 use Rattle.std.proofs.Common.{sym, ap, ◌∙◌}
 use Rattle.std.specs.List.{position}
-use Rattle.wap_layout.specs.Words.{is_line_feed}
+use Rattle.wap_layout.specs.Blanks.{is_line_feed}
 use Rattle.wap_layout.proofs.Feeds.{feed_none}
 use Rattle.wap_layout.proofs.words.cut_at_feed.Goals as goal
 

@@ -1,5 +1,5 @@
 use Rattle.std.proofs.Common.{◌≡◌, drop, false}
-use Rattle.wap_lex.specs.Reading.{block_len, more_by}
+use Rattle.wap_lex.specs.Calculation.{block_len, more_by}
 use Rattle.wap_lex.proofs.comments.block_len.Given as goal
 
 -- no `*/` was passed

@@ -6,7 +6,7 @@ use Rattle.std.proofs.lemmas.Bool.{eqb-true}
 use Rattle.wap_lex.specs.declared.token.Kind.{Kind}
 use Rattle.wap_lex.specs.declared.token.Token.{Token}
 use Rattle.wap_lex.specs.Tokens.{kind_of, token_before}
-use Rattle.wap_lex.specs.Reading.{pieces_at}
+use Rattle.wap_lex.specs.Calculation.{pieces_at}
 use Rattle.wap_lex.proofs.Loops.{with_front, nothing_before, some_left}
 use Rattle.wap_lex.proofs.Loops.{pieces_more, pieces_fault, pieces_end}
 use Rattle.wap_lex.proofs.lexer.pieces.Goals as goal

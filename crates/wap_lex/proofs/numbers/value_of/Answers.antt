@@ -2,7 +2,7 @@ use Rattle.std.proofs.Common.{◌∙◌, ap, drop, get_or, ◌+◌, sym, arith}
 use Rattle.std.proofs.lemmas.List.{at_drop_more}
 use Rattle.std.specs.List.{fold}
 use Rattle.wap_lex.specs.Numbers.{with_digit}
-use Rattle.wap_lex.specs.Reading.{small}
+use Rattle.wap_lex.specs.Calculation.{small}
 use Rattle.wap_lex.proofs.Loops.{too_large}
 use Rattle.wap_lex.proofs.numbers.value_of.Goals as goal
 

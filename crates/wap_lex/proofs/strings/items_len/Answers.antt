@@ -1,5 +1,5 @@
 use Rattle.std.proofs.Common.{◌+◌, ◌-◌, ℕ, length, drop, ap, ◌∙◌, sym, arith, length-drop}
-use Rattle.wap_lex.specs.Reading.{item_len, items_len}
+use Rattle.wap_lex.specs.Calculation.{item_len, items_len}
 use Rattle.wap_lex.proofs.Loops.{items_more, items_end, items_over}
 use Rattle.wap_lex.proofs.strings.items_len.Goals as goal
 

@@ -1,5 +1,5 @@
 use Rattle.std.proofs.Common.{◌≡◌, ◌≤◌, ◌+◌, ◌-◌, length}
-use Rattle.wap_lex.specs.Reading.{items_len}
+use Rattle.wap_lex.specs.Calculation.{items_len}
 use Rattle.wap_lex.proofs.strings.items_len.Given as goal
 
 -- what was passed are items

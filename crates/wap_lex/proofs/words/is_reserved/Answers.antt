@@ -1,7 +1,7 @@
 use Rattle.std.proofs.Common.{◌≡◌, [], get_or, sym, ◌∙◌, arith}
 use Rattle.std.specs.List.{list_any}
 use Rattle.wap_base.specs.Texts.{is_same_text}
-use Rattle.wap_lex.specs.Words.{reserved_words}
+use Rattle.wap_lex.specs.ReservedWords.{reserved_words}
 use Rattle.wap_lex.proofs.FirstTexts.{word_rows, short_reserved, other_reserved, reserved_in_row}
 use Rattle.wap_lex.proofs.words.is_reserved.Goals as goal
 

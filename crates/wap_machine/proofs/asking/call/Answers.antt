@@ -2,7 +2,7 @@ use Rattle.std.proofs.Common.{sym, subst}
 use Rattle.wap_machine.specs.declared.next.Callee.{Callee}
 use Rattle.wap_machine.specs.Seen.{called_of}
 use Rattle.wap_execution.specs.laws.Settings.{uncounted}
-use Rattle.wap_machine.specs.inside.Steps.{rest, Same, calls_from, CanCallFrom}
+use Rattle.wap_machine.specs.inside.MachineSteps.{rest, Same, calls_from, CanCallFrom}
 use Rattle.wap_machine.proofs.CallLaws.{local_from, local_ordered}
 use Rattle.wap_machine.proofs.HostLaws.{grows_still}
 use Rattle.wap_machine.proofs.asking.call.Goals as goal

@@ -10,7 +10,7 @@ use Rattle.wap_machine.specs.declared.script.Script.{Script}
 use Rattle.wap_machine.specs.declared.machine.Step.{Step}
 use Rattle.wap_machine.specs.Hosts.{Gives, Fetches}
 use Rattle.wap_execution.specs.laws.Settings.{uncounted}
-use Rattle.wap_machine.specs.inside.Steps.{rest, Same, calls_from, goes_with}
+use Rattle.wap_machine.specs.inside.MachineSteps.{rest, Same, calls_from, goes_with}
 use Rattle.wap_machine.proofs.CallLaws.{library_told, library_fetches}
 use Rattle.wap_machine.proofs.HostLaws.{host_keeps, other_fault, told_grows}
 use Rattle.wap_machine.proofs.asking.call_library.Goals as goal

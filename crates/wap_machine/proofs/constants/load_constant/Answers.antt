@@ -10,7 +10,7 @@ use Rattle.wap_execution.specs.Effects.{Effect, onward, with_kept, effect_of}
 use Rattle.wap_execution.specs.declared.action.Action.TheVariants.{LoadConstant}
 use Rattle.wap_machine.specs.Standing.{Fits}
 use Rattle.wap_machine.specs.Doing.{Does}
-use Rattle.wap_machine.specs.inside.Parts.{HasConstant}
+use Rattle.wap_machine.specs.inside.InstructionParts.{HasConstant}
 use Rattle.wap_machine.proofs.Doing.{constant_here, loads}
 use Rattle.wap_machine.proofs.constants.load_constant.Goals as goal
 

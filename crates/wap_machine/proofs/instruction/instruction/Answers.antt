@@ -6,7 +6,7 @@ use Rattle.wap_unit.specs.declared.instr.InstrFault.{InstrFault}
 use Rattle.wap_unit.specs.Instructions.{row_of, read_row}
 use Rattle.wap_execution.specs.declared.action.Action.{Action}
 use Rattle.wap_execution.specs.Frames.{Frame, code_of}
-use Rattle.wap_machine.specs.inside.Parts.{IsInstruction}
+use Rattle.wap_machine.specs.inside.InstructionParts.{IsInstruction}
 use Rattle.wap_machine.proofs.Ready.{instruction_is, no_row, no_instr}
 use Rattle.wap_machine.proofs.instruction.instruction.Goals as goal
 

@@ -8,7 +8,7 @@ use Rattle.wap_machine.specs.Runs.{run_of}
 use Rattle.wap_machine.specs.Seen.{called_of}
 use Rattle.wap_machine.specs.inside.Advances.{IsAdvanced}
 use Rattle.wap_machine.specs.inside.Efforts.{effort, GoesBelow}
-use Rattle.wap_machine.specs.inside.Steps.{rest, Same, calls_from, LimitsStay, Wants, IsInOrderFor}
+use Rattle.wap_machine.specs.inside.MachineSteps.{rest, Same, calls_from, LimitsStay, Wants, IsInOrderFor}
 use Rattle.wap_machine.proofs.HostLaws.{grows_still}
 use Rattle.wap_machine.proofs.StepLaws.{none_left, light_below, never_wants}
 use Rattle.wap_machine.proofs.GoingLaws.{nothing_told, turn_told, turn_wanted}

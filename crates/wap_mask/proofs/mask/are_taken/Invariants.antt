@@ -2,7 +2,7 @@ use Rattle.std.proofs.Common.{◌≡◌, drop}
 use denote.Text.{Utf8}
 use denote.Shadow.{shadow}
 use Rattle.std.specs.Str.{chars}
-use Rattle.wap_mask.specs.Reading.{is_taken}
+use Rattle.wap_mask.specs.Calculation.{is_taken}
 use Rattle.wap_mask.proofs.mask.are_taken.Given as goal
 
 abbrev pub invariant-loop-symbol : goal.invariant-loop-symbol

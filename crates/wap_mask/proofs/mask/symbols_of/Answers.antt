@@ -2,8 +2,8 @@ use Rattle.std.proofs.Common.{List, ◌++◌, sym, ap, ◌∙◌, rules}
 use Rattle.std.specs.Prelude.{option_map}
 use Rattle.std.specs.Str.{chars}
 use Rattle.wap_mask.specs.declared.symbol.Symbol.{Symbol}
-use Rattle.wap_mask.specs.Reading.{symbols_of}
-use Rattle.wap_mask.proofs.Reading.{symbols_of-push}
+use Rattle.wap_mask.specs.Calculation.{symbols_of}
+use Rattle.wap_mask.proofs.SymbolLaws.{symbols_of-push}
 use Rattle.wap_mask.proofs.mask.symbols_of.Goals as goal
 
 pub loop-symbol-preserved : goal.loop-symbol-preserved

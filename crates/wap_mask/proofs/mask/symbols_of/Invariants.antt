@@ -3,7 +3,7 @@ use Rattle.std.specs.Prelude.{option_map}
 use denote.Text.{Utf8}
 use denote.Shadow.{shadow}
 use Rattle.std.specs.Str.{chars}
-use Rattle.wap_mask.specs.Reading.{symbols_of}
+use Rattle.wap_mask.specs.Calculation.{symbols_of}
 use Rattle.wap_mask.proofs.mask.symbols_of.Given as goal
 
 abbrev pub invariant-loop-symbol : goal.invariant-loop-symbol

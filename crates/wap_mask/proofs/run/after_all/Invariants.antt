@@ -2,7 +2,7 @@ use Rattle.std.proofs.Common.{◌≡◌, length}
 use denote.Text.{Utf8}
 use denote.Shadow.{shadow}
 use Rattle.std.specs.Str.{chars}
-use Rattle.wap_mask.specs.Reading.{after_all}
+use Rattle.wap_mask.specs.Calculation.{after_all}
 use Rattle.wap_mask.proofs.run.after_all.Given as goal
 
 abbrev pub invariant-loop-character : goal.invariant-loop-character

@@ -1,4 +1,4 @@
-use Rattle.wap_grammar.specs.Words.{lexemes_of}
+use Rattle.wap_grammar.specs.Lexemes.{lexemes_of}
 use Rattle.wap_meaning.proofs.NeedsLemmas.Programs.{drawn}
 use Rattle.wap_meaning.proofs.needs.needs_are_drawn.Goals as goal
 

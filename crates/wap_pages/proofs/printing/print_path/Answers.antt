@@ -1,6 +1,6 @@
 use Rattle.std.proofs.Common.{ℕ, List, ◌∷◌, sym, subst}
 use Rattle.std.specs.List.{flat_map}
-use Rattle.wap_faults.specs.Faults.{field_text}
+use Rattle.wap_devices.specs.Printing.{field_text}
 use Rattle.wap_pages.specs.Printing.{step_text, path_text}
 use Rattle.wap_devices.specs.Sinks.{Puts}
 use Rattle.wap_devices.proofs.Putting.{puts_then, puts_fails}

@@ -1,5 +1,5 @@
 use Rattle.std.proofs.Common.{length}
-use Rattle.wap_grammar.specs.inside.Steps.{items_at}
+use Rattle.wap_grammar.specs.inside.TokenReading.{items_at}
 use Rattle.wap_grammar.specs.inside.Statements.{statement_at}
 use Rattle.wap_grammar.specs.inside.Programs.{next_function}
 use Rattle.wap_parse.proofs.ExpressionsLemmas.Loops.{Continues}

@@ -1,6 +1,6 @@
 use Rattle.std.proofs.Common.{List, ◌∙◌, subst}
 use Rattle.wap_grammar.specs.declared.lexeme.Lexeme.{Lexeme}
-use Rattle.wap_grammar.specs.Words.{lexemes_of}
+use Rattle.wap_grammar.specs.Lexemes.{lexemes_of}
 use Rattle.wap_grammar.proofs.Answering.{IsRead, found_by, only_by, syntax_by, nested_by, first_by}
 use Rattle.wap_parse.proofs.programs.parse.Goals as goal
 

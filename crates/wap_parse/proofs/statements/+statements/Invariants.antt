@@ -1,5 +1,5 @@
 use Rattle.std.proofs.Common.{◌+◌, ◌*◌, length}
-use Rattle.wap_grammar.specs.inside.Steps.{items_at}
+use Rattle.wap_grammar.specs.inside.TokenReading.{items_at}
 use Rattle.wap_grammar.specs.inside.Statements.{next_statement, statement_at}
 use Rattle.wap_parse.proofs.ExpressionsLemmas.Loops.{Continues}
 use Rattle.wap_parse.proofs.statements.+statements.Given as goal

@@ -3,7 +3,7 @@ use Rattle.std.specs.Prelude.{ℕ, List, Option}
 use Rattle.wap_base.specs.Outcome.{◌>>=◌}
 use Rattle.wap_grammar.specs.declared.lexeme.Lexeme.{Lexeme}
 use Rattle.wap_grammar.specs.declared.word.Sign.TheVariants as sign
-use Rattle.wap_grammar.specs.inside.Steps.{Reading, closed}
+use Rattle.wap_grammar.specs.inside.TokenReading.{Reading, closed}
 use Rattle.wap_grammar.specs.inside.Programs.{property_at}
 
 abbrev pub ended_at : List ℕ → List Lexeme → Reading (List ℕ × List ℕ × Option (List ℕ))

@@ -3,7 +3,7 @@ use Rattle.wap_tokens.specs.declared.markup.document.Kid.{Kid}
 use Rattle.wap_tokens.specs.declared.markup.document.Attr.{Attr}
 use Rattle.wap_push.specs.Fields.{elements_of, created_of}
 use Rattle.wap_push.specs.Indications.{is_si, IsBody}
-use Rattle.wap_push.specs.Reading.{body_in}
+use Rattle.wap_push.specs.Calculation.{body_in}
 use Rattle.wap_push.proofs.Readings.{body_found, indication_given, fault_given}
 use Rattle.wap_push.proofs.reading.indication_of.Goals as goal
 

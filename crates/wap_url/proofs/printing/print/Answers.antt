@@ -1,6 +1,6 @@
 use Rattle.std.proofs.Common.{List, ℕ, subst, sym, arith}
 use Rattle.std.proofs.lemmas.Grind.{common_steps}
-use Rattle.wap_url.specs.Parts.{IsUrl}
+use Rattle.wap_url.specs.UrlParts.{IsUrl}
 use Rattle.wap_url.proofs.NormalLaws.{normal_again}
 use Rattle.wap_url.proofs.printing.print.Goals as goal
 

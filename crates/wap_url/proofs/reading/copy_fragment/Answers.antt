@@ -3,7 +3,7 @@ use Rattle.std.proofs.Common.{arith, subst, refl, Some, encode_utf8_all, IsCharB
 use Rattle.std.specs.Str.{chars, all_scalars}
 use Rattle.std.proofs.lemmas.Bool.{eqb-true, eqb-false}
 use Rattle.wap_base.specs.Cuts.{until, onward, after_one}
-use Rattle.wap_url.specs.Reading.{is_stop, has_bad_char}
+use Rattle.wap_url.specs.Calculation.{is_stop, has_bad_char}
 use Rattle.wap_url.proofs.FrontLaws.{HasFragment, has_fragment, no_fragment}
 use Rattle.wap_url.proofs.FrontLaws.{behind_hash, fragment_text}
 use Rattle.wap_url.proofs.reading.copy_fragment.Goals as goal

@@ -1,5 +1,5 @@
 use Rattle.std.proofs.Common.{ap, ◌∙◌}
-use Rattle.wap_url.specs.Reading.{begins_with_slashes}
+use Rattle.wap_url.specs.Calculation.{begins_with_slashes}
 use Rattle.wap_url.proofs.RelationLaws.{authority-encodes}
 use Rattle.wap_url.proofs.relation.begins_with_two_slashes.Goals as goal
 

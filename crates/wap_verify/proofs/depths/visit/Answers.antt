@@ -4,7 +4,7 @@ use Rattle.wap_verify.specs.declared.step.Step.{Step}
 use Rattle.wap_verify.specs.declared.step.Way.{Way}
 use Rattle.wap_verify.specs.declared.fault.VerifyFault.{VerifyFault}
 use Rattle.wap_verify.specs.declared.fault.VerifyFault.TheVariants.{NoMemory}
-use Rattle.wap_verify.specs.Steps.{way_on}
+use Rattle.wap_verify.specs.CodePlaces.{way_on}
 use Rattle.wap_verify.specs.Faults.{IsFunctionFault}
 use Rattle.wap_verify.specs.inside.Work.{State, followed, AgreesWith, Visits}
 use Rattle.wap_verify.specs.inside.Kept.{state, IsConflictOn}

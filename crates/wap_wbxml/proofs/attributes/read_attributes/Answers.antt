@@ -1,8 +1,8 @@
 use Rattle.std.proofs.Common.{ap, length, Option, Ok, ◌∙◌}
 use Rattle.wap_tokens.specs.declared.markup.document.Attr.{Attr}
-use Rattle.wap_wbxml.specs.reading.Steps.{all_by}
-use Rattle.wap_wbxml.specs.reading.Parts.{as_short}
-use Rattle.wap_wbxml.specs.reading.Parts.{next_attribute, attributes_at}
+use Rattle.wap_wbxml.specs.reading.ByteReading.{all_by}
+use Rattle.wap_wbxml.specs.reading.BodyReading.{as_short}
+use Rattle.wap_wbxml.specs.reading.BodyReading.{next_attribute, attributes_at}
 use Rattle.wap_wbxml.proofs.Loops.{begins, one_more}
 use Rattle.wap_wbxml.proofs.attributes.read_attributes.Goals as goal
 

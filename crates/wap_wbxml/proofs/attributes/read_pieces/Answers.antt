@@ -1,8 +1,8 @@
 use Rattle.std.proofs.Common.{ap, length, Option, Ok, ◌∙◌}
 use Rattle.wap_tokens.specs.declared.markup.document.Piece.{Piece}
-use Rattle.wap_wbxml.specs.reading.Steps.{all_by}
-use Rattle.wap_wbxml.specs.reading.Parts.{as_none}
-use Rattle.wap_wbxml.specs.reading.Parts.{next_piece, pieces_at}
+use Rattle.wap_wbxml.specs.reading.ByteReading.{all_by}
+use Rattle.wap_wbxml.specs.reading.BodyReading.{as_none}
+use Rattle.wap_wbxml.specs.reading.BodyReading.{next_piece, pieces_at}
 use Rattle.wap_wbxml.proofs.Loops.{begins, one_more}
 use Rattle.wap_wbxml.proofs.attributes.read_pieces.Goals as goal
 

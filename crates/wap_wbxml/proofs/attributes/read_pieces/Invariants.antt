@@ -1,5 +1,5 @@
 use Rattle.std.proofs.Common.{length}
-use Rattle.wap_wbxml.specs.reading.Parts.{as_none, next_piece, pieces_at}
+use Rattle.wap_wbxml.specs.reading.BodyReading.{as_none, next_piece, pieces_at}
 use Rattle.wap_wbxml.proofs.Loops.{Continues}
 use Rattle.wap_wbxml.proofs.attributes.read_pieces.Given as goal
 

@@ -1,7 +1,7 @@
 use Rattle.std.proofs.Common.{ap, length, Option, Ok, ◌∙◌}
 use Rattle.wap_tokens.specs.declared.markup.document.Attr.{Attr}
-use Rattle.wap_wbxml.specs.reading.Steps.{all_by}
-use Rattle.wap_wbxml.specs.reading.Parts.{as_none}
+use Rattle.wap_wbxml.specs.reading.ByteReading.{all_by}
+use Rattle.wap_wbxml.specs.reading.BodyReading.{as_none}
 use Rattle.wap_wbxml.specs.reading.Whole.{next_outer, outers_at}
 use Rattle.wap_wbxml.proofs.Loops.{begins, one_more}
 use Rattle.wap_wbxml.proofs.documents.read_outers.Goals as goal

@@ -1,5 +1,5 @@
 use Rattle.std.proofs.Common.{length}
-use Rattle.wap_wbxml.specs.reading.Parts.{as_none}
+use Rattle.wap_wbxml.specs.reading.BodyReading.{as_none}
 use Rattle.wap_wbxml.specs.reading.Whole.{next_outer, outers_at}
 use Rattle.wap_wbxml.proofs.Loops.{Continues}
 use Rattle.wap_wbxml.proofs.documents.read_outers.Given as goal

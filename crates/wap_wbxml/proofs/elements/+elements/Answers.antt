@@ -1,7 +1,7 @@
 use Rattle.std.proofs.Common.{ap, length, Option, Ok, ◌∙◌, arith}
 use Rattle.wap_tokens.specs.declared.markup.document.Kid.{Kid}
-use Rattle.wap_wbxml.specs.reading.Steps.{all_by}
-use Rattle.wap_wbxml.specs.reading.Parts.{as_short, next_kid, kids_at, element_at}
+use Rattle.wap_wbxml.specs.reading.ByteReading.{all_by}
+use Rattle.wap_wbxml.specs.reading.BodyReading.{as_short, next_kid, kids_at, element_at}
 use Rattle.wap_wbxml.proofs.Levels.{deeper}
 use Rattle.wap_wbxml.proofs.Loops.{begins, one_more}
 use Rattle.wap_wbxml.proofs.elements.+elements.Goals as goal

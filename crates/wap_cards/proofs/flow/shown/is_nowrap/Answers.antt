@@ -1,6 +1,6 @@
 use Rattle.std.proofs.Common.{List, ℕ, sym, ap, ◌∙◌}
 use Rattle.wap_base.specs.Texts.{is_same_text}
-use Rattle.wap_cards.proofs.Words.{word_nowrap}
+use Rattle.wap_cards.proofs.ComparedTexts.{word_nowrap}
 use Rattle.wap_cardrules.specs.Flow.{mode_named}
 use Rattle.wap_cards.specs.flow.inside.Modes.{paragraph_mode}
 use Rattle.wap_cards.proofs.flow.shown.is_nowrap.Goals as goal

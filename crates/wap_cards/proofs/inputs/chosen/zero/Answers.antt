@@ -1,6 +1,6 @@
 use Rattle.std.proofs.Common.{◌≡◌, List, ℕ, subst}
 use Rattle.std.specs.Result.{IfOk}
-use Rattle.wap_cards.proofs.Words.{word_zero}
+use Rattle.wap_cards.proofs.ComparedTexts.{word_zero}
 use Rattle.wap_cards.proofs.inputs.chosen.zero.Goals as goal
 
 pub returns : goal.returns

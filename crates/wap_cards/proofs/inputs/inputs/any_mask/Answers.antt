@@ -2,8 +2,8 @@ use Rattle.std.proofs.Common.{◌≡◌, List, ap, subst, ◌∙◌, refl, codes
 use Rattle.std.specs.Result.{IfOk}
 use Rattle.wap_mask.specs.declared.symbol.Symbol.{Symbol}
 use Rattle.wap_mask.specs.Grammar.{any_text}
-use Rattle.wap_mask.specs.Reading.{mask_of}
-use Rattle.wap_cards.proofs.Words.{chars-plain}
+use Rattle.wap_mask.specs.Calculation.{mask_of}
+use Rattle.wap_cards.proofs.ComparedTexts.{chars-plain}
 use Rattle.wap_cards.proofs.inputs.inputs.any_mask.Goals as goal
 
 pub returns : goal.returns

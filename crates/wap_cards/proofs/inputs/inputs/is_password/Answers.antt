@@ -4,7 +4,7 @@ use Rattle.wap_base.specs.Texts.{is_same_text}
 use Rattle.wap_tokens.specs.declared.markup.name.AttrName.TheVariants as attrs
 use Rattle.wap_tokens.specs.markup.Trees.{value_of}
 use Rattle.wap_vars.specs.Filling.{value_text}
-use Rattle.wap_cards.proofs.Words.{word_password}
+use Rattle.wap_cards.proofs.ComparedTexts.{word_password}
 use Rattle.wap_cards.proofs.inputs.inputs.is_password.Goals as goal
 
 pub returns : goal.returns

@@ -1,7 +1,7 @@
 -- Each key is read and then played: what both come to is a lemma of Going, where the session goes
 -- on, and of Exits, where it comes to its end.
 use Rattle.std.proofs.Common.{Bool, Ok, sym, ap, subst, ◌∙◌}
-use Rattle.wap_keys.specs.Reading.{Answers, CountsFaults}
+use Rattle.wap_keys.specs.KeyReaders.{Answers, CountsFaults}
 use Rattle.wap_keys.specs.declared.ending.Next.{Next}
 use Rattle.wap_keys.proofs.FaultLaws.{lost_steady}
 use Rattle.wap_cli.specs.declared.status.Status.{Status}

@@ -1,4 +1,4 @@
-use Rattle.wap_keys.specs.Reading.{room}
+use Rattle.wap_keys.specs.KeyReaders.{room}
 use Rattle.wap_cli.proofs.BrowseLemmas.Going.{Goes}
 use Rattle.wap_cli.proofs.browse.reading.play_keys.Given as goal
 

@@ -4,11 +4,11 @@ use Rattle.wap_meaning.specs.coding.Coded.{◌⨾◌, all_code, with_operand}
 use Rattle.wap_meaning.specs.coding.Expressions.{expr_code, assigned_code, step_code, joined_code}
 use Rattle.wap_meaning.specs.coding.Expressions.{cond_code}
 use Rattle.wap_codegen.specs.emission.inside.Operands.{joint_code}
-use Rattle.wap_codegen.proofs.EmissionLemmas.Parts.{of_literal, of_variable, of_assignment, of_step}
-use Rattle.wap_codegen.proofs.EmissionLemmas.Parts.{of_unary}
-use Rattle.wap_codegen.proofs.EmissionLemmas.Parts.{of_chain, of_choice, of_local, of_external}
-use Rattle.wap_codegen.proofs.EmissionLemmas.Parts.{of_library}
-use Rattle.wap_codegen.proofs.EmissionLemmas.Parts.{call_code, part_same, parts_same, chains_same}
+use Rattle.wap_codegen.proofs.EmissionLemmas.EmittedExpressions.{of_literal, of_variable, of_assignment, of_step}
+use Rattle.wap_codegen.proofs.EmissionLemmas.EmittedExpressions.{of_unary}
+use Rattle.wap_codegen.proofs.EmissionLemmas.EmittedExpressions.{of_chain, of_choice, of_local, of_external}
+use Rattle.wap_codegen.proofs.EmissionLemmas.EmittedExpressions.{of_library}
+use Rattle.wap_codegen.proofs.EmissionLemmas.EmittedExpressions.{call_code, part_same, parts_same, chains_same}
 use Rattle.wap_codegen.proofs.EmissionLemmas.Chaining.{adds_same, after_same, after_both}
 use Rattle.wap_codegen.proofs.EmissionLemmas.Chaining.{after_assignment}
 use Rattle.wap_codegen.proofs.EmissionLemmas.Chaining.{after_chain, cond_adds, leaves_more}

@@ -4,7 +4,7 @@ use Rattle.wap_grammar.specs.declared.program.expression.Literal.TheVariants as 
 use Rattle.wap_meaning.specs.coding.Coded.{with_operand, plain}
 use Rattle.wap_meaning.specs.coding.Constants.{number_of}
 use Rattle.wap_meaning.specs.coding.Expressions.{literal_code}
-use Rattle.wap_codegen.proofs.EmissionLemmas.Parts.{truth_code}
+use Rattle.wap_codegen.proofs.EmissionLemmas.EmittedExpressions.{truth_code}
 use Rattle.wap_codegen.proofs.EmissionLemmas.Chaining.{after_same}
 use Rattle.wap_codegen.proofs.emission.expressions.add_literal.Goals as goal
 

@@ -3,7 +3,7 @@ use Rattle.wap_unit.specs.declared.row.OpName.TheVariants as op
 use Rattle.wap_grammar.specs.declared.program.expression.Literal.TheVariants as literal
 use Rattle.wap_meaning.specs.coding.Coded.{with_operand}
 use Rattle.wap_meaning.specs.coding.Expressions.{literal_code}
-use Rattle.wap_codegen.proofs.EmissionLemmas.Parts.{text_code}
+use Rattle.wap_codegen.proofs.EmissionLemmas.EmittedExpressions.{text_code}
 use Rattle.wap_codegen.proofs.EmissionLemmas.Chaining.{after_same}
 use Rattle.wap_codegen.proofs.emission.expressions.add_text.Goals as goal
 

@@ -5,8 +5,8 @@ use Rattle.wap_grammar.specs.declared.program.expression.Expr.{Expr}
 use Rattle.wap_grammar.specs.declared.program.statement.Stmt.{Stmt}
 use Rattle.wap_grammar.specs.declared.program.statement.Stmt.TheVariants as stmt
 use Rattle.wap_scope.specs.Names.{Mention, refers, refers_if, declares, mentions, names_declared}
-use Rattle.wap_scope.proofs.Parts.{of_empty, of_value, of_block, of_variables, of_if, of_else}
-use Rattle.wap_scope.proofs.Parts.{of_while, of_for, of_break, of_continue, of_return}
+use Rattle.wap_scope.proofs.TreeNames.{of_empty, of_value, of_block, of_variables, of_if, of_else}
+use Rattle.wap_scope.proofs.TreeNames.{of_while, of_for, of_break, of_continue, of_return}
 use Rattle.wap_codegen.proofs.PoolLemmas.Declared.{none_in, none_in_any, declaring_none}
 use Rattle.wap_codegen.proofs.PoolLemmas.Declared.{declaring_same}
 use Rattle.wap_codegen.proofs.PoolLemmas.Declared.{declaring_both, declaring_after, after_same}

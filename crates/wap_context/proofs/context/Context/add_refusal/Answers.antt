@@ -1,5 +1,5 @@
 use Rattle.wap_world.specs.Lines.{refusal_line}
-use Rattle.wap_context.specs.inside.Held.{show_at}
+use Rattle.wap_context.specs.inside.AtHand.{show_at}
 use Rattle.wap_context.proofs.Plays.{on_ok, plays_behind}
 use Rattle.wap_context.proofs.context.Context.add_refusal.Goals as goal
 

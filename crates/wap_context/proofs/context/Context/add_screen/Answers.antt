@@ -1,6 +1,6 @@
 use Rattle.std.proofs.Common.{◌∙◌, sym, refl}
 use Rattle.wap_world.specs.Screens.{screen_lines}
-use Rattle.wap_state.specs.Held.{screen_held}
+use Rattle.wap_state.specs.CardAtHand.{screen_held}
 use Rattle.wap_context.proofs.Plays.{plays_seen, plays_nowhere}
 use Rattle.wap_context.proofs.context.Context.add_screen.Goals as goal
 

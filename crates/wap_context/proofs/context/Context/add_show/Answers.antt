@@ -1,6 +1,6 @@
 use Rattle.std.proofs.Common.{refl}
 use Rattle.wap_world.specs.Screens.{show_place}
-use Rattle.wap_state.specs.Held.{show_held}
+use Rattle.wap_state.specs.CardAtHand.{show_held}
 use Rattle.wap_context.proofs.Plays.{plays_here, plays_none}
 use Rattle.wap_context.proofs.context.Context.add_show.Goals as goal
 

@@ -2,7 +2,7 @@ use Rattle.std.proofs.Common.{◌≡◌, ◌∙◌, ap, subst, Option, None, IfS
 use Rattle.wap_url.specs.declared.url.Url.{Url}
 use Rattle.wap_tokens.specs.declared.markup.deck.Deck.{Deck}
 use Rattle.wap_context.specs.Browsers.{place_held}
-use Rattle.wap_context.specs.inside.Held.{page_under}
+use Rattle.wap_context.specs.inside.AtHand.{page_under}
 use Rattle.wap_world.proofs.SiteLemmas.Asking.{Stays-same}
 use Rattle.wap_context.proofs.Takings.{takes_rejected}
 use Rattle.wap_context.proofs.HeldDecks.{entry_here}

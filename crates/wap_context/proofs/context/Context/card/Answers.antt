@@ -1,6 +1,6 @@
 use Rattle.std.proofs.Common.{◌∙◌, sym, ap, Some}
 use Rattle.std.specs.Prelude.{is_some}
-use Rattle.wap_state.specs.Held.{Held}
+use Rattle.wap_state.specs.CardAtHand.{Held}
 use Rattle.wap_context.proofs.Places.{is_nowhere}
 use Rattle.wap_context.proofs.Plays.{card_here}
 use Rattle.wap_context.proofs.Standing.{map_some}

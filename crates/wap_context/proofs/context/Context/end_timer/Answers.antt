@@ -2,7 +2,7 @@ use Rattle.std.proofs.Common.{refl, ap, subst}
 use Rattle.std.specs.Prelude.{OnOk}
 use Rattle.wap_tokens.specs.declared.markup.deck.Node.{Node}
 use Rattle.wap_world.specs.Timers.{end_timer}
-use Rattle.wap_state.specs.Held.{Held}
+use Rattle.wap_state.specs.CardAtHand.{Held}
 use Rattle.wap_state.specs.Scenes.{Plays}
 use Rattle.wap_context.specs.inside.Ticking.{end_place}
 use Rattle.wap_context.proofs.Plays.{plays_here, plays_none}

@@ -1,7 +1,7 @@
 use Rattle.std.proofs.Common.{◌∙◌, sym, ap₂}
 use Rattle.wap_vars.specs.Variables.{Variables}
 use Rattle.wap_cardrules.specs.Events.{binding}
-use Rattle.wap_state.specs.Held.{Held}
+use Rattle.wap_state.specs.CardAtHand.{Held}
 use Rattle.wap_context.proofs.Plays.{if_ok, event_here}
 use Rattle.wap_context.proofs.context.Context.event_task.Goals as goal
 

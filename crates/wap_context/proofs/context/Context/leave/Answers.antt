@@ -3,7 +3,7 @@ use Rattle.std.specs.Prelude.{OnOk}
 use Rattle.wap_tokens.specs.declared.markup.deck.Node.{Node}
 use Rattle.wap_world.specs.Entering.{leave_place}
 use Rattle.wap_world.specs.Timers.{store_left}
-use Rattle.wap_state.specs.Held.{Held}
+use Rattle.wap_state.specs.CardAtHand.{Held}
 use Rattle.wap_state.specs.Scenes.{Plays}
 use Rattle.wap_context.proofs.Plays.{plays_here, plays_none}
 use Rattle.wap_context.proofs.context.Context.leave.Goals as goal

@@ -1,6 +1,6 @@
 use Rattle.std.proofs.Common.{◌∙◌, sym}
 use Rattle.wap_world.specs.Screens.{at_place}
-use Rattle.wap_context.specs.inside.Held.{leave_and_set_at, restart_place}
+use Rattle.wap_context.specs.inside.AtHand.{leave_and_set_at, restart_place}
 use Rattle.wap_context.proofs.Plays.{on_ok, plays_at_then, refresh_joined, some_held}
 use Rattle.wap_context.proofs.context.Context.refresh.Goals as goal
 

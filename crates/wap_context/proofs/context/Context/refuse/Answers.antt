@@ -1,4 +1,4 @@
-use Rattle.wap_context.specs.inside.Held.{refuse_at}
+use Rattle.wap_context.specs.inside.AtHand.{refuse_at}
 use Rattle.wap_context.proofs.Arrivals.{moves_settled}
 use Rattle.wap_context.proofs.context.Context.refuse.Goals as goal
 

@@ -1,6 +1,6 @@
 use Rattle.std.proofs.Common.{refl}
-use Rattle.wap_state.specs.Held.{restart_held}
-use Rattle.wap_context.specs.inside.Held.{restart_place}
+use Rattle.wap_state.specs.CardAtHand.{restart_held}
+use Rattle.wap_context.specs.inside.AtHand.{restart_place}
 use Rattle.wap_context.proofs.Plays.{plays_here, plays_none}
 use Rattle.wap_context.proofs.context.Context.restart.Goals as goal
 

@@ -1,7 +1,7 @@
 use Rattle.std.specs.Option.{option_map}
 use Rattle.wap_world.specs.Steps.{then_task}
 use Rattle.wap_context.specs.Browsers.{IsOver, place_held}
-use Rattle.wap_context.specs.inside.Held.{try_deck_at}
+use Rattle.wap_context.specs.inside.AtHand.{try_deck_at}
 use Rattle.wap_context.specs.inside.Moving.{HasDeck}
 use Rattle.wap_context.proofs.Plays.{if_ok}
 use Rattle.wap_context.proofs.Arrivals.{moves_ok, moves_no}

@@ -4,7 +4,7 @@ use Rattle.wap_deck.specs.good.Readers.{all_of}
 use Rattle.wap_deck.specs.good.inside.Nodes.{item_at}
 use Rattle.wap_deck.specs.good.Lent.{item_of}
 use Rattle.wap_deck.specs.declared.good.cards.Place.{Place}
-use Rattle.wap_deck.specs.good.inside.Held.{StandAt}
+use Rattle.wap_deck.specs.good.inside.KeptBytes.{StandAt}
 use Rattle.wap_deck.proofs.GoodLemmas.Ending.{behind_on, drop_behind}
 use Rattle.wap_deck.proofs.GoodLemmas.ChildLaw.{children_end}
 use Rattle.wap_deck.proofs.GoodLemmas.NoteLaw.{notes_behind}

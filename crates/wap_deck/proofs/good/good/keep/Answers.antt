@@ -1,7 +1,7 @@
 use Rattle.std.proofs.Common.{◌≡◌, ◌∙◌, ◌≤◌, sym, ap, subst, length, List, ℕ}
 use Rattle.wap_base.specs.Numbers.{mb_at}
 use Rattle.wap_deck.specs.good.inside.Notes.{AreNotes}
-use Rattle.wap_deck.specs.good.inside.Held.{table_in, deck_in, IsHeld, IsKept}
+use Rattle.wap_deck.specs.good.inside.KeptBytes.{table_in, deck_in, IsHeld, IsKept}
 use Rattle.wap_deck.proofs.GoodLemmas.DeckLaw.{root_known}
 use Rattle.wap_deck.proofs.good.good.keep.Goals as goal
 

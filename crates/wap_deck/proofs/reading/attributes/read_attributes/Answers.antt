@@ -2,10 +2,10 @@ use Rattle.std.proofs.Common.{ap, length, Bool, Ok, ◌∙◌}
 use Rattle.std.proofs.lemmas.Result.{err_from_is_err_and}
 use Rattle.std.specs.List.{filter_map}
 use Rattle.wap_tokens.specs.markup.Decks.{attribute}
-use Rattle.wap_wbxml.specs.reading.Steps.{all_by}
-use Rattle.wap_wbxml.specs.reading.Parts.{as_short, next_attribute, attributes_at}
+use Rattle.wap_wbxml.specs.reading.ByteReading.{all_by}
+use Rattle.wap_wbxml.specs.reading.BodyReading.{as_short, next_attribute, attributes_at}
 use Rattle.wap_deck.specs.reading.inside.Gathering.{read_as}
-use Rattle.wap_deck.specs.reading.inside.Parts.{attribute_added}
+use Rattle.wap_deck.specs.reading.inside.DocumentParts.{attribute_added}
 use Rattle.wap_deck.proofs.ReadingLemmas.Loops.{begins, one_more, stopped}
 use Rattle.wap_deck.proofs.ReadingLemmas.KnownAttributes.{attributes_gathered}
 use Rattle.wap_deck.proofs.reading.attributes.read_attributes.Goals as goal

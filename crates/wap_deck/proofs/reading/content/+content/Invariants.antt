@@ -1,7 +1,7 @@
 use Rattle.std.proofs.Common.{◌≡◌, ◌+◌, ◌-◌, ◌*◌, length}
-use Rattle.wap_wbxml.specs.reading.Parts.{as_short, next_kid, kids_at, element_at}
+use Rattle.wap_wbxml.specs.reading.BodyReading.{as_short, next_kid, kids_at, element_at}
 use Rattle.wap_deck.specs.reading.inside.Gathering.{read_as, gather_at}
-use Rattle.wap_deck.specs.reading.inside.Parts.{kid_added, kids_added}
+use Rattle.wap_deck.specs.reading.inside.DocumentParts.{kid_added, kids_added}
 use Rattle.wap_deck.proofs.reading.content.+content.Given as goal
 
 abbrev pub decreases-add_element : goal.decreases-add_element

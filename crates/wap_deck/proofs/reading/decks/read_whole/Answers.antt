@@ -1,8 +1,8 @@
 use Rattle.std.proofs.Common.{ap, ◌∙◌}
 use Rattle.std.proofs.lemmas.Result.{err_from_is_err_and}
 use Rattle.wap_tokens.specs.declared.markup.deck.Node.{Node}
-use Rattle.wap_wbxml.specs.reading.Steps.{Reading, told}
-use Rattle.wap_deck.specs.reading.inside.Parts.{rooted}
+use Rattle.wap_wbxml.specs.reading.ByteReading.{Reading, told}
+use Rattle.wap_deck.specs.reading.inside.DocumentParts.{rooted}
 use Rattle.wap_deck.proofs.ReadingLemmas.Bodies.{whole_read}
 use Rattle.wap_deck.proofs.reading.decks.read_whole.Goals as goal
 

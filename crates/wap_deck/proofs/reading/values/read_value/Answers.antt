@@ -2,10 +2,10 @@ use Rattle.std.proofs.Common.{ap, length, Bool, Ok, ◌∙◌}
 use Rattle.std.proofs.lemmas.Result.{err_from_is_err_and}
 use Rattle.std.specs.Str.{chars}
 use Rattle.wap_tokens.specs.markup.Decks.{value_after}
-use Rattle.wap_wbxml.specs.reading.Steps.{all_by}
-use Rattle.wap_wbxml.specs.reading.Parts.{as_none, next_piece, pieces_at}
+use Rattle.wap_wbxml.specs.reading.ByteReading.{all_by}
+use Rattle.wap_wbxml.specs.reading.BodyReading.{as_none, next_piece, pieces_at}
 use Rattle.wap_deck.specs.reading.inside.Gathering.{read_as}
-use Rattle.wap_deck.specs.reading.inside.Parts.{piece_added}
+use Rattle.wap_deck.specs.reading.inside.DocumentParts.{piece_added}
 use Rattle.wap_deck.proofs.ReadingLemmas.Loops.{begins, one_more, stopped}
 use Rattle.wap_deck.proofs.ReadingLemmas.ValuePieces.{value_gathered}
 use Rattle.wap_deck.proofs.reading.values.read_value.Goals as goal

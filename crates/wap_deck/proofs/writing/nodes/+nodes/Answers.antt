@@ -9,7 +9,7 @@ use Rattle.wap_wbxml.specs.spelling.Writings.{plain, each, ended}
 use Rattle.wap_wbxml.specs.spelling.Spelling.{bit, attr_spelling, kid_spelling, element_spelling}
 use Rattle.wap_wbxml.specs.spelling.inside.Written.{written}
 use Rattle.wap_wbxml.proofs.SpellingLemmas.Appending.{each_none, each_step}
-use Rattle.wap_deck.specs.writing.inside.Parts.{part_spelling, content_bit, has_any}
+use Rattle.wap_deck.specs.writing.inside.WrittenTexts.{part_spelling, content_bit, has_any}
 use Rattle.wap_deck.proofs.WritingLemmas.Content.{code_small, bit_within, content_within, bits_are}
 use Rattle.wap_deck.proofs.WritingLemmas.Content.{text_written, none_written, node_written}
 use Rattle.wap_deck.proofs.WritingLemmas.Content.{items_written}

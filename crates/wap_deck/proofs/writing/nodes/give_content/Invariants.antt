@@ -1,6 +1,6 @@
 use Rattle.std.proofs.Common.{◌≡◌, drop}
 use Rattle.wap_tokens.specs.markup.Writing.{items_kids, node_kids}
-use Rattle.wap_deck.specs.writing.inside.Parts.{has_any}
+use Rattle.wap_deck.specs.writing.inside.WrittenTexts.{has_any}
 use Rattle.wap_deck.proofs.writing.nodes.give_content.Given as goal
 
 -- what is left tells it

@@ -1,7 +1,7 @@
 use Rattle.std.proofs.Common.{ap, ◌∙◌, sym}
 use Rattle.wap_base.specs.declared.name.Part.{Part}
 use Rattle.wap_tokens.specs.markup.Writing.{part_kids}
-use Rattle.wap_deck.specs.writing.inside.Parts.{has_any}
+use Rattle.wap_deck.specs.writing.inside.WrittenTexts.{has_any}
 use Rattle.wap_deck.proofs.WritingLemmas.Emptiness.{literal_gives}
 use Rattle.wap_deck.proofs.writing.texts.gives.Goals as goal
 

@@ -1,7 +1,7 @@
 use Rattle.std.proofs.Common.{◌≡◌, drop}
 use Rattle.std.specs.List.{flat_map}
 use Rattle.wap_tokens.specs.markup.Writing.{part_kids}
-use Rattle.wap_deck.specs.writing.inside.Parts.{has_any}
+use Rattle.wap_deck.specs.writing.inside.WrittenTexts.{has_any}
 use Rattle.wap_deck.proofs.writing.texts.have_content.Given as goal
 
 -- what is left tells it

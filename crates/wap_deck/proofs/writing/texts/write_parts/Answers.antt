@@ -1,5 +1,5 @@
 use Rattle.wap_wbxml.proofs.SpellingLemmas.Appending.{each_none, each_step}
-use Rattle.wap_deck.specs.writing.inside.Parts.{part_spelling}
+use Rattle.wap_deck.specs.writing.inside.WrittenTexts.{part_spelling}
 use Rattle.wap_deck.proofs.writing.texts.write_parts.Goals as goal
 
 pub loop-part-init : goal.loop-part-init

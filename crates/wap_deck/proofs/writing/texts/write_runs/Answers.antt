@@ -1,5 +1,5 @@
 use Rattle.wap_wbxml.proofs.SpellingLemmas.Appending.{each_none, each_step}
-use Rattle.wap_deck.specs.writing.inside.Parts.{run_spelling}
+use Rattle.wap_deck.specs.writing.inside.WrittenTexts.{run_spelling}
 use Rattle.wap_deck.proofs.writing.texts.write_runs.Goals as goal
 
 pub loop-run-init : goal.loop-run-init

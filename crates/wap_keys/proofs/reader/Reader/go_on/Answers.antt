@@ -1,5 +1,5 @@
 use Rattle.std.proofs.Common.{◌≡◌, ◌≢◌, ℕ, List, ◌++◌, drop, ap, subst, ◌∙◌}
-use Rattle.wap_keys.specs.Reading.{Reading}
+use Rattle.wap_keys.specs.KeyReaders.{Reading}
 use Rattle.wap_keys.specs.Lines.{without_return, content_key}
 use Rattle.wap_keys.specs.declared.fault.KeyFault.TheVariants.{TooLong, NoMemory}
 use Rattle.wap_keys.specs.declared.prefix.Prefix.{Prefix}

@@ -4,7 +4,7 @@ use Rattle.std.proofs.Common.{◌∙◌, None, sym, ap, subst, arith}
 use Rattle.wap_keys.specs.declared.ending.Ending.TheVariants.{BadKey, TooManyKeys, ReadFault, End}
 use Rattle.wap_keys.specs.declared.ending.Next.TheVariants as next
 use Rattle.wap_keys.specs.declared.reader.Taken.TheVariants as taken
-use Rattle.wap_keys.specs.Reading.{Reading, Answers, GivesUp, room}
+use Rattle.wap_keys.specs.KeyReaders.{Reading, Answers, GivesUp, room}
 use Rattle.wap_keys.specs.inside.Taking.{TakesLine, ReadsMore}
 use Rattle.wap_keys.proofs.ReaderLaws.{gives_up_at_once, lost}
 use Rattle.wap_keys.proofs.ReaderSteps.{

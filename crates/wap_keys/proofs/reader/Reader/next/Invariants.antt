@@ -1,6 +1,6 @@
 use Rattle.std.proofs.Common.{◌≡◌, ◌≤◌, ◌+◌, ◌-◌}
 use Rattle.wap_keys.specs.declared.limits.TheConstants.{KEYS_LIMIT}
-use Rattle.wap_keys.specs.Reading.{room}
+use Rattle.wap_keys.specs.KeyReaders.{room}
 use Rattle.wap_keys.proofs.ReaderSteps.{Keeps}
 use Rattle.wap_keys.proofs.reader.Reader.next.Given as goal
 

@@ -2,8 +2,8 @@ use Rattle.std.proofs.Common.{◌≡◌, ℕ, List, map, drop, Option, ap, subst
 use Rattle.std.specs.Prelude.{encode_utf8_all, option_and_then}
 use Rattle.std.specs.Borrow.{Bor}
 use Rattle.clap.specs.declared.parser.matches.ArgMatches.{ArgMatches}
-use Rattle.wap_keys.specs.words.Reading.{uses_of}
-use Rattle.wap_keys.specs.words.Words.{prepare_form, prepare_of}
+use Rattle.wap_keys.specs.words.Arguments.{uses_of}
+use Rattle.wap_keys.specs.words.Commands.{prepare_form, prepare_of}
 use Rattle.wap_keys.specs.words.inside.Matching.{AreMatched}
 use Rattle.wap_keys.proofs.WordsLemmas.TextLaws.{prepare_given}
 use Rattle.wap_keys.proofs.words.folders.read_prepare.Goals as goal

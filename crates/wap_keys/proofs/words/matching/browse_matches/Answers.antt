@@ -1,6 +1,6 @@
 use Rattle.std.proofs.Common.{refl}
 use Rattle.std.proofs.lemmas.Result.{IfOk-weaker}
-use Rattle.wap_keys.specs.words.Words.{browse_form}
+use Rattle.wap_keys.specs.words.Commands.{browse_form}
 use Rattle.wap_keys.proofs.words.matching.browse_matches.Goals as goal
 
 pub returns : goal.returns

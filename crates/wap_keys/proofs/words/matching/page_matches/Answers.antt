@@ -1,6 +1,6 @@
 use Rattle.std.proofs.Common.{refl}
 use Rattle.std.proofs.lemmas.Result.{IfOk-weaker}
-use Rattle.wap_keys.specs.words.Words.{page_form}
+use Rattle.wap_keys.specs.words.Commands.{page_form}
 use Rattle.wap_keys.proofs.words.matching.page_matches.Goals as goal
 
 pub returns : goal.returns

@@ -1,6 +1,6 @@
 use Rattle.std.proofs.Common.{refl}
 use Rattle.std.proofs.lemmas.Result.{IfOk-weaker}
-use Rattle.wap_keys.specs.words.Words.{replay_form}
+use Rattle.wap_keys.specs.words.Commands.{replay_form}
 use Rattle.wap_keys.proofs.words.matching.replay_matches.Goals as goal
 
 pub returns : goal.returns

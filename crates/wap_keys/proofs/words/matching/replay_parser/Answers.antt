@@ -1,7 +1,7 @@
 use Rattle.std.proofs.Common.{◌≡◌, ◌∙◌, ap, ap₂, true}
 use Rattle.std.proofs.lemmas.Result.{IfOk-weaker}
 use Rattle.clap.specs.Simple.{Shape, app_of, app_of_fields, new_app, with_rule, on_top}
-use Rattle.wap_keys.specs.words.Words.{replay_form}
+use Rattle.wap_keys.specs.words.Commands.{replay_form}
 use Rattle.wap_keys.specs.words.inside.Matching.{app_by}
 use Rattle.wap_keys.proofs.words.matching.replay_parser.Goals as goal
 

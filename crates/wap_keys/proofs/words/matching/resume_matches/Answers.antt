@@ -1,6 +1,6 @@
 use Rattle.std.proofs.Common.{refl}
 use Rattle.std.proofs.lemmas.Result.{IfOk-weaker}
-use Rattle.wap_keys.specs.words.Words.{resume_form}
+use Rattle.wap_keys.specs.words.Commands.{resume_form}
 use Rattle.wap_keys.proofs.words.matching.resume_matches.Goals as goal
 
 pub returns : goal.returns

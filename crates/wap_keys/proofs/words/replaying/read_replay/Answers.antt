@@ -3,8 +3,8 @@ use Rattle.std.specs.Prelude.{encode_utf8_all, option_and_then}
 use Rattle.std.specs.Borrow.{Bor}
 use Rattle.std.proofs.lemmas.Result.{IfOk-weaker}
 use Rattle.clap.specs.declared.parser.matches.ArgMatches.{ArgMatches}
-use Rattle.wap_keys.specs.words.Reading.{uses_of}
-use Rattle.wap_keys.specs.words.Words.{replay_form, replay_of}
+use Rattle.wap_keys.specs.words.Arguments.{uses_of}
+use Rattle.wap_keys.specs.words.Commands.{replay_form, replay_of}
 use Rattle.wap_keys.specs.words.inside.Matching.{AreMatched}
 use Rattle.wap_keys.proofs.WordsLemmas.TextLaws.{replay_given}
 use Rattle.wap_keys.proofs.words.replaying.read_replay.Goals as goal

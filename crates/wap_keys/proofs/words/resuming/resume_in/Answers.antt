@@ -1,6 +1,6 @@
 use Rattle.std.proofs.Common.{◌∙◌}
 use Rattle.std.proofs.lemmas.Result.{IfOk-weaker}
-use Rattle.wap_keys.specs.words.Words.{resume_by}
+use Rattle.wap_keys.specs.words.Commands.{resume_by}
 use Rattle.wap_keys.proofs.words.resuming.resume_in.Goals as goal
 
 pub returns : goal.returns

@@ -2,7 +2,7 @@ use Rattle.std.proofs.Common.{◌<◌, List, ◌++◌, length, sym, ap, ◌∙�
 use Rattle.std.specs.Prelude.{option_map}
 use Rattle.wap_libs.specs.declared.piece.Piece.{Piece}
 use Rattle.wap_libs.specs.FormatReading.{pieces_of}
-use Rattle.wap_libs.proofs.TextsLemmas.Reading.{next-less, next-push, next-None}
+use Rattle.wap_libs.proofs.TextsLemmas.FormatPieces.{next-less, next-push, next-None}
 use Rattle.wap_libs.proofs.texts.pieces.pieces_of.Goals as goal
 
 pub loop-rest-smaller : goal.loop-rest-smaller

@@ -7,7 +7,7 @@ use Rattle.wap_machine.specs.Stacks.{Stack}
 use Rattle.wap_execution.specs.laws.Settings.{uncounted}
 use Rattle.wap_machine.specs.Runs.{run_of}
 use Rattle.wap_machine.specs.inside.Efforts.{effort, GoesBelow}
-use Rattle.wap_machine.specs.inside.Steps.{rest, Same, LimitsStay}
+use Rattle.wap_machine.specs.inside.MachineSteps.{rest, Same, LimitsStay}
 use Rattle.wap_machine.proofs.HostLaws.{other_fault}
 use Rattle.wap_machine.proofs.RunsLaws.{begins, goes_on, ends_told, fails_fetched}
 use Rattle.wap_machine.proofs.BoundedLaws.{told_bounded}

@@ -1,8 +1,8 @@
 use Rattle.std.proofs.Common.{sym, ap, ◌∙◌}
 use Rattle.std.specs.Str.{chars}
-use Rattle.wap_mask.specs.Reading.{symbols_of}
-use Rattle.wap_mask.proofs.Reading.{RepeatsLast-read, read-well_formed}
-use Rattle.wap_mask.proofs.Reading.{read-ill_formed, unread-well_formed}
+use Rattle.wap_mask.specs.Calculation.{symbols_of}
+use Rattle.wap_mask.proofs.SymbolLaws.{RepeatsLast-read, read-well_formed}
+use Rattle.wap_mask.proofs.SymbolLaws.{read-ill_formed, unread-well_formed}
 use Rattle.wap_mask.proofs.mask.Mask.read.Goals as goal
 
 pub invariant_of-result : goal.invariant_of-result

@@ -2,8 +2,8 @@ use Rattle.std.proofs.Common.{◌≡◌, true, false, List, length, ◌∷◌, O
 use Rattle.std.proofs.lemmas.Result.{err_from_is_err_and}
 use Rattle.wap_grammar.specs.declared.program.expression.Expr.{Expr}
 use Rattle.wap_grammar.specs.declared.program.program.Id.{Id}
-use Rattle.wap_grammar.specs.Words.{word_of, is_comma}
-use Rattle.wap_grammar.specs.inside.Steps.{Reading, after, told, items_at}
+use Rattle.wap_grammar.specs.Lexemes.{word_of, is_comma}
+use Rattle.wap_grammar.specs.inside.TokenReading.{Reading, after, told, items_at}
 use Rattle.wap_grammar.specs.inside.Expressions.{expression_at}
 use Rattle.wap_grammar.specs.inside.Statements.{next_listed, declaration_at}
 use Rattle.wap_parse.proofs.ExpressionsLemmas.Loops.{begins_with, another, no_other, at_fault}

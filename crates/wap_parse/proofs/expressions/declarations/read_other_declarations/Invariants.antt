@@ -1,5 +1,5 @@
 use Rattle.std.proofs.Common.{◌∷◌, length}
-use Rattle.wap_grammar.specs.inside.Steps.{told, items_at}
+use Rattle.wap_grammar.specs.inside.TokenReading.{told, items_at}
 use Rattle.wap_grammar.specs.inside.Expressions.{expression_at}
 use Rattle.wap_grammar.specs.inside.Statements.{next_listed, declaration_at}
 use Rattle.wap_parse.proofs.ExpressionsLemmas.Loops.{Continues}

@@ -1,5 +1,5 @@
 use Rattle.std.proofs.Common.{◌≡◌, take}
-use Rattle.wap_grammar.specs.Words.{lexemes_of}
+use Rattle.wap_grammar.specs.Lexemes.{lexemes_of}
 use Rattle.wap_parse.proofs.expressions.lexemes.lexemes_of.Given as goal
 
 -- the tokens passed have their lexemes

@@ -1,9 +1,9 @@
 use Rattle.std.proofs.Common.{length, ◌∷◌, Option, Ok, ap, ◌∙◌}
 use Rattle.wap_value.specs.declared.value.Value.{Value}
-use Rattle.wap_grammar.specs.inside.Steps.{told, items_at}
+use Rattle.wap_grammar.specs.inside.TokenReading.{told, items_at}
 use Rattle.wap_grammar.specs.inside.Statements.{next_listed}
 use Rattle.wap_parse.proofs.ExpressionsLemmas.Loops.{begins_with, another}
-use Rattle.wap_parse.specs.invocation.Reading.{argument_at}
+use Rattle.wap_parse.specs.invocation.Calculation.{argument_at}
 use Rattle.wap_parse.proofs.invocation.arguments.read_other_arguments.Goals as goal
 
 pub loop-init : goal.loop-init

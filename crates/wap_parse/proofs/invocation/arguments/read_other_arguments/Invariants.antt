@@ -1,8 +1,8 @@
 use Rattle.std.proofs.Common.{◌∷◌, length}
-use Rattle.wap_grammar.specs.inside.Steps.{told, items_at}
+use Rattle.wap_grammar.specs.inside.TokenReading.{told, items_at}
 use Rattle.wap_grammar.specs.inside.Statements.{next_listed}
 use Rattle.wap_parse.proofs.ExpressionsLemmas.Loops.{Continues}
-use Rattle.wap_parse.specs.invocation.Reading.{argument_at}
+use Rattle.wap_parse.specs.invocation.Calculation.{argument_at}
 use Rattle.wap_parse.proofs.invocation.arguments.read_other_arguments.Given as goal
 
 abbrev pub invariant-loop : goal.invariant-loop

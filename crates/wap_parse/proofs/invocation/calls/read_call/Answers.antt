@@ -2,7 +2,7 @@ use Rattle.std.proofs.Common.{◌≡◌, ◌≢◌, List, None, Ok, ap, ◌∙�
 use Rattle.std.proofs.lemmas.Result.{IfOk-weaker}
 use Rattle.wap_lex.specs.declared.token.Token.{Token}
 use Rattle.wap_lex.specs.declared.fault.LexFault.TheVariants as faults
-use Rattle.wap_parse.specs.invocation.Reading.{spelled_by, call_of}
+use Rattle.wap_parse.specs.invocation.Calculation.{spelled_by, call_of}
 use Rattle.wap_parse.proofs.InvocationLemmas.Tokens.{by_tokens, no_tokens}
 use Rattle.wap_parse.proofs.invocation.calls.read_call.Goals as goal
 

@@ -3,9 +3,9 @@ use Rattle.std.proofs.lemmas.Result.{err_from_is_err_and}
 use Rattle.wap_grammar.specs.declared.program.expression.Expr.{Expr}
 use Rattle.wap_grammar.specs.declared.fault.ParseFault.{ParseFault}
 use Rattle.wap_grammar.specs.declared.word.Word.{Word}
-use Rattle.wap_grammar.specs.Words.{word_of}
+use Rattle.wap_grammar.specs.Lexemes.{word_of}
 use Rattle.wap_parse.proofs.ExpressionsLemmas.Loops.{at_exit}
-use Rattle.wap_parse.specs.invocation.Reading.{literal_at}
+use Rattle.wap_parse.specs.invocation.Calculation.{literal_at}
 use Rattle.wap_parse.specs.invocation.inside.Literals.{is_literal}
 use Rattle.wap_parse.proofs.InvocationLemmas.LiteralReading.{literal_is_read, no_literal}
 use Rattle.wap_parse.proofs.InvocationLemmas.LiteralReading.{literal_told, fault_told, other_told}

@@ -3,7 +3,7 @@ use Rattle.std.specs.Prelude.{codes, decimal}
 use Rattle.std.specs.Str.{chars}
 use Rattle.wap_base.specs.Ascii.{space}
 use Rattle.wap_world.specs.inboxes.Notices.{time_text}
-use Rattle.wap_session.proofs.NoticesLemmas.Words.{at_word, in_parts}
+use Rattle.wap_session.proofs.NoticesLemmas.NoticeWords.{at_word, in_parts}
 use Rattle.wap_session.proofs.notices.lines.entry_line.Goals as goal
 
 pub returns : goal.returns

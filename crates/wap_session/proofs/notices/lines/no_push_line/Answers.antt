@@ -1,7 +1,7 @@
 use Rattle.std.proofs.Common.{ap, ◌∙◌, ◌++◌, List, ℕ}
 use Rattle.std.specs.Prelude.{codes}
 use Rattle.std.specs.Str.{chars}
-use Rattle.wap_session.proofs.NoticesLemmas.Words.{push_word}
+use Rattle.wap_session.proofs.NoticesLemmas.NoticeWords.{push_word}
 use Rattle.wap_session.proofs.notices.lines.no_push_line.Goals as goal
 
 pub returns : goal.returns

@@ -3,7 +3,7 @@ use Rattle.wap_tokens.specs.declared.markup.deck.Node.{Node}
 use Rattle.wap_vars.specs.Variables.{Variables}
 use Rattle.wap_cards.specs.inputs.Stopped.{ChoiceStands}
 use Rattle.wap_world.specs.World.{World}
-use Rattle.wap_state.specs.Held.{Held}
+use Rattle.wap_state.specs.CardAtHand.{Held}
 use Rattle.wap_state.proofs.state.State.choose.Goals as goal
 
 pub returns-clause-stopped : goal.returns-clause-stopped

@@ -1,8 +1,8 @@
 use Rattle.std.proofs.Common.{sym, ap, ◌∙◌, length, ℕ, List, Option, None}
 use Rattle.wap_base.specs.Cuts.{until, onward}
 use Rattle.wap_url.specs.declared.fault.UrlFault.TheVariants.{BadChar}
-use Rattle.wap_url.specs.Parts.{url_of}
-use Rattle.wap_url.specs.Reading.{is_stop, fault_of}
+use Rattle.wap_url.specs.UrlParts.{url_of}
+use Rattle.wap_url.specs.Calculation.{is_stop, fault_of}
 use Rattle.wap_url.proofs.ReadLaws.{is_cut, url_bad, url_fault, url_found, ok_clauses, err_clauses}
 use Rattle.wap_url.proofs.SliceLaws.{slices_are}
 use Rattle.wap_url.proofs.url.Url.read.Goals as goal

@@ -2,7 +2,7 @@ use Rattle.std.proofs.Common.{◌∙◌, ap, sym}
 use Rattle.std.specs.Prelude.{slice_get}
 use Rattle.wap_tokens.specs.declared.markup.deck.Deck.{Deck}
 use Rattle.wap_tokens.specs.markup.Cards.{cards_of}
-use Rattle.wap_deck.specs.good.inside.Held.{deck_in}
+use Rattle.wap_deck.specs.good.inside.KeptBytes.{deck_in}
 use Rattle.wap_deck.proofs.GoodLemmas.CardLaw.{no_card_at, place_within, place_read, place_seen}
 use Rattle.wap_deck.proofs.good.good.GoodDeck.card.Goals as goal
 

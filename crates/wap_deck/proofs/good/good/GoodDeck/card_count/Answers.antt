@@ -1,7 +1,7 @@
 use Rattle.std.proofs.Common.{◌∙◌, ap, length}
 use Rattle.wap_tokens.specs.declared.markup.deck.Deck.{Deck}
 use Rattle.wap_tokens.specs.markup.Cards.{cards_of}
-use Rattle.wap_deck.specs.good.inside.Held.{deck_in}
+use Rattle.wap_deck.specs.good.inside.KeptBytes.{deck_in}
 use Rattle.wap_deck.proofs.GoodLemmas.CardLaw.{length-places}
 use Rattle.wap_deck.proofs.good.good.GoodDeck.card_count.Goals as goal
 

@@ -6,7 +6,7 @@ use Rattle.wap_deck.specs.good.inside.Nodes.{front_node, IsRead}
 use Rattle.wap_deck.specs.good.inside.Notes.{AreNotes}
 use Rattle.wap_deck.proofs.GoodLemmas.Ending.{behind_drop}
 use Rattle.wap_deck.proofs.GoodLemmas.NoteLaw.{notes_behind}
-use Rattle.wap_deck.specs.good.inside.Held.{deck_in}
+use Rattle.wap_deck.specs.good.inside.KeptBytes.{deck_in}
 use Rattle.wap_deck.proofs.good.good.GoodDeck.root.Goals as goal
 
 pub returns-clause-root : goal.returns-clause-root

@@ -2,7 +2,7 @@ use Rattle.std.proofs.Common.{◌∙◌, ap, sym}
 use Rattle.wap_tokens.specs.declared.markup.deck.Deck.{Deck}
 use Rattle.wap_tokens.specs.declared.markup.name.Tag.TheVariants as tags
 use Rattle.wap_tokens.specs.markup.Trees.{first_with}
-use Rattle.wap_deck.specs.good.inside.Held.{deck_in, tagged}
+use Rattle.wap_deck.specs.good.inside.KeptBytes.{deck_in, tagged}
 use Rattle.wap_deck.proofs.GoodLemmas.CardLaw.{no_card_at, place_within, place_read, place_seen}
 use Rattle.wap_deck.proofs.GoodLemmas.CardLaw.{first_node}
 use Rattle.wap_deck.proofs.good.good.GoodDeck.template.Goals as goal

@@ -5,7 +5,7 @@ use Rattle.wap_tokens.specs.markup.Writing.{document_of}
 use Rattle.wap_tokens.specs.declared.markup.deck.Deck.{Deck}
 use Rattle.wap_wbxml.specs.declared.fault.DocFault.{DocFault}
 use Rattle.wap_deck.proofs.DocumentsLemmas.Nodes.{deck_read}
-use Rattle.wap_deck.specs.good.inside.Held.{deck_in}
+use Rattle.wap_deck.specs.good.inside.KeptBytes.{deck_in}
 use Rattle.wap_deck.proofs.GoodLemmas.DeckLaw.{root_known, held_document}
 use Rattle.wap_deck.proofs.good.good.GoodDeck.tree.Goals as goal
 

@@ -1,0 +1,340 @@
+-- Assignments, steps, literals and calls.
+use Rattle.std.proofs.Common.{◌≡◌, ℕ, ◌+◌, Bool, true, false, ltb, leb, cond, List, ◌∷◌, ◌++◌}
+use Rattle.std.proofs.Common.{length, reverse, take, drop, Option, Some, None, refl, sym, ap, ◌∙◌}
+use Rattle.std.proofs.Common.{arith, slice_get, slice_set, option_map, length-append, length-set}
+use Rattle.std.proofs.Common.{get_or-set_same}
+use Rattle.std.proofs.lemmas.Bool.{ltb-true, le-leb}
+use Rattle.std.proofs.lemmas.Option.{slice_get-get_or}
+use Rattle.std.proofs.lemmas.List.{reverse-reverse, length-reverse}
+use Rattle.std.proofs.Math.Seq.{take-append_seam, drop-append_seam}
+use Rattle.wap_value.specs.declared.value.Value.{Value}
+use Rattle.wap_value.specs.declared.operator.UnOp.{UnOp}
+use Rattle.wap_value.specs.declared.operator.BinOp.{BinOp}
+use Rattle.wap_value.specs.Unary.{unary_of}
+use Rattle.wap_value.specs.Binary.{binary_of}
+use Rattle.wap_unit.specs.declared.unit.Code.{Code}
+use Rattle.wap_unit.specs.declared.row.OpName.{OpName}
+use Rattle.wap_unit.specs.Libraries.{lib_args}
+use Rattle.wap_unit.specs.Strings.{string_at}
+use Rattle.wap_execution.specs.declared.action.Action.TheVariants.{ChangeVariable, Binary}
+use Rattle.wap_execution.specs.Actions.{action_of}
+use Rattle.wap_execution.specs.Effects.{local, library, external, Effect, calls, with_arguments}
+use Rattle.wap_execution.specs.Effects.{stored, effect_of, stuck as nowhere}
+use Rattle.wap_execution.specs.Outcomes.{stuck}
+use Rattle.wap_execution.specs.Running.{ended}
+use Rattle.wap_meaning.specs.SourceParts.{Came, gave, over, Does, from, ◌>>=◌, done, give, given, load}
+use Rattle.wap_meaning.specs.SourceParts.{store, kept, calling}
+use Rattle.wap_meaning.specs.Expressions.{assigned, stepped}
+use Rattle.wap_asm.specs.declared.form.Form.{Form}
+use Rattle.wap_asm.specs.declared.form.Form.TheVariants.{Op}
+use Rattle.wap_meaning.specs.coding.Coded.{Exits, Coded, one, ◌⨾◌, instr, plain, with_operand}
+use Rattle.wap_meaning.specs.coding.Expressions.{load_code, store_code, assigned_code}
+use Rattle.wap_meaning.proofs.KeepingParts.{load_keeps, store_keeps, kept_keeps}
+use Rattle.wap_meaning.proofs.Following.{from_done, keeps_both}
+use Rattle.wap_meaning.specs.Keeping.{Keeps}
+use Rattle.wap_compiled_laws.proofs.Pieces.Pieces.{Sized, Site, spot, After, onto, Piece, both}
+use Rattle.wap_compiled_laws.proofs.Pieces.Pieces.{op_piece}
+use Rattle.wap_compiled_laws.proofs.Pieces.Instructions.{as_is, pushed, nothing, load_piece}
+use Rattle.wap_compiled_laws.proofs.Pieces.Instructions.{store_piece}
+use Rattle.wap_compiled_laws.proofs.Pieces.Instructions.{value_settles, stored_settles}
+use Rattle.wap_compiled_laws.proofs.Pieces.Instructions.{binary_piece}
+use Rattle.wap_unit.specs.declared.row.OpName.TheVariants as op
+
+-- the arguments of a call, the last of them on top
+abbrev pub popped : List Value → List Value → List Value
+popped vs operands = reverse vs ++ operands
+
+-- ---- variables
+
+-- what was stored is loaded
+loaded_by : {S : Type 0} (within : Bool) (index : ℕ) (v : Value) (variables : List Value)
+    (turns : ℕ) (state : S) → ltb index (length variables) ≡ within
+    → from (cond within (gave (tt {0}) (slice_set variables index v) turns state)
+    (over (ended stuck turns state))) (λ _. load index)
+    ≡ from (cond within (gave (tt {0}) (slice_set variables index v) turns state)
+    (over (ended stuck turns state))) (λ _. give v)
+loaded_by true index v variables turns state is =
+    let within = ltb-true index (length variables) is in
+    let there : slice_get (slice_set variables index v) index ≡ Some v =
+    slice_get-get_or (slice_set variables index v) index v
+    (omega (arith, length-set variables index v))
+    ∙ ap Some (get_or-set_same variables index v v within) in
+    ap (λ (o : Option Value). given o (slice_set variables index v) turns state) there
+loaded_by false index v variables turns state is = refl
+
+-- a variable that was stored is loaded as it was stored
+pub loaded : {S : Type 0} (index : ℕ) (v : Value) (variables : List Value) (turns : ℕ) (state : S)
+    → (store index v >>= λ _. load index) variables turns state
+    ≡ (store index v >>= λ _. give v) variables turns state
+loaded index v variables turns state =
+    loaded_by (ltb index (length variables)) index v variables turns state refl
+
+-- parts that come to the same may follow each other's place
+pub from_same : {A B S : Type 0} (came : Came A S) (some other : A → Does B S)
+    → ((a : A) (variables : List Value) (turns : ℕ) (state : S)
+    → some a variables turns state ≡ other a variables turns state)
+    → from came some ≡ from came other
+from_same (gave a variables turns state) some other same = same a variables turns state
+from_same (over end) some other same = refl
+
+-- three parts in a row, however they are taken together
+pub from_from : {A B C S : Type 0} (came : Came A S) (some : A → Does B S) (other : B → Does C S)
+    → from (from came some) other ≡ from came (λ a. some a >>= other)
+from_from (gave a variables turns state) some other = refl
+from_from (over end) some other = refl
+
+module _ {S : Type 0} (site : Site S) where
+  -- another part that comes to the same
+  pub piece_same : {A : Type 0} (does other : Does A S) (coded : Coded)
+      (pop : List Value → List Value) (after : After site A)
+      → ((variables : List Value) (turns : ℕ) (state : S)
+      → does variables turns state ≡ other variables turns state)
+      → Piece site does coded pop after → Piece site other coded pop after
+  piece_same does other coded pop after same piece = record {
+    follows = λ exits i reach holds variables fits operands turns state.
+        piece.follows exits i reach holds variables fits operands turns state
+        ∙ ap (λ (came : Came _ S). done came (after exits (i + coded.size) operands))
+        (same variables turns state);
+  }
+
+  -- the same above operands that stay
+  pub above : {A : Type 0} (does : Does A S) (coded : Coded) (push : A → List Value → List Value)
+      (below : List Value → List Value) → Piece site does coded as_is (onto site push)
+      → Piece site does coded below (onto site (λ a operands. push a (below operands)))
+  above does coded push below piece = record {
+    follows = λ exits i reach holds variables fits operands turns state.
+        piece.follows exits i reach holds variables fits (below operands) turns state;
+  }
+
+  -- the same where other operands are meant by what is given
+  pub as_other : {A B : Type 0} (does : Does A S) (f : A → B) (coded : Coded)
+      (pop : List Value → List Value) (push : A → List Value → List Value)
+      (push' : B → List Value → List Value)
+      → ((a : A) (operands : List Value) → push a operands ≡ push' (f a) operands)
+      → Piece site does coded pop (onto site push)
+      → Piece site (does >>= λ a. give (f a)) coded pop (onto site push')
+  as_other does f coded pop push push' same piece = record {
+    follows = λ exits i reach holds variables fits operands turns state.
+        piece.follows exits i reach holds variables fits operands turns state
+        ∙ from_done (does variables turns state) (λ a. give (f a))
+        (onto site push exits (i + coded.size) operands)
+        (onto site push' exits (i + coded.size) operands)
+        (λ a vs left later. ap (λ (os : List Value). spot site (i + coded.size) vs os left later)
+        (same a operands));
+  }
+
+  -- one form has one form
+  pub sized_one : (form : Exits → ℕ → Form) → Sized (one form)
+  sized_one form exits i = refl
+
+  -- a value is stored and left
+  pub stored_piece : (index : ℕ) (v : Value)
+      → Piece site (store index v >>= λ _. give v) (store_code index ⨾ load_code index) (pushed v)
+      (onto site pushed)
+  stored_piece index v =
+      piece_same (store index v >>= λ _. load index) (store index v >>= λ _. give v)
+      (store_code index ⨾ load_code index) (pushed v) (onto site pushed) (loaded index v)
+      (both site (store index v) (λ _. load index) (store_code index) (load_code index) (pushed v)
+      nothing (onto site pushed)
+      (sized_one (λ exits at. Op (instr op.StoreVar index 0 0))) (store_keeps index v)
+      (store_piece site index v)
+      (λ _. load_piece site index))
+
+  -- an assignment
+  pub assigned_piece : (index : ℕ) (right : Does Value S) (second : Coded) → Sized second
+      → Keeps right
+      → Piece site right second as_is (onto site pushed)
+      → Piece site (assigned site.string index None right) (assigned_code index None second) as_is
+      (onto site pushed)
+  assigned_piece index right second sized falls piece =
+      both site right (λ v. store index v >>= λ _. give v) second
+      (store_code index ⨾ load_code index) as_is pushed (onto site pushed) sized falls
+      piece
+      (stored_piece index)
+
+  -- an assignment with an operator
+  pub changed_piece : (index : ℕ) (binop : BinOp) (name : OpName) (right : Does Value S)
+      (second : Coded) → action_of name ≡ Binary binop → Sized second → Keeps right
+      → Piece site right second as_is (onto site pushed)
+      → Piece site (assigned site.string index (Some binop) right)
+      (load_code index ⨾ second ⨾ plain name ⨾ store_code index ⨾ load_code index) as_is
+      (onto site pushed)
+  changed_piece index binop name right second acts sized falls piece =
+      both site (load index)
+      (λ old. right >>= λ v. kept site.string (binary_of binop old v) >>= λ new.
+      store index new >>= λ _. give new)
+      (load_code index) (second ⨾ plain name ⨾ store_code index ⨾ load_code index) as_is pushed
+      (onto site pushed) (sized_one (λ exits at. Op (instr op.LoadVar index 0 0)))
+      (load_keeps index) (load_piece site index)
+      (λ old. both site right
+      (λ v. kept site.string (binary_of binop old v) >>= λ new. store index new >>= λ _. give new)
+      second (plain name ⨾ store_code index ⨾ load_code index) (pushed old)
+      (λ v operands. v ∷ old ∷ operands) (onto site pushed) sized falls
+      (above right second pushed (pushed old) piece)
+      (λ v. both site (kept site.string (binary_of binop old v))
+      (λ new. store index new >>= λ _. give new) (plain name)
+      (store_code index ⨾ load_code index) (λ operands. v ∷ old ∷ operands) pushed
+      (onto site pushed) (sized_one (λ exits at. Op (instr name 0 0 0)))
+      (kept_keeps site.string (binary_of binop old v)) (binary_piece site name binop old v acts)
+      (stored_piece index)))
+
+  -- ---- steps
+
+  -- a step of a variable
+  pub change_piece : (index : ℕ) (name : OpName) (unop : UnOp)
+      → action_of name ≡ ChangeVariable unop
+      → Piece site (load index >>= λ old. store index (unary_of unop old))
+      (with_operand name index) as_is (onto site nothing)
+  unfolding effect_of
+  change_piece index name unop acts =
+      op_piece site (load index >>= λ old. store index (unary_of unop old)) name index 0 0 as_is
+      (onto site nothing)
+      (λ exits place i other variables operands turns state.
+      rw acts (value_settles site (slice_get variables index)
+      (λ old. stored index variables (unary_of unop old) operands (site.pos i)) variables turns
+      state (λ old variables turns state. done (store index (unary_of unop old) variables turns
+      state) (λ _ variables turns state. spot site i variables operands turns state))
+      (λ old. stored_settles site index (unary_of unop old) variables operands (site.pos i) turns
+      state)
+      ∙ from_done (given (slice_get variables index) variables turns state)
+      (λ old. store index (unary_of unop old))
+      (λ old variables turns state. done (store index (unary_of unop old) variables turns
+      state) (λ _ variables turns state. spot site i variables operands turns state))
+      (λ _ variables turns state. spot site i variables operands turns state)
+      (λ old vs left later. refl)))
+
+  -- a step keeps turns and variables
+  change_keeps : (index : ℕ) (unop : UnOp)
+      → Keeps {S = S} (load index >>= λ old. store index (unary_of unop old))
+  change_keeps index unop =
+      keeps_both (load index) (λ old. store index (unary_of unop old)) (load_keeps index)
+      (λ old. store_keeps index (unary_of unop old))
+
+  -- a step whose new value is given
+  pub prefix_piece : (index : ℕ) (name : OpName) (unop : UnOp)
+      → action_of name ≡ ChangeVariable unop
+      → Piece site (stepped index unop true) (with_operand name index ⨾ load_code index) as_is
+      (onto site pushed)
+  prefix_piece index name unop acts =
+      piece_same ((load index >>= λ old. store index (unary_of unop old)) >>= λ _. load index)
+      (stepped index unop true) (with_operand name index ⨾ load_code index) as_is
+      (onto site pushed)
+      (λ variables turns state.
+      from_from (load index variables turns state) (λ old. store index (unary_of unop old))
+      (λ _. load index)
+      ∙ from_same (load index variables turns state)
+      (λ old. store index (unary_of unop old) >>= λ _. load index)
+      (λ old. store index (unary_of unop old) >>= λ _. give (unary_of unop old))
+      (λ old vs left later. loaded index (unary_of unop old) vs left later))
+      (both site (load index >>= λ old. store index (unary_of unop old)) (λ _. load index)
+      (with_operand name index) (load_code index) as_is nothing (onto site pushed)
+      (sized_one (λ exits at. Op (instr name index 0 0))) (change_keeps index unop)
+      (change_piece index name unop acts)
+      (λ _. load_piece site index))
+
+  -- a variable that was read before its step has its old value
+  postfix_same : (index : ℕ) (unop : UnOp) (variables : List Value) (turns : ℕ) (state : S)
+      (o : Option Value) → slice_get variables index ≡ o
+      → from (given o variables turns state)
+      (λ old. (load index >>= λ x. store index (unary_of unop x)) >>= λ _. give old)
+      ≡ from (given o variables turns state)
+      (λ old. store index (unary_of unop old) >>= λ _. give old)
+  postfix_same index unop variables turns state None is = refl
+  postfix_same index unop variables turns state (Some old) is =
+      ap (λ (o : Option Value). from (from (given o variables turns state)
+      (λ x. store index (unary_of unop x))) (λ _. give old)) is
+
+  -- a step whose old value is given
+  pub postfix_piece : (index : ℕ) (name : OpName) (unop : UnOp)
+      → action_of name ≡ ChangeVariable unop
+      → Piece site (stepped index unop false) (load_code index ⨾ with_operand name index) as_is
+      (onto site pushed)
+  postfix_piece index name unop acts =
+      piece_same
+      (load index >>= λ old. (load index >>= λ x. store index (unary_of unop x)) >>= λ _. give old)
+      (stepped index unop false) (load_code index ⨾ with_operand name index) as_is
+      (onto site pushed)
+      (λ variables turns state.
+      postfix_same index unop variables turns state (slice_get variables index) refl)
+      (both site (load index)
+      (λ old. (load index >>= λ x. store index (unary_of unop x)) >>= λ _. give old)
+      (load_code index) (with_operand name index) as_is pushed (onto site pushed)
+      (sized_one (λ exits at. Op (instr op.LoadVar index 0 0))) (load_keeps index)
+      (load_piece site index)
+      (λ old. as_other (load index >>= λ x. store index (unary_of unop x)) (λ _. old)
+      (with_operand name index) (pushed old) (λ _ operands. old ∷ operands) pushed
+      (λ _ operands. refl)
+      (above (load index >>= λ x. store index (unary_of unop x)) (with_operand name index) nothing
+      (pushed old) (change_piece index name unop acts))))
+
+  -- ---- calls
+
+  -- a call takes its arguments off the operands, the last from the top
+  arguments_taken : (vs operands : List Value) (next : List Value → List Value → Effect)
+      → with_arguments (length vs) (reverse vs ++ operands) next ≡ next vs operands
+  arguments_taken vs operands next =
+      let n : length (reverse vs) ≡ length vs = length-reverse vs in
+      let some : leb (length vs) (length (reverse vs ++ operands)) ≡ true =
+      le-leb (length vs) (length (reverse vs ++ operands))
+      (omega (arith, length-append (reverse vs) operands, n)) in
+      let taken : reverse (take (length vs) (reverse vs ++ operands)) ≡ vs =
+      ap (λ (k : ℕ). reverse (take k (reverse vs ++ operands))) (sym n)
+      ∙ ap (λ (l : List Value). reverse l) (take-append_seam (reverse vs) operands)
+      ∙ reverse-reverse vs in
+      let left : drop (length vs) (reverse vs ++ operands) ≡ operands =
+      ap (λ (k : ℕ). drop k (reverse vs ++ operands)) (sym n)
+      ∙ drop-append_seam (reverse vs) operands in
+      ap (λ (b : Bool). cond b (next (reverse (take (length vs) (reverse vs ++ operands)))
+      (drop (length vs) (reverse vs ++ operands))) nowhere) some
+      ∙ ap (λ (l : List Value). next l (drop (length vs) (reverse vs ++ operands))) taken
+      ∙ ap (next vs) left
+
+  -- a call of a function of the unit
+  pub local_piece : (index : ℕ) (vs : List Value)
+      → option_map (λ (code : Code). code.args) (slice_get site.function.unit.functions index)
+      ≡ Some (length vs)
+      → Piece site (calling site.call (local index) vs) (with_operand op.Call index) (popped vs)
+      (onto site pushed)
+  unfolding effect_of
+  local_piece index vs is =
+      op_piece site (calling site.call (local index) vs) op.Call index 0 0 (popped vs)
+      (onto site pushed)
+      (λ exits place i other variables operands turns state.
+      rw (
+        is,
+        arguments_taken vs operands (λ arguments operands.
+            calls (local index) arguments (site.pos i) variables operands),
+      ) refl)
+
+  -- a call of a library
+  pub library_piece : (number index : ℕ) (vs : List Value)
+      → lib_args number index ≡ Some (length vs)
+      → Piece site (calling site.call (library number index) vs)
+      (one (λ exits at. Op (instr op.CallLib index number 0))) (popped vs) (onto site pushed)
+  unfolding effect_of
+  library_piece number index vs is =
+      op_piece site (calling site.call (library number index) vs) op.CallLib index number 0
+      (popped vs) (onto site pushed)
+      (λ exits place i other variables operands turns state.
+      rw (
+        is,
+        arguments_taken vs operands (λ arguments operands.
+            calls (library number index) arguments (site.pos i) variables operands),
+      ) refl)
+
+  -- a call of another unit
+  pub external_piece : (a b : ℕ) (url name : List ℕ) (vs : List Value)
+      → string_at site.function.unit a ≡ Some url → string_at site.function.unit b ≡ Some name
+      → Piece site (calling site.call (external url name) vs)
+      (one (λ exits at. Op (instr op.CallUrl a b (length vs)))) (popped vs) (onto site pushed)
+  unfolding effect_of
+  external_piece a b url name vs one_is two_is =
+      op_piece site (calling site.call (external url name) vs) op.CallUrl a b (length vs)
+      (popped vs) (onto site pushed)
+      (λ exits place i other variables operands turns state.
+      rw (
+        one_is,
+        two_is,
+        arguments_taken vs operands (λ arguments operands.
+            calls (external url name) arguments (site.pos i) variables operands),
+      ) refl)
