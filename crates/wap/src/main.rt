@@ -23,9 +23,6 @@ fn read_arguments(
     let Some(folder) = given.next() else {
         return Ok(None);
     };
-    if folder.is_empty() {
-        return Ok(None);
-    }
     let mut words = Vec::new(rt.alloc());
     for word in given {
         words.push(Text::from_string(word))?;

@@ -265,6 +265,7 @@ fn page_of(bytes: Vec<u8>) -> Result<Fetched, StoreErr>
 fn names<R: Files + AllocGlobal + Clone + Drop>(rt: &R, folder: &str) -> Result<Vec<Text>, StoreErr>
     ensures { IfOk result (λ names. AreAscending names.items) }
 {
+    look_at_store(rt, folder)?;
     let mut names = gather(rt, folder)?;
     names.sort()?;
     if !are_ascending(names.as_slice()) {
