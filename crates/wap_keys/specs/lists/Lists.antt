@@ -1,6 +1,7 @@
 -- Lists of keys: key lines, and a line `%` between each list and the next. This project's own.
-use Rattle.std.specs.Prelude.{ℕ, ◌+◌, ◌||◌, nat_lt, if◌then◌else◌, List, [], ◌∷◌, length}
+use Rattle.std.specs.Prelude.{◌≢◌, ℕ, ◌+◌, ◌||◌, nat_lt, if◌then◌else◌, List, [], ◌∷◌, length}
 use Rattle.std.specs.Prelude.{take, codes, Option, Some, None, Result, Ok, Err}
+use Rattle.std.specs.List.{AllByRecursion}
 use Rattle.std.specs.Str.{bytes_eq}
 use Rattle.wap_base.specs.declared.key.Key.{Key}
 use Rattle.wap_keys.specs.declared.limits.TheConstants.{KEYS_LIMIT, LINE_LIMIT}
@@ -8,7 +9,7 @@ use Rattle.wap_keys.specs.declared.fault.KeyFault.{KeyFault}
 use Rattle.wap_keys.specs.declared.fault.KeyFault.TheVariants.{TooLong}
 use Rattle.wap_keys.specs.declared.ending.Ending.{Ending}
 use Rattle.wap_keys.specs.declared.ending.Ending.TheVariants.{End, BadKey, TooManyKeys}
-use Rattle.wap_keys.specs.Lines.{Line, lines_of, content, content_key, is_end}
+use Rattle.wap_keys.specs.Lines.{Line, lines_of, content, content_key, is_end, Keys}
 use Rattle.wap_keys.specs.declared.lists.line.Said.{Said}
 use Rattle.wap_keys.specs.declared.lists.line.Said.TheVariants as said
 
@@ -71,3 +72,14 @@ lists_at ending bytes = lists_from ending 1 (lines_of bytes)
 unfoldable pub lists_of : List ℕ → Lists
 lists_of bytes =
     lists_at (if nat_lt KEYS_LIMIT (length bytes) then TooManyKeys else End) (take KEYS_LIMIT bytes)
+
+-- ---- one list
+
+-- none of the lines that count stands between two lists
+abbrev pub HasNoDivider : List ℕ → Type 0
+HasNoDivider bytes =
+    AllByRecursion (λ (line : Line). content line ≢ divider) (lines_of (take KEYS_LIMIT bytes))
+
+-- these keys as the only list
+abbrev pub one_list : Keys → Lists
+one_list keys = record { first = keys.keys; others = []; ending = keys.ending }
