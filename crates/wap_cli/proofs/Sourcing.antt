@@ -61,6 +61,8 @@ module _ {P Q : Type 0} (Are : P → Type 0) (play : P → List Key → Step) (A
     given = so.given;
     first = so.first;
     prompt = so.prompt;
+    store_fault = so.store_fault;
+    write_fault = so.write_fault;
     done = so.done;
     bad_key = so.bad_key;
     too_many_keys = so.too_many_keys;

@@ -1,5 +1,5 @@
 -- What a reader has said of the bytes that it took.
-use Rattle.std.proofs.Common.{◌≡◌, ℕ, zero, suc, ◌+◌, ◌-◌, ◌≤◌, take, Bool, true, false}
+use Rattle.std.proofs.Common.{◌≡◌, ℕ, zero, suc, ◌+◌, ◌-◌, ◌<◌, ◌≤◌, take, Bool, true, false}
 use Rattle.std.proofs.Common.{cond, List, [], ◌∷◌, ◌++◌, length, Option, Some, None}
 use Rattle.std.proofs.Common.{refl, sym, ap, subst, ◌∙◌, inl, inr, append_assoc, arith}
 use Rattle.std.specs.Prelude.{nat_lt}
@@ -12,12 +12,12 @@ use Rattle.std.proofs.lemmas.List.{append-nil, length-append}
 use Rattle.wap_devices.specs.Transfer.{TakesFrom, IsAtEnd}
 use Rattle.wap_devices.specs.Sources.{SourceSeen}
 use Rattle.wap_base.specs.declared.key.Key.{Key}
-use Rattle.wap_keys.specs.declared.limits.TheConstants.{KEYS_LIMIT, LINE_LIMIT, PIECE_LIMIT}
+use Rattle.wap_keys.specs.declared.limits.TheConstants.{KEYS_LIMIT, LINE_LIMIT}
 use Rattle.wap_keys.specs.declared.ending.Ending.{Ending}
 use Rattle.wap_keys.specs.declared.ending.Ending.TheVariants.{End, TooManyKeys, ReadFault}
 use Rattle.wap_keys.specs.Lines.{Keys, is_end, lines_of, keys_from, keys_at, keys_of}
-use Rattle.wap_keys.specs.Read.{Takes, AtMostOnce, rose, ending_after, AreFirst, IsPrompt, HasGiven}
-use Rattle.wap_keys.specs.Read.{keys_among}
+use Rattle.wap_keys.specs.Read.{Takes, TakesSome, TakesAtOnce, AtMostOnce, rose, ending_after}
+use Rattle.wap_keys.specs.Read.{AreFirst, IsJustRead, IsPrompt, HasGiven, keys_among}
 use Rattle.wap_keys.specs.KeyReaders.{Reading, keys_then, said_yet, said_then, ends_known, HasRead}
 use Rattle.wap_keys.specs.KeyReaders.{GivesUp}
 use Rattle.wap_keys.specs.Prefixes.{is_unended}
@@ -51,6 +51,33 @@ takes_both start now last taken piece first second = record {
   left = from_both start.left now.left last.left taken piece first.left second.left;
   least = omega (arith, first.least, second.least, length-append taken piece);
   most = omega (arith, first.most, second.most, length-append taken piece);
+}
+
+-- ---- in how many reads
+
+some_none : (seen : SourceSeen) → TakesSome [] seen seen
+some_none seen = record {
+  takes = takes_none seen;
+  reads = 0;
+  some = omega arith;
+  least = omega arith;
+  most = omega arith;
+  ends = refl;
+  faults = refl;
+}
+
+-- one read more that gives some
+pub some_both : (start now last : SourceSeen) (taken piece : List ℕ) → TakesSome taken start now
+    → TakesAtOnce piece now last → 0 < length piece → last.faults ≡ now.faults
+    → TakesSome (taken ++ piece) start last
+some_both start now last taken piece first second some steady = record {
+  takes = takes_both start now last taken piece first.takes second.takes;
+  reads = first.reads + 1;
+  some = omega (arith, first.some, some, length-append taken piece);
+  least = omega (arith, first.least, second.reads);
+  most = omega (arith, first.most, second.reads);
+  ends = second.ends some ∙ first.ends;
+  faults = steady ∙ first.faults;
 }
 
 -- ---- how often the source gave its end
@@ -94,16 +121,8 @@ no_keys : keys_at ReadFault [] ≡ record { keys = []; ending = ReadFault }
 unfolding keys_at
 no_keys = refl
 
-none_prompt : IsPrompt [] []
-none_prompt = record {
-  earlier = [];
-  piece = [];
-  said = [];
-  split = refl;
-  short = omega arith;
-  before = no_keys;
-  first = ([], refl);
-}
+none_prompt : (seen : SourceSeen) → IsPrompt seen seen [] []
+none_prompt seen = inl (record { stays = refl; none_taken = refl; none_given = refl })
 
 -- a reader that has read nothing is to say all keys
 begun_by : (ending : Ending) (rest unread : List ℕ) → unread ≡ []
@@ -118,7 +137,8 @@ begun seen unread none = record {
   takes = takes_none seen;
   counted = refl;
   few = omega arith;
-  prompt = none_prompt;
+  some = λ goes_on. some_none seen;
+  prompt = none_prompt seen;
   says = λ ending rest _. begun_by ending rest unread none;
   ended = λ over. absurd cc;
   ends = refl;
@@ -259,31 +279,33 @@ gives_up_at_once seen reader start taken keys read =
 -- ---- more bytes are taken after an unfinished line
 
 -- all that was said was said before them
-pub next_prompt : (start now : SourceSeen) (taken piece : List ℕ) (keys : List Key)
+pub next_just : (start now last : SourceSeen) (taken piece : List ℕ) (keys : List Key)
     (reader : Reading) → HasRead start now taken keys reader → IsOpen reader
-    → length piece ≤ PIECE_LIMIT → IsPrompt (taken ++ piece) keys
-next_prompt start now taken piece keys reader read is_open small = record {
+    → TakesAtOnce piece now last → IsJustRead start last (taken ++ piece) keys
+next_just start now last taken piece keys reader read is_open takes = record {
   earlier = taken;
-  piece = piece;
+  between = now;
+  before = read.some is_open.goes_on;
   said = keys;
-  split = refl;
-  short = small;
-  before =
+  says =
       ap (keys_at ReadFault) (sym (append-nil taken))
       ∙ cut_open start now taken keys reader read is_open ReadFault refl;
   first = ([], sym (append-nil keys));
+  piece = piece;
+  last = takes;
+  split = refl;
 }
 
 -- no key of them was said yet
 pub given_more : (start now last : SourceSeen) (taken piece : List ℕ) (keys : List Key)
     (reader : Reading) → HasRead start now taken keys reader → IsOpen reader
-    → Takes piece now last → length piece ≤ PIECE_LIMIT
+    → TakesAtOnce piece now last
     → reader.count + length piece ≤ KEYS_LIMIT + 1 → AtMostOnce now.ends last.ends
     → HasGiven start last (taken ++ piece) keys
-given_more start now last taken piece keys reader read is_open takes small few once = record {
-  takes = takes_both start now last taken piece read.takes takes;
+given_more start now last taken piece keys reader read is_open takes few once = record {
+  takes = takes_both start now last taken piece read.takes takes.takes;
   few = omega (arith, length-append taken piece, read.counted, few);
-  prompt = next_prompt start now taken piece keys reader read is_open small;
+  prompt = inr (next_just start now last taken piece keys reader read is_open takes);
   first =
       let ending = ending_after (rose start.ends last.ends) in (
         (said_yet reader ending piece).keys,
@@ -301,24 +323,49 @@ pub lost : (now last : SourceSeen) (old : Reading) → IsOpen old → LosesPiece
     → GivesUp now last old
 lost now last old is_open loses start taken keys read = (
   loses.piece,
-  given_more start now last taken loses.piece keys old read is_open loses.takes loses.small
-      loses.few
-      (inl loses.ends),
+  given_more start now last taken loses.piece keys old read is_open
+      (record {
+        takes = loses.takes;
+        short = loses.small;
+        reads = loses.reads;
+        ends = λ some. loses.ends;
+      })
+      loses.few (inl loses.ends),
 )
 
--- one key more was given
-pub more_prompt : (taken : List ℕ) (keys : List Key) (key : Key) → IsPrompt taken keys
-    → IsPrompt taken (keys ++ key ∷ [])
-more_prompt taken keys key prompt = record {
-  earlier = prompt.earlier;
-  piece = prompt.piece;
-  said = prompt.said;
-  split = prompt.split;
-  short = prompt.short;
-  before = prompt.before;
+-- ---- one key more is given
+
+-- no read began since the last
+pub more_just : (start now : SourceSeen) (taken : List ℕ) (keys : List Key) (key : Key)
+    → IsJustRead start now taken keys → IsJustRead start now taken (keys ++ key ∷ [])
+more_just start now taken keys key just = record {
+  earlier = just.earlier;
+  between = just.between;
+  before = just.before;
+  said = just.said;
+  says = just.says;
   first = (
-    prompt.first.0 ++ key ∷ [],
-    ap (λ (l : List Key). l ++ key ∷ []) prompt.first.1
-        ∙ append_assoc prompt.said prompt.first.0 (key ∷ []),
+    just.first.0 ++ key ∷ [],
+    ap (λ (l : List Key). l ++ key ∷ []) just.first.1
+        ∙ append_assoc just.said just.first.0 (key ∷ []),
   );
+  piece = just.piece;
+  last = just.last;
+  split = just.split;
 }
+
+-- so many keys aren't none
+unsaid : (keys others : List Key) (key : Key) → [] ≡ keys ++ key ∷ others → ⊥
+unsaid [] others key is = absurd cc
+unsaid (one ∷ keys) others key is = absurd cc
+
+-- where the bytes say it something was read
+pub just_by : (start now : SourceSeen) (taken : List ℕ) (keys others : List Key) (key : Key)
+    → (keys_at ReadFault (taken ++ [])).keys ≡ keys ++ key ∷ others
+    → IsPrompt start now taken keys → IsJustRead start now taken keys
+just_by start now taken keys others key says (inr just) = just
+just_by start now taken keys others key says (inl none) =
+    absurd (unsaid keys others key
+    (sym (ap (λ (l : List ℕ). (keys_at ReadFault (l ++ [])).keys) none.none_taken
+    ∙ ap (λ (all : Keys). all.keys) no_keys)
+    ∙ says))

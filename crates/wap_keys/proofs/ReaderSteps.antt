@@ -20,16 +20,16 @@ use Rattle.wap_keys.specs.declared.ending.Next.TheVariants as next
 use Rattle.wap_keys.specs.declared.line.Said.{Said}
 use Rattle.wap_keys.specs.declared.line.Said.TheVariants as said
 use Rattle.wap_keys.specs.declared.reader.Taken.TheVariants as taken
-use Rattle.wap_keys.specs.Lines.{lines_of, content_key, key_before, keys_from, keys_at}
-use Rattle.wap_keys.specs.Read.{GivesEnd, HasGiven, IsRead, ReadsTo}
+use Rattle.wap_keys.specs.Lines.{Keys, lines_of, content_key, key_before, keys_from, keys_at}
+use Rattle.wap_keys.specs.Read.{TakesAtOnce, IsJustRead, GivesEnd, HasGiven, IsRead, ReadsTo}
 use Rattle.wap_keys.specs.KeyReaders.{Reading, keys_then, said_yet, HasRead}
 use Rattle.wap_keys.specs.KeyReaders.{AnswersAt, Answers, GivesUp, CountsFaults, Falls, room}
 use Rattle.wap_keys.specs.inside.Taking.{said_of, TakesSaid, TakesLine, ReadsPiece, ReadsEnd}
 use Rattle.wap_keys.specs.inside.Taking.{ReadsPast, FailsToRead, last_next}
 use Rattle.wap_keys.proofs.LineLaws.{last_line_says, content_wants_none}
 use Rattle.wap_keys.proofs.ReaderLaws.{IsOpen, takes_both, same_ends, open_ends, no_more, then_yet}
-use Rattle.wap_keys.proofs.ReaderLaws.{said_open, cut_open, given_of, given_more, next_prompt}
-use Rattle.wap_keys.proofs.ReaderLaws.{more_prompt}
+use Rattle.wap_keys.proofs.ReaderLaws.{said_open, cut_open, given_of, some_both, given_more}
+use Rattle.wap_keys.proofs.ReaderLaws.{next_just, more_just, just_by}
 
 -- a reader that goes on: all that was read before is read now
 abbrev pub Keeps : SourceSeen → SourceSeen → Reading → Reading → Type 0
@@ -52,6 +52,7 @@ line_goes now old new goes_on ((count, over, fewer), says) start taken keys read
       takes = read.takes;
       counted = read.counted ∙ sym count;
       few = omega (arith, read.few, count);
+      some = λ _. read.some goes_on;
       prompt = read.prompt;
       says = λ ending rest _.
           said_open start now taken keys old read goes_on ending rest
@@ -67,11 +68,16 @@ line_goes now old new goes_on ((count, over, fewer), says) start taken keys read
 pub line_answers : (now : SourceSeen) (old new : Reading) (key : Key) → old.over ≡ false
     → TakesSaid old new (said.Key key) → Answers now now old new (next.Key key)
 line_answers now old new key goes_on ((count, over, fewer), says) start taken keys read =
+    let just : IsJustRead start now taken keys =
+    just_by start now taken keys (said_yet new ReadFault []).keys key
+    (ap (λ (all : Keys). all.keys) (said_open start now taken keys old read goes_on ReadFault []
+    ∙ ap (keys_then keys) (says ReadFault []))) read.prompt in
     let goes : HasRead start now taken (keys ++ key ∷ []) new = record {
       takes = read.takes;
       counted = read.counted ∙ sym count;
       few = omega (arith, read.few, count);
-      prompt = more_prompt taken keys key read.prompt;
+      some = λ _. read.some goes_on;
+      prompt = inr (more_just start now taken keys key just);
       says = λ ending rest _.
           let others = said_yet new ending rest in
           said_open start now taken keys old read goes_on ending rest
@@ -83,7 +89,7 @@ line_answers now old new key goes_on ((count, over, fewer), says) start taken ke
       ends = same_ends old new start.ends now.ends now.ends read.ends refl over;
       steady = read.steady;
     } in
-    ([], rw append-nil goes)
+    ([], rw append-nil (goes, just))
 
 -- it is no key line
 pub line_bad : (now : SourceSeen) (old new : Reading) (fault : KeyFault) → old.over ≡ false
@@ -121,11 +127,20 @@ piece_goes now last old new is_open reads start taken keys read =
     let piece = reads.piece in
     let after : Reading =
     record old { unread = old.unread ++ piece; count = old.count + length piece } in
+    let at_once : TakesAtOnce piece now last = record {
+      takes = reads.takes;
+      short = reads.small;
+      reads = reads.reads;
+      ends = λ some. reads.ends;
+    } in
     let goes : HasRead start last (taken ++ piece) keys after = record {
       takes = takes_both start now last taken piece read.takes reads.takes;
       counted = omega (arith, length-append taken piece, read.counted);
       few = reads.few;
-      prompt = next_prompt start now taken piece keys old read is_open reads.small;
+      some = λ _.
+          some_both start now last taken piece (read.some is_open.goes_on) at_once reads.some
+          reads.steady;
+      prompt = inr (next_just start now last taken piece keys old read is_open at_once);
       says = λ ending rest _.
           ap (keys_at ending) (append_assoc taken piece rest)
           ∙ said_open start now taken keys old read is_open.goes_on ending (piece ++ rest)
@@ -154,8 +169,14 @@ past_answers now last old new is_open reads start taken keys read =
       piece,
       record {
         given =
-            given_more start now last taken piece keys old read is_open reads.takes
-            (omega (arith, reads.one)) (omega (arith, reads.one, reads.full)) (inl reads.ends);
+            given_more start now last taken piece keys old read is_open
+            (record {
+              takes = reads.takes;
+              short = omega (arith, reads.one);
+              reads = reads.reads;
+              ends = λ some. reads.ends;
+            })
+            (omega (arith, reads.one, reads.full)) (inl reads.ends);
         ends = (
           omega (arith, length-append taken piece, read.counted, reads.full, reads.one),
           ap (keys_at TooManyKeys) (prefix_of_all taken piece (read.counted ∙ reads.full))
@@ -171,8 +192,14 @@ fault_answers now last old new is_open fails start taken keys read = (
   [],
   record {
     given =
-        given_more start now last taken [] keys old read is_open fails.takes
-        (omega arith) (omega (arith, read.few)) (inl fails.ends);
+        given_more start now last taken [] keys old read is_open
+        (record {
+          takes = fails.takes;
+          short = omega arith;
+          reads = fails.reads;
+          ends = λ some. fails.ends;
+        })
+        (omega (arith, read.few)) (inl fails.ends);
     ends = (
       omega (arith, length-append taken [], read.counted, read.few),
       cut_open start now taken keys old read is_open ReadFault refl,
@@ -232,21 +259,31 @@ closed old = record old { over = true; unread = [] }
 -- what was given where the source gives its end
 record ComesToEnd (start last : SourceSeen) (taken : List ℕ) (keys : List Key) : Type 0 where
   given : HasGiven start last (taken ++ []) keys
+  just : IsJustRead start last (taken ++ []) keys
   few : length (taken ++ []) ≤ KEYS_LIMIT
   end : GivesEnd start last
 
 comes_to_end : (now last : SourceSeen) (old ended : Reading) (start : SourceSeen) (taken : List ℕ)
     (keys : List Key) → IsOpen old → ReadsEnd now last old ended → HasRead start now taken keys old
     → ComesToEnd start last taken keys
-comes_to_end now last old ended start taken keys is_open reads read = record {
-  given = given_more start now last taken [] keys old read is_open reads.takes (omega arith)
-      (omega (arith, read.few)) (inr reads.ends);
-  few = omega (arith, length-append taken [], read.counted, read.few);
-  end = record {
-    left = end_of now.left last.left reads.none reads.takes.left;
-    ends = reads.ends ∙ ap raised (open_ends old start.ends now.ends read.ends is_open.goes_on);
-  };
-}
+comes_to_end now last old ended start taken keys is_open reads read =
+    let at_once : TakesAtOnce [] now last = record {
+      takes = reads.takes;
+      short = omega arith;
+      reads = reads.reads;
+      ends = λ some. absurd (omega (arith, some));
+    } in
+    record {
+      given = given_more start now last taken [] keys old read is_open at_once
+          (omega (arith, read.few)) (inr reads.ends);
+      just = next_just start now last taken [] keys old read is_open at_once;
+      few = omega (arith, length-append taken [], read.counted, read.few);
+      end = record {
+        left = end_of now.left last.left reads.none reads.takes.left;
+        ends =
+            reads.ends ∙ ap raised (open_ends old start.ends now.ends read.ends is_open.goes_on);
+      };
+    }
 
 -- the last line says nothing, or a key, or is no key line
 last_by : (now last : SourceSeen) (old ended : Reading) (key : Result (Option Key) KeyFault)
@@ -281,27 +318,27 @@ last_by now last old ended (Err fault) says is_open reads start taken keys read 
       },
     )
 last_by now last old ended (Ok (Some key)) says is_open reads start taken keys read =
-    let comes = comes_to_end now last old ended start taken keys is_open reads read in (
-      [],
-      record {
-        takes = comes.given.takes;
-        counted = omega (arith, read.counted, length-append taken []);
-        few = read.few;
-        prompt = more_prompt (taken ++ []) keys key comes.given.prompt;
-        says = λ ending rest nothing_follows.
-            let (is_end_, is_none) = nothing_follows refl in
-            ap (λ (e : Ending). keys_at e ((taken ++ []) ++ rest)) is_end_
-            ∙ ap (λ (l : List ℕ). keys_at End ((taken ++ []) ++ l)) is_none
-            ∙ ap (keys_at End) (append-nil (taken ++ []))
-            ∙ last_says now old start taken keys is_open read (Ok (Some key)) says
-            ∙ sym (no_more (keys ++ key ∷ []) End)
-            ∙ ap (λ (e : Ending). keys_then (keys ++ key ∷ []) (record { keys = []; ending = e }))
-            (sym is_end_);
-        ended = λ _. comes.end.left;
-        ends = comes.end.ends;
-        steady = reads.steady ∙ read.steady;
-      },
-    )
+    let comes = comes_to_end now last old ended start taken keys is_open reads read in
+    let has : HasRead start last (taken ++ []) (keys ++ key ∷ []) (closed old) = record {
+      takes = comes.given.takes;
+      counted = omega (arith, read.counted, length-append taken []);
+      few = read.few;
+      some = λ goes_on. absurd cc;
+      prompt = inr (more_just start last (taken ++ []) keys key comes.just);
+      says = λ ending rest nothing_follows.
+          let (is_end_, is_none) = nothing_follows refl in
+          ap (λ (e : Ending). keys_at e ((taken ++ []) ++ rest)) is_end_
+          ∙ ap (λ (l : List ℕ). keys_at End ((taken ++ []) ++ l)) is_none
+          ∙ ap (keys_at End) (append-nil (taken ++ []))
+          ∙ last_says now old start taken keys is_open read (Ok (Some key)) says
+          ∙ sym (no_more (keys ++ key ∷ []) End)
+          ∙ ap (λ (e : Ending). keys_then (keys ++ key ∷ []) (record { keys = []; ending = e }))
+          (sym is_end_);
+      ended = λ _. comes.end.left;
+      ends = comes.end.ends;
+      steady = reads.steady ∙ read.steady;
+    } in
+    ([], (has, comes.just))
 
 -- what the last line comes to is answered
 end_answers : (now last : SourceSeen) (old ended new : Reading) (answer : Next)
@@ -439,7 +476,7 @@ pub then_read : (start now last : SourceSeen) (keys : List Key) (old new : Readi
     → Answers now last old new (next.Key key)
     → (taken : List ℕ) × HasRead start last taken (keys ++ key ∷ []) new
 then_read start now last keys old new key (taken, read) answers =
-    let (more, has) = answers start taken keys read in (taken ++ more, has)
+    let (more, (has, just)) = answers start taken keys read in (taken ++ more, has)
 
 -- the keys were read to their end
 pub then_ended : (start now last : SourceSeen) (keys : List Key) (old new : Reading)

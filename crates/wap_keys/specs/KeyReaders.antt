@@ -1,5 +1,5 @@
 -- A reader of keys, call by call. This project's own.
-use Rattle.std.specs.Prelude.{◌≡◌, ℕ, ◌+◌, ◌-◌, ◌≤◌, ◌<◌, Bool, true, if◌then◌else◌}
+use Rattle.std.specs.Prelude.{◌≡◌, ℕ, ◌+◌, ◌-◌, ◌≤◌, ◌<◌, Bool, true, false, if◌then◌else◌}
 use Rattle.std.specs.Prelude.{List, [], ◌∷◌, ◌++◌, length, Result, Ok, Err}
 use Rattle.wap_base.specs.Count.{raised, Rose}
 use Rattle.wap_base.specs.declared.fault.NoMemory.{NoMemory}
@@ -12,7 +12,7 @@ use Rattle.wap_keys.specs.declared.ending.Ending.TheVariants.{End, BadKey, TooMa
 use Rattle.wap_keys.specs.declared.ending.Next.{Next}
 use Rattle.wap_keys.specs.declared.ending.Next.TheVariants as next
 use Rattle.wap_keys.specs.Lines.{Keys, lines_of, keys_from, keys_at}
-use Rattle.wap_keys.specs.Read.{Takes, IsPrompt, HasGiven, IsRead}
+use Rattle.wap_keys.specs.Read.{Takes, TakesSome, IsJustRead, IsPrompt, HasGiven, IsRead}
 
 -- ---- a reader
 
@@ -48,7 +48,8 @@ pub record HasRead (start now : SourceSeen) (taken : List ℕ) (keys : List Key)
   pub takes : Takes taken start now
   pub counted : length taken ≡ reader.count
   pub few : reader.count ≤ KEYS_LIMIT
-  pub prompt : IsPrompt taken keys
+  pub some : reader.over ≡ false → TakesSome taken start now
+  pub prompt : IsPrompt start now taken keys
   pub says : (ending : Ending) (rest : List ℕ) → (reader.over ≡ true → (ending ≡ End) × (rest ≡ []))
       → keys_at ending (taken ++ rest) ≡ keys_then keys (said_then reader ending rest)
   pub ended : reader.over ≡ true → IsAtEnd now.left
@@ -57,10 +58,11 @@ pub record HasRead (start now : SourceSeen) (taken : List ℕ) (keys : List Key)
 
 -- ---- a call
 
--- after an answer: a key is one of those that were said, or the keys were read to their end
+-- after an answer: a key is one of those that were said, and no read began since the one that gave
+-- the end of its line; or the keys were read to their end
 abbrev pub AnswersAt : SourceSeen → SourceSeen → List ℕ → List Key → Reading → Next → Type 0
 AnswersAt start now taken keys reader (next.Key key) =
-    HasRead start now taken (keys ++ key ∷ []) reader
+    HasRead start now taken (keys ++ key ∷ []) reader × IsJustRead start now taken keys
 AnswersAt start now taken keys reader (next.Ended ending) = IsRead start now taken keys ending
 
 -- whatever was read before, a call goes on from it

@@ -1,6 +1,6 @@
 -- Keys whose bytes are taken from a source. This project's own.
-use Rattle.std.specs.Prelude.{◌≡◌, ◌≢◌, ◌⊎◌, ℕ, ◌+◌, ◌≤◌, Bool, nat_le, if◌then◌else◌}
-use Rattle.std.specs.Prelude.{List, ◌++◌, length, take, Option, Some, IfSome}
+use Rattle.std.specs.Prelude.{◌≡◌, ◌≢◌, ◌⊎◌, ℕ, ◌+◌, ◌<◌, ◌≤◌, Bool, nat_le, if◌then◌else◌}
+use Rattle.std.specs.Prelude.{List, [], ◌∷◌, ◌++◌, length, take, Option, Some, IfSome}
 use Rattle.wap_base.specs.Count.{raised}
 use Rattle.wap_devices.specs.Transfer.{grown_by, TakesFrom, IsAtEnd}
 use Rattle.wap_devices.specs.Sources.{SourceSeen}
@@ -20,6 +20,25 @@ pub record Takes (bytes : List ℕ) (before after : SourceSeen) : Type 0 where
   -- it counts them, as far as it counts
   pub least : grown_by (length bytes) before.given ≤ after.given
   pub most : after.given ≤ before.given + length bytes
+
+-- they were taken in reads that each gave some of them
+pub record TakesSome (bytes : List ℕ) (before after : SourceSeen) : Type 0 where
+  pub takes : Takes bytes before after
+  -- so many reads, as far as the source counts them
+  pub reads : ℕ
+  pub some : reads ≤ length bytes
+  pub least : grown_by reads before.reads ≤ after.reads
+  pub most : after.reads ≤ before.reads + reads
+  -- none of them met the end, and none failed
+  pub ends : after.ends ≡ before.ends
+  pub faults : after.faults ≡ before.faults
+
+-- they were taken in one read, which met the end, or failed, where there are none
+pub record TakesAtOnce (bytes : List ℕ) (before after : SourceSeen) : Type 0 where
+  pub takes : Takes bytes before after
+  pub short : length bytes ≤ PIECE_LIMIT
+  pub reads : after.reads ≡ raised before.reads
+  pub ends : 0 < length bytes → after.ends ≡ before.ends
 
 -- at most so many bytes were taken
 abbrev pub TakesAtMost : ℕ → SourceSeen → SourceSeen → Type 0
@@ -54,22 +73,46 @@ ending_after ended = if ended then End else ReadFault
 abbrev pub keys_among : Bool → List ℕ → List Key
 keys_among ended taken = (keys_at (ending_after ended) taken).keys
 
--- before the last piece was taken there were whole lines only that are key lines, and no line that
--- is too long already; and they said no more than a prefix of these keys
-pub record IsPrompt (taken : List ℕ) (keys : List Key) : Type 0 where
+-- of the bytes that were taken the last read gave the last; before it their whole lines were key
+-- lines, none was too long already, and they said no more than the first of these keys
+pub record IsJustRead (start now : SourceSeen) (taken : List ℕ) (keys : List Key) : Type 0 where
+  -- the bytes before the last read, and the source as it stood then
   pub earlier : List ℕ
-  pub piece : List ℕ
+  pub between : SourceSeen
+  pub before : TakesSome earlier start between
+  -- what their lines said
   pub said : List Key
-  pub split : taken ≡ earlier ++ piece
-  pub short : length piece ≤ PIECE_LIMIT
-  pub before : keys_at ReadFault earlier ≡ record { keys = said; ending = ReadFault }
+  pub says : keys_at ReadFault earlier ≡ record { keys = said; ending = ReadFault }
   pub first : AreFirst said keys
+  -- what that read gave
+  pub piece : List ℕ
+  pub last : TakesAtOnce piece between now
+  pub split : taken ≡ earlier ++ piece
+
+-- nothing was read, and so no key was given
+pub record IsUnread (start now : SourceSeen) (taken : List ℕ) (keys : List Key) : Type 0 where
+  pub stays : now ≡ start
+  pub none_taken : taken ≡ []
+  pub none_given : keys ≡ []
+
+-- no read began once the last of these keys was there, or a line that is no key line, were it only
+-- begun and too long already
+abbrev pub IsPrompt : SourceSeen → SourceSeen → List ℕ → List Key → Type 0
+IsPrompt start now taken keys = IsUnread start now taken keys ⊎ IsJustRead start now taken keys
+
+-- no key was given; or no read began since the one that gave the end of the line of the last, its
+-- line feed or the end of all bytes
+abbrev pub IsAtLast : SourceSeen → SourceSeen → List ℕ → List Key → Type 0
+IsAtLast start now taken keys =
+    IsUnread start now taken keys
+    ⊎ ((others : List Key) × (last : Key) × (keys ≡ others ++ last ∷ [])
+    × IsJustRead start now taken others)
 
 -- the bytes were taken, and the keys are the first that their whole lines say, and the first of all
 pub record HasGiven (start now : SourceSeen) (taken : List ℕ) (keys : List Key) : Type 0 where
   pub takes : Takes taken start now
   pub few : length taken ≤ KEYS_LIMIT + 1
-  pub prompt : IsPrompt taken keys
+  pub prompt : IsPrompt start now taken keys
   pub first : AreFirst keys (keys_among (rose start.ends now.ends) taken)
   pub of_all : IfSome start.left (λ bytes. AreFirst keys (keys_of bytes).keys)
   -- the source gives its end once at most

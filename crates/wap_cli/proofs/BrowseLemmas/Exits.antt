@@ -1,6 +1,6 @@
 -- How a session comes to its end.
 use Rattle.std.proofs.Common.{◌≡◌, ◌≢◌, ℕ, ◌≤◌, List, [], ◌∷◌, ◌++◌, Option, Some, None}
-use Rattle.std.proofs.Common.{length, refl, sym, ap, subst, ◌∙◌, arith}
+use Rattle.std.proofs.Common.{length, refl, sym, ap, subst, ◌∙◌, inl, inr, arith}
 use Rattle.std.specs.Prelude.{Bool, true, false, is_some, IfSome, Ok}
 use Rattle.wap_base.specs.Count.{Rose}
 use Rattle.wap_devices.specs.Sources.{SourceSeen}
@@ -11,7 +11,7 @@ use Rattle.wap_keys.specs.declared.ending.Ending.{Ending}
 use Rattle.wap_keys.specs.declared.ending.Ending.TheVariants as way
 use Rattle.wap_keys.specs.declared.ending.Next.TheVariants as next
 use Rattle.wap_keys.specs.Lines.{Keys, keys_of}
-use Rattle.wap_keys.specs.Read.{AreFirst, HasGiven, IsRead}
+use Rattle.wap_keys.specs.Read.{AreFirst, IsAtLast, HasGiven, IsRead}
 use Rattle.wap_keys.specs.KeyReaders.{Reading, Answers, GivesUp, CountsFaults}
 use Rattle.wap_keys.proofs.ReaderLaws.{begun as nothing_read, given_of, gives_up_at_once}
 use Rattle.wap_keys.proofs.WholeLaws.{known_of, few_of, some_rest, none_left}
@@ -57,7 +57,7 @@ rose_from before now after is rose = subst (λ (count : ℕ). Rose count after) 
 gives_by : (play : Play) (old new : Outside) (status : Status) (taken : List ℕ) (given : List Key)
     → HasGiven old.source new.source taken given
     → ((bytes rest : List ℕ) → old.source.left ≡ Some bytes → new.source.left ≡ Some rest
-    → EndsSo status bytes taken rest given)
+    → EndsSo status old.source new.source bytes taken rest given)
     → ((judged : JudgedPages) (bytes : List ℕ) → old.pages.contents ≡ Some judged
     → AreFirst given (keys_of bytes).keys
     → Written status (play (unit_pages judged)) bytes given old new)
@@ -97,7 +97,7 @@ keys_are old new bytes taken given ending known read no_fault =
 ends_so : (is_open : Bool) (old new : SourceSeen) (ending : Ending) (bytes taken rest : List ℕ)
     (given : List Key)
     → old.left ≡ Some bytes → new.left ≡ Some rest → IsRead old new taken given ending
-    → EndsSo (ended is_open ending) bytes taken rest given
+    → EndsSo (ended is_open ending) old new bytes taken rest given
 ends_so false old new way.End bytes taken rest given known left read = (
   none_left new.left rest left read.ends.0.left,
   keys_are old new bytes taken given way.End known read (λ e. absurd cc),
@@ -324,6 +324,7 @@ module _ (play : Play) (given : List Key) (key : Key) (taken : List ℕ) (old : 
     (now : Moved) (state : State) (source : SourceSeen) (new : Moment)
     (comes : Comes play given key (moved_of old) now state)
     (has : HasGiven old.source source taken given)
+    (at_last : IsAtLast old.source source taken given)
     (unfailing : source.faults ≡ old.source.faults) where
   -- what all stops share
   stopped_by : (status : Status)
@@ -332,7 +333,7 @@ module _ (play : Play) (given : List Key) (key : Key) (taken : List ℕ) (old : 
       → AreFirst given (keys_of bytes).keys → old.pages.contents ≡ Some judged
       → Written status (play (unit_pages judged)) bytes given old
       (outside_of (played_to new) source))
-      → ((bytes rest : List ℕ) → EndsSo status bytes taken rest given)
+      → ((bytes rest : List ℕ) → EndsSo status old.source source bytes taken rest given)
       → StoreMoves status old.pages.faults new.pages.faults
       → ReadMoves status old.source.faults source.faults
       → WriteMoves status old.sink.faults new.sink.faults
@@ -379,7 +380,7 @@ module _ (play : Play) (given : List Key) (key : Key) (taken : List ℕ) (old : 
         };
         opens = tt;
       })
-      (λ bytes rest. tt)
+      (λ bytes rest. at_last)
       (rose_from old.pages.faults now.pages.faults new.pages.faults comes.steady so.rose)
       unfailing steady tt so.stays (omega (arith, steady))
   stop_browses WriteFault so =
@@ -397,7 +398,7 @@ module _ (play : Play) (given : List Key) (key : Key) (taken : List ℕ) (old : 
         };
         opens = tt;
       })
-      (λ bytes rest. tt)
+      (λ bytes rest. at_last)
       (so.steady ∙ comes.steady)
       unfailing
       (rose_from old.sink.faults now.sink.faults new.sink.faults comes.write_steady so.rose)
@@ -454,12 +455,13 @@ pub read_stops : (play : Play) (old now : Outside) (reader after : Reading) (sta
     → Stops status key (moment_of (moved_of now) state) new
     → BrowsesTo play old (outside_of (played_to new) source) status
 read_stops play old now reader after state key source new status reaches answers so =
-    let (more, read) = answers old.source reaches.taken reaches.given reaches.read in
+    let (more, (read, just)) = answers old.source reaches.taken reaches.given reaches.read in
     let given = reaches.given ++ key ∷ [] in
     let taken = reaches.taken ++ more in
     stop_browses play given key taken old (moved_of now) state source new
     (comes_next play reaches.given key (moved_of old) (moved_of now) state reaches.browsed)
-    (given_of old.source source taken given after read) read.steady status so
+    (given_of old.source source taken given after read) (inr (reaches.given, key, refl, just))
+    read.steady status so
 
 -- one before any was read
 pub first_stops : (play : Play) (old : Outside) (now : Moved) (state : State) (key : Key)
@@ -468,7 +470,8 @@ pub first_stops : (play : Play) (old : Outside) (now : Moved) (state : State) (k
     → BrowsesTo play old (outside_of (played_to new) old.source) status
 first_stops play old now state key new status comes so =
     stop_browses play [] key [] old now state old.source new comes
-    (given_of old.source old.source [] [] _ (nothing_read old.source [] refl)) refl status so
+    (given_of old.source old.source [] [] _ (nothing_read old.source [] refl))
+    (inl (record { stays = refl; none_taken = refl; none_given = refl })) refl status so
 
 -- ---- memory ran out before anything was done
 

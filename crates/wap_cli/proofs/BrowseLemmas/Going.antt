@@ -230,7 +230,7 @@ pub reaches_more : (play : Play) (old now : Outside) (reader after : Reading) (s
     → Reaches play old (record { pages = new.pages; source = source; sink = new.sink }) after
     new.state
 reaches_more play old now reader after state key source new reaches answers goes =
-    let (more, read) = answers old.source reaches.taken reaches.given reaches.read in
+    let (more, (read, just)) = answers old.source reaches.taken reaches.given reaches.read in
     record {
       given = reaches.given ++ key ∷ [];
       taken = reaches.taken ++ more;

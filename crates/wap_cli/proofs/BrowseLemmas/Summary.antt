@@ -2,6 +2,7 @@
 use Rattle.std.proofs.Common.{◌≡◌, ◌≢◌, ℕ, Bool, true, false, List, [], refl, sym, ap, subst}
 use Rattle.std.proofs.Common.{◌∙◌, inl, inr}
 use Rattle.wap_base.specs.declared.key.Key.{Key}
+use Rattle.wap_devices.specs.Sources.{SourceSeen}
 use Rattle.wap_keys.specs.declared.ending.Ending.{Ending}
 use Rattle.wap_keys.specs.declared.ending.Ending.TheVariants as way
 use Rattle.wap_keys.specs.Lines.{Keys, keys_of}
@@ -74,7 +75,7 @@ complete_by : (status : Status) (is_open : List Key → Bool) (old new : Outside
     → StoreMoves status old.pages.faults new.pages.faults
     → ReadMoves status old.source.faults new.source.faults
     → WriteMoves status old.sink.faults new.sink.faults
-    → EndsSo status bytes taken rest given → EndsAt status (is_open given)
+    → EndsSo status old.source new.source bytes taken rest given → EndsAt status (is_open given)
     → NothingFails old new
     → IsOrWants (ended (is_open (keys_of bytes).keys) (keys_of bytes).ending) status
 complete_by Done is_open old new bytes taken rest given store read write ends opens none =
@@ -117,11 +118,11 @@ open_with TooManyKeys = (false, tt)
 -- ---- sentences
 
 -- at the end of the keys all bytes were taken
-done_by : (is_open : Bool) (bytes taken rest : List ℕ) (given : List Key)
-    → EndsSo (at_end is_open) bytes taken rest given
+done_by : (is_open : Bool) (old new : SourceSeen) (bytes taken rest : List ℕ) (given : List Key)
+    → EndsSo (at_end is_open) old new bytes taken rest given
     → (rest ≡ []) × (keys_of bytes ≡ record { keys = given; ending = way.End })
-done_by false bytes taken rest given so = so
-done_by true bytes taken rest given so = so
+done_by false old new bytes taken rest given so = so
+done_by true old new bytes taken rest given so = so
 
 -- and the session is open or not as the status says
 open_by : (is_open other : Bool) → EndsAt (at_end is_open) other → other ≡ is_open
@@ -167,9 +168,9 @@ reads_by : (play : Play) (bytes : List ℕ) (old new : Outside) (status : Status
     → Reads (ArePagesOf old.pages) play bytes old new status
 reads_by play bytes old new status so gives =
     let at : (other : Status) → status ≡ other
-    → EndsSo other bytes gives.taken gives.rest gives.given =
-    λ other is. subst (λ (s : Status). EndsSo s bytes gives.taken gives.rest gives.given) is
-    gives.ends in
+    → EndsSo other old.source new.source bytes gives.taken gives.rest gives.given =
+    λ other is. subst (λ (s : Status).
+    EndsSo s old.source new.source bytes gives.taken gives.rest gives.given) is gives.ends in
     record {
       taken = gives.taken;
       rest = gives.rest;
@@ -178,7 +179,10 @@ reads_by play bytes old new status so gives =
       given = gives.given;
       first = gives.first;
       prompt = gives.prompt;
-      done = λ is_open is. done_by is_open bytes gives.taken gives.rest gives.given
+      store_fault = λ is. at StoreFault is;
+      write_fault = λ is. at WriteFault is;
+      done = λ is_open is.
+          done_by is_open old.source new.source bytes gives.taken gives.rest gives.given
           (at (at_end is_open) is);
       bad_key = λ line fault is. at (BadKey line fault) is;
       too_many_keys = λ is. at TooManyKeys is;

@@ -11,7 +11,8 @@ use Rattle.wap_keys.specs.declared.fault.KeyFault.TheVariants as key
 use Rattle.wap_keys.specs.declared.ending.Ending.{Ending}
 use Rattle.wap_keys.specs.declared.ending.Ending.TheVariants as ending
 use Rattle.wap_keys.specs.Lines.{keys_of, keys_at}
-use Rattle.wap_keys.specs.Read.{AreFirst, keys_among, rose, IsPrompt, TakesAtMost, AtMostOnce}
+use Rattle.wap_keys.specs.Read.{AreFirst, keys_among, rose, IsPrompt, IsAtLast, TakesAtMost}
+use Rattle.wap_keys.specs.Read.{AtMostOnce}
 use Rattle.wap_pages.specs.declared.fault.PageFault.{PageFault}
 use Rattle.wap_world.specs.site.Asking.{Stays}
 use Rattle.wap_world.specs.Steps.{Step}
@@ -64,9 +65,13 @@ pub record Reads {P : Type 0} (Are : P → Type 0) (play : P → List Key → St
   -- one after the other these keys were given, the first that the whole lines among them say
   pub given : List Key
   pub first : AreFirst given (keys_among (rose old.source.ends new.source.ends) taken)
-  -- with any status, no piece was taken once the last of them was there, or a line that is no key
-  -- line, were it only begun and too long already
-  pub prompt : IsPrompt taken given
+  -- with any status, no read began once the last of them was there, or a line that is no key line,
+  -- were it only begun and too long already
+  pub prompt : IsPrompt old.source new.source taken given
+  -- where the store failed, or the sink, the last was handled before the next read began; or what
+  -- is done before the first was, and nothing was read
+  pub store_fault : status ≡ StoreFault → IsAtLast old.source new.source taken given
+  pub write_fault : status ≡ WriteFault → IsAtLast old.source new.source taken given
   -- these statuses come only where the bytes end so: with Done and OpenDialog all were taken; a
   -- line is no key line; there is one past the limit, and no more were taken; or more were to
   -- come

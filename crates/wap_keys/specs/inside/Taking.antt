@@ -81,6 +81,7 @@ pub record ReadsPiece (before after : SourceSeen) (old new : Reading) : Type 0 w
   pub few : old.count + length piece ≤ KEYS_LIMIT
   pub reader
       : new ≡ record old { unread = old.unread ++ piece; count = old.count + length piece }
+  pub reads : after.reads ≡ raised before.reads
   pub ends : after.ends ≡ before.ends
   pub steady : after.faults ≡ before.faults
 
@@ -89,6 +90,7 @@ pub record ReadsEnd (before after : SourceSeen) (old new : Reading) : Type 0 whe
   pub none : IsAtEnd before.left
   pub takes : Takes [] before after
   pub reader : new ≡ record old { over = true }
+  pub reads : after.reads ≡ raised before.reads
   pub ends : after.ends ≡ raised before.ends
   pub steady : after.faults ≡ before.faults
 
@@ -99,6 +101,7 @@ pub record ReadsPast (before after : SourceSeen) (old new : Reading) : Type 0 wh
   pub one : length piece ≡ 1
   pub full : old.count ≡ KEYS_LIMIT
   pub reader : new ≡ old
+  pub reads : after.reads ≡ raised before.reads
   pub ends : after.ends ≡ before.ends
   pub steady : after.faults ≡ before.faults
 
@@ -106,6 +109,7 @@ pub record ReadsPast (before after : SourceSeen) (old new : Reading) : Type 0 wh
 pub record FailsToRead (before after : SourceSeen) (old new : Reading) : Type 0 where
   pub takes : Takes [] before after
   pub reader : new ≡ old
+  pub reads : after.reads ≡ raised before.reads
   pub ends : after.ends ≡ before.ends
   pub counts : before.faults ≤ after.faults
   pub rose : Rose before.faults after.faults
@@ -123,5 +127,6 @@ pub record LosesPiece (before after : SourceSeen) (old : Reading) : Type 0 where
   pub takes : Takes piece before after
   pub small : length piece ≤ PIECE_LIMIT
   pub few : old.count + length piece ≤ KEYS_LIMIT + 1
+  pub reads : after.reads ≡ raised before.reads
   pub ends : after.ends ≡ before.ends
   pub steady : after.faults ≡ before.faults

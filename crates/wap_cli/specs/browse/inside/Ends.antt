@@ -8,7 +8,9 @@ use Rattle.wap_keys.specs.declared.limits.TheConstants.{KEYS_LIMIT}
 use Rattle.wap_keys.specs.declared.fault.KeyFault.TheVariants as key
 use Rattle.wap_keys.specs.declared.ending.Ending.TheVariants as ending
 use Rattle.wap_keys.specs.Lines.{keys_of, keys_at}
-use Rattle.wap_keys.specs.Read.{AreFirst, keys_among, rose, IsPrompt, TakesAtMost, AtMostOnce}
+use Rattle.wap_devices.specs.Sources.{SourceSeen}
+use Rattle.wap_keys.specs.Read.{AreFirst, keys_among, rose, IsPrompt, IsAtLast, TakesAtMost}
+use Rattle.wap_keys.specs.Read.{AtMostOnce}
 use Rattle.wap_world.specs.site.Asking.{Stays}
 use Rattle.wap_world.specs.Steps.{Step}
 use Rattle.wap_world.specs.scripting.UnitSites.{unit_pages}
@@ -21,22 +23,22 @@ use Rattle.wap_cli.specs.browse.Plays.{Play}
 use Rattle.wap_cli.specs.browse.Handling.{bytes_of, IsPlayed}
 use Rattle.wap_cli.specs.browse.Stopping.{StopsAtStore, StopsAtSink, StopsForMemory}
 
--- the bytes end so
-abbrev pub EndsSo : Status → List ℕ → List ℕ → List ℕ → List Key → Type 0
-EndsSo Done bytes taken rest given =
+-- the bytes that the source gave end so
+abbrev pub EndsSo : Status → SourceSeen → SourceSeen → List ℕ → List ℕ → List ℕ → List Key → Type 0
+EndsSo Done old new bytes taken rest given =
     (rest ≡ []) × (keys_of bytes ≡ record { keys = given; ending = ending.End })
-EndsSo Usage bytes taken rest given = ⊥
-EndsSo (Refused fault) bytes taken rest given = ⊥
-EndsSo StoreFault bytes taken rest given = Unit {0}
-EndsSo KeyReadFault bytes taken rest given =
+EndsSo Usage old new bytes taken rest given = ⊥
+EndsSo (Refused fault) old new bytes taken rest given = ⊥
+EndsSo StoreFault old new bytes taken rest given = IsAtLast old new taken given
+EndsSo KeyReadFault old new bytes taken rest given =
     keys_at ending.ReadFault taken ≡ record { keys = given; ending = ending.ReadFault }
-EndsSo WriteFault bytes taken rest given = Unit {0}
-EndsSo NoMemory bytes taken rest given = Unit {0}
-EndsSo (BadKey line fault) bytes taken rest given =
+EndsSo WriteFault old new bytes taken rest given = IsAtLast old new taken given
+EndsSo NoMemory old new bytes taken rest given = Unit {0}
+EndsSo (BadKey line fault) old new bytes taken rest given =
     keys_of bytes ≡ record { keys = given; ending = ending.BadKey line fault }
-EndsSo OpenDialog bytes taken rest given =
+EndsSo OpenDialog old new bytes taken rest given =
     (rest ≡ []) × (keys_of bytes ≡ record { keys = given; ending = ending.End })
-EndsSo TooManyKeys bytes taken rest given =
+EndsSo TooManyKeys old new bytes taken rest given =
     (length taken ≡ KEYS_LIMIT + 1)
     × (keys_of bytes ≡ record { keys = given; ending = ending.TooManyKeys })
 
@@ -83,8 +85,8 @@ pub record Gives (play : Play) (bytes : List ℕ) (old new : Outside) (status : 
     pub left_is : new.source.left ≡ Some rest
     pub given : List Key
     pub first : AreFirst given (keys_among (rose old.source.ends new.source.ends) taken)
-    pub prompt : IsPrompt taken given
-    pub ends : EndsSo status bytes taken rest given
+    pub prompt : IsPrompt old.source new.source taken given
+    pub ends : EndsSo status old.source new.source bytes taken rest given
     pub written : IfSome old.pages.contents
         (λ judged. Written status (play (unit_pages judged)) bytes given old new)
 
