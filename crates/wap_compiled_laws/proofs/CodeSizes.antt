@@ -3,6 +3,8 @@
 pub mod Each
 pub mod Libraries
 pub mod Costs
-pub mod Expressions
+pub mod Pieces
+pub mod Places
 pub mod Saving
-pub mod Statements
+pub mod Needs
+pub mod Bodies

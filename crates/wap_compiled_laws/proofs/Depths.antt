@@ -2,5 +2,4 @@
 -- code here.
 pub mod Flow
 pub mod Shapes
-pub mod Trees
 pub mod Bodies

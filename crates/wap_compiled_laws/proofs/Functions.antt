@@ -48,9 +48,9 @@ use Rattle.wap_meaning.specs.compiled.Accepted.{HasRoom}
 use Rattle.wap_meaning.specs.compiled.Savings.{saved, function_saves}
 use Rattle.wap_compiled_laws.proofs.CodeSizes.Each.{each_front, each_back}
 use Rattle.wap_compiled_laws.proofs.CodeSizes.Costs.{Fits, has_room, cost, both_costs, Costs}
-use Rattle.wap_compiled_laws.proofs.CodeSizes.Expressions.{Place, numbers, Given}
+use Rattle.wap_compiled_laws.proofs.CodeSizes.Places.{Place, numbers, Given}
 use Rattle.wap_compiled_laws.proofs.CodeSizes.Saving.{stmt_cost, body_less}
-use Rattle.wap_compiled_laws.proofs.CodeSizes.Statements.{body_good}
+use Rattle.wap_compiled_laws.proofs.CodeSizes.Bodies.{body_good}
 
 -- ---- how many functions and variables there are
 

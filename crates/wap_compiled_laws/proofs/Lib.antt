@@ -11,6 +11,7 @@ pub mod Depths
 pub mod Labels
 pub mod Soundness
 pub mod RunnableLemmas
+pub mod Induction
 pub mod CodeSizes
 pub mod SourceSizes
 pub mod SpellingLemmas

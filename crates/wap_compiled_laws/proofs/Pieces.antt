@@ -4,5 +4,6 @@ pub mod Standing
 pub mod Pieces
 pub mod Instructions
 pub mod Jumps
+pub mod Sizes
 pub mod Shorts
 pub mod Assignments

@@ -30,3 +30,8 @@ pub each_then : {X : Type 0} (P Q : X → Type 0) → ((x : X) → P x → Q x) 
     → AllByRecursion P xs → AllByRecursion Q xs
 each_then P Q then [] all = tt
 each_then P Q then (x ∷ xs) all = (then x all.0, each_then P Q then xs all.1)
+
+-- what is so of everything is so of each
+pub each_any : {X : Type 0} (xs : List X) → AllByRecursion (λ (x : X). Unit {0}) xs
+each_any [] = tt
+each_any (x ∷ xs) = (tt, each_any xs)

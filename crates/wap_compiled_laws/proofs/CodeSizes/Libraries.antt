@@ -6,7 +6,8 @@ use Rattle.std.specs.List.{list_all}
 use Rattle.std.specs.Map.{lookup}
 use Rattle.std.specs.Option.{option_map_or}
 use Rattle.std.proofs.lemmas.Bool.{and_parts, ltb-true, eqb-true}
-use Rattle.wap_unit.specs.Libraries.{library, by_name, lib_args, lib_named, is_named}
+use Rattle.wap_unit.specs.Libraries.{library, by_number, by_name, is_function, is_named, lib_args}
+use Rattle.wap_unit.specs.Libraries.{lib_named}
 
 -- a row of the table is found by its numbers, and these have room
 check : ℕ × ℕ × ℕ × List ℕ × List ℕ → Bool
@@ -63,3 +64,28 @@ found test (r ∷ rows) all row is =
 pub row_of_names : (l f : List ℕ) (row : ℕ × ℕ × ℕ) → lib_named l f ≡ Some row → IsRow row
 unfolding lib_named
 row_of_names l f row is = found (is_named l f) library all_checked row is
+
+-- the numbers of a function that is there
+pub numbers_fit : (l f n : ℕ) → lib_args l f ≡ Some n → (l < 65536) × (f < 256)
+unfolding lib_args
+numbers_fit l f n is = among library all_checked is
+  where
+    among : (rows : List (ℕ × ℕ × ℕ × List ℕ × List ℕ)) → list_all check rows ≡ true
+        → lookup (is_function l f) (map by_number rows) ≡ Some n → (l < 65536) × (f < 256)
+    among [] all is = absurd (cc is)
+    among (r ∷ rows) all is = by (is_function l f (r.0, r.1)) refl is (among rows parts.1)
+      where
+        parts : (check r ≡ true) × (list_all check rows ≡ true)
+        parts = and_parts (check r) (list_all check rows) all
+
+        by : (b : Bool) → is_function l f (r.0, r.1) ≡ b
+            → cond b (Some r.2) (lookup (is_function l f) (map by_number rows)) ≡ Some n
+            → (lookup (is_function l f) (map by_number rows) ≡ Some n → (l < 65536) × (f < 256))
+            → (l < 65536) × (f < 256)
+        by true same here further =
+            let both = and_parts (nat_eq r.0 l) (nat_eq r.1 f) same in
+            let row = row_is r parts.0 in (
+              subst (λ (n : ℕ). n < 65536) (eqb-true r.0 l both.0) row.low,
+              subst (λ (n : ℕ). n < 256) (eqb-true r.1 f both.1) row.small,
+            )
+        by false same here further = further here

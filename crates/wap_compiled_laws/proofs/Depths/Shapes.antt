@@ -16,20 +16,10 @@ use Rattle.wap_meaning.specs.coding.Expressions.{short_code}
 use Rattle.wap_meaning.specs.coding.Statements.{loop_code, exit_form}
 use Rattle.wap_compiled_laws.proofs.Pieces.Pieces.{Holds, front, behind, Sized, sized_both}
 use Rattle.wap_compiled_laws.proofs.Pieces.Jumps.{branches}
+use Rattle.wap_compiled_laws.proofs.Pieces.Sizes.{sized_branches, sized_branch, sized_short}
+use Rattle.wap_compiled_laws.proofs.Pieces.Sizes.{sized_loop}
+use Rattle.wap_compiled_laws.proofs.Induction.Pieces.{higher}
 use Rattle.wap_unit.specs.declared.row.OpName.TheVariants as op
-
--- the forms of two branches
-sized_branches : (first second : Coded) → Sized first → Sized second
-    → Sized (branches first second)
-sized_branches first second ones twos =
-    sized_both (jump_over op.TjumpFw (first.size + 1))
-    (first ⨾ jump_over op.JumpFw (1 + second.size) ⨾ label ⨾ second ⨾ label)
-    (λ exits i. refl)
-    (sized_both first (jump_over op.JumpFw (1 + second.size) ⨾ label ⨾ second ⨾ label) ones
-    (sized_both (jump_over op.JumpFw (1 + second.size)) (label ⨾ second ⨾ label)
-    (λ exits i. refl)
-    (sized_both label (second ⨾ label) (λ exits i. refl)
-    (sized_both second label twos (λ exits i. refl)))))
 
 module _ (flow_of : Instr → Flow) (forms : List Form) where
   -- how many operands stand before each form
@@ -138,12 +128,17 @@ module _ (flow_of : Instr → Flow) (forms : List Form) where
         (ones.0, all_both d i first.size second.size ones.1 twos.1);
   }
 
+  -- so many operands more are a sum
+  higher_is : (n x : ℕ) → higher n x ≡ x + n
+  higher_is zero x = omega arith
+  higher_is (suc n) x = higher_is n (suc x) ∙ omega arith
+
   -- an operation that goes on
   pub shape_op : (form : Instr) (takes gives below : ℕ) → flow_of form ≡ goes takes gives
-      → Shape (one (λ exits at. Op form)) (below + takes) (below + gives)
+      → Shape (one (λ exits at. Op form)) (higher takes below) (higher gives below)
   shape_op form takes gives below is = record {
     sized = λ exits i. refl;
-    depths = (below + takes) ∷ [];
+    depths = higher takes below ∷ [];
     long = refl;
     fits = λ exits i d same last free holds. (
       same.0,
@@ -151,17 +146,20 @@ module _ (flow_of : Instr → Flow) (forms : List Form) where
         Op form,
         holds.0,
         subst (OpFine d i) (sym is)
-            (omega (arith, same.0), last ∙ omega (arith, same.0)),
+            (
+              omega (arith, same.0, higher_is takes below),
+              last ∙ omega (arith, same.0, higher_is takes below, higher_is gives below),
+            ),
       )),
     );
   }
 
   -- an operation that leaves the function
   pub shape_leaves : (form : Instr) (takes below to : ℕ) → flow_of form ≡ leaves takes
-      → Shape (one (λ exits at. Op form)) (below + takes) to
+      → Shape (one (λ exits at. Op form)) (higher takes below) to
   shape_leaves form takes below to is = record {
     sized = λ exits i. refl;
-    depths = (below + takes) ∷ [];
+    depths = higher takes below ∷ [];
     long = refl;
     fits = λ exits i d same last free holds. (
       same.0,
@@ -169,7 +167,7 @@ module _ (flow_of : Instr → Flow) (forms : List Form) where
         Op form,
         holds.0,
         subst (OpFine d i) (sym is)
-            (omega (arith, same.0)),
+            (omega (arith, same.0, higher_is takes below)),
       )),
     );
   }
@@ -261,10 +259,7 @@ module _ (flow_of : Instr → Flow) (forms : List Form) where
       → flow_of (instr name 0 0 0) ≡ short → flow_of (instr op.Tobool 0 0 0) ≡ goes 1 1
       → Shape second x (suc x) → Shape (short_code name second) (suc x) (suc x)
   shape_short name second x is tobool p = record {
-    sized = sized_both (plain name) (jump_over op.TjumpFw (second.size + 1) ⨾ second ⨾
-        plain op.Tobool ⨾ label) (λ exits i. refl)
-        (sized_both (jump_over op.TjumpFw (second.size + 1)) (second ⨾ plain op.Tobool ⨾ label)
-        (λ exits i. refl) (sized_both second (plain op.Tobool ⨾ label) p.sized (λ exits i. refl)));
+    sized = sized_short name second p.sized;
     depths = suc x ∷ suc x ∷ (p.depths ++ (suc x ∷ suc x ∷ []));
     long = omega (arith, length-append p.depths (suc x ∷ suc x ∷ []), p.long);
     fits = λ exits i d same last free holds.
@@ -329,8 +324,7 @@ module _ (flow_of : Instr → Flow) (forms : List Form) where
   pub shape_branch : (body : Coded) → Shape body 0 0
       → Shape (jump_over op.TjumpFw body.size ⨾ body ⨾ label) 1 0
   shape_branch body p = record {
-    sized = sized_both (jump_over op.TjumpFw body.size) (body ⨾ label) (λ exits i. refl)
-        (sized_both body label p.sized (λ exits i. refl));
+    sized = sized_branch body p.sized;
     depths = 1 ∷ (p.depths ++ 0 ∷ []);
     long = omega (arith, length-append p.depths (0 ∷ []), p.long);
     fits = λ exits i d same last free holds.
@@ -410,19 +404,10 @@ module _ (flow_of : Instr → Flow) (forms : List Form) where
   shape_loop test body update p q r =
       let past : ℕ = body.size + (update.size + 2) in
       let t : ℕ = (test past).size in
-      let jump_code : Coded =
-      jump_before op.JumpBw (1 + t + body.size + 1 + update.size) ⨾ label in
       let ends : List ℕ = 0 ∷ 0 ∷ [] in
       let after_body : List ℕ = 0 ∷ (r.depths ++ ends) in
       record {
-        sized = sized_both label (test past ⨾ within past body.size body ⨾ label ⨾ update ⨾
-            jump_code) (λ exits i. refl)
-            (sized_both (test past) (within past body.size body ⨾ label ⨾ update ⨾ jump_code)
-            (p.sized past)
-            (sized_both (within past body.size body) (label ⨾ update ⨾ jump_code)
-            (λ exits i. q.sized (Some (i + past, i + body.size)) i)
-            (sized_both label (update ⨾ jump_code) (λ exits i. refl)
-            (sized_both update jump_code r.sized (λ exits i. refl)))));
+        sized = sized_loop test body update p.sized q.sized r.sized;
         depths = 0 ∷ (p.depths ++ (q.depths ++ after_body));
         long = omega (
           arith,

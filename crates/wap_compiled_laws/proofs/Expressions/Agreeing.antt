@@ -15,7 +15,8 @@ use Rattle.wap_unit.specs.declared.row.OpName.{OpName}
 use Rattle.wap_execution.specs.declared.action.Action.TheVariants.{Binary}
 use Rattle.wap_execution.specs.Actions.{action_of}
 use Rattle.wap_execution.specs.Effects.{Called, jumps_at}
-use Rattle.wap_meaning.specs.SourceParts.{Came, gave, over, Does, ◌>>=◌, give, load, store, kept, calling}
+use Rattle.wap_meaning.specs.SourceParts.{Came, gave, over, Does, ◌>>=◌, give, load, store, kept}
+use Rattle.wap_meaning.specs.SourceParts.{calling}
 use Rattle.wap_meaning.specs.Expressions.{assigned, stepped, step_of, each_of, joined, chained}
 use Rattle.wap_meaning.specs.Expressions.{decides, as_boolean}
 use Rattle.wap_asm.specs.declared.form.Form.{Form}
@@ -25,7 +26,8 @@ use Rattle.wap_meaning.specs.coding.Coded.{jump_over}
 use Rattle.wap_meaning.specs.coding.Expressions.{load_code, store_code, assigned_code, binary_name}
 use Rattle.wap_meaning.specs.coding.Expressions.{joined_code, chain_code, cond_code, short_code}
 use Rattle.wap_meaning.specs.coding.Expressions.{step_code}
-use Rattle.wap_meaning.proofs.KeepingParts.{give_keeps, load_keeps, store_keeps, kept_keeps, calling_keeps}
+use Rattle.wap_meaning.proofs.KeepingParts.{give_keeps, load_keeps, store_keeps, kept_keeps}
+use Rattle.wap_meaning.proofs.KeepingParts.{calling_keeps}
 use Rattle.wap_meaning.proofs.Following.{Gave, from_gave, keeps_both}
 use Rattle.wap_meaning.specs.Keeping.{Keeps}
 use Rattle.wap_compiled_laws.proofs.Pieces.Pieces.{Sized, sized_both, Site, spot, onto, Piece, both}
@@ -34,6 +36,7 @@ use Rattle.wap_compiled_laws.proofs.Pieces.Instructions.{as_is, pushed, nothing,
 use Rattle.wap_compiled_laws.proofs.Pieces.Instructions.{binary_piece}
 use Rattle.wap_compiled_laws.proofs.Pieces.Instructions.{pop_piece}
 use Rattle.wap_compiled_laws.proofs.Pieces.Jumps.{onto_shifts, branches, branches_piece}
+use Rattle.wap_compiled_laws.proofs.Pieces.Sizes.{sized_branches, sized_short}
 use Rattle.wap_compiled_laws.proofs.Pieces.Shorts.{short_piece}
 use Rattle.wap_compiled_laws.proofs.Pieces.Assignments.{above, as_other, sized_one, assigned_piece}
 use Rattle.wap_compiled_laws.proofs.Pieces.Assignments.{changed_piece}
@@ -113,15 +116,6 @@ module _ {S : Type 0} (site : Site S) where
         (λ _. agrees.piece);
   }
   joins binop left right second agrees = binary_joins binop left right second refl agrees
-
-  -- the forms of a short-circuit
-  sized_short : (name : OpName) (second : Coded) → Sized second → Sized (short_code name second)
-  sized_short name second sized =
-      sized_both (plain name) (jump_over op.TjumpFw (second.size + 1) ⨾ second ⨾ plain op.Tobool ⨾
-      label) (sized_plain name)
-      (sized_both (jump_over op.TjumpFw (second.size + 1)) (second ⨾ plain op.Tobool ⨾ label)
-      (λ exits i. refl)
-      (sized_both second (plain op.Tobool ⨾ label) sized (λ exits i. refl)))
 
   -- the forms of an operator and the operand on its right
   sized_joined : (binop : BinOp) (second : Coded) → Sized second
@@ -266,19 +260,6 @@ module _ {S : Type 0} (site : Site S) where
       → Keeps (if jumps then other else does)
   choice_keeps true does other one two = two
   choice_keeps false does other one two = one
-
-  -- the forms of two branches
-  pub sized_branches : (first second : Coded) → Sized first → Sized second
-      → Sized (branches first second)
-  sized_branches first second ones twos =
-      sized_both (jump_over op.TjumpFw (first.size + 1))
-      (first ⨾ jump_over op.JumpFw (1 + second.size) ⨾ label ⨾ second ⨾ label)
-      (λ exits i. refl)
-      (sized_both first (jump_over op.JumpFw (1 + second.size) ⨾ label ⨾ second ⨾ label) ones
-      (sized_both (jump_over op.JumpFw (1 + second.size)) (label ⨾ second ⨾ label)
-      (λ exits i. refl)
-      (sized_both label (second ⨾ label) (λ exits i. refl)
-      (sized_both second label twos (λ exits i. refl)))))
 
   -- a condition with two branches
   pub cond_agrees : (c first second : Does Value S) (one two three : Coded)

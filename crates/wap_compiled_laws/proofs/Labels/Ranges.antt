@@ -6,7 +6,6 @@ use Rattle.std.proofs.lemmas.Option.{slice_get_within}
 use Rattle.wap_value.specs.declared.value.Value.{Value}
 use Rattle.wap_unit.specs.declared.unit.Unit.{Unit as CodeUnit}
 use Rattle.wap_unit.specs.declared.unit.Code.{Code}
-use Rattle.wap_unit.specs.declared.unit.Constant.{Constant}
 use Rattle.wap_unit.specs.declared.row.OpName.{OpName}
 use Rattle.wap_unit.specs.declared.row.OpName.TheVariants as op
 use Rattle.wap_unit.specs.declared.row.Operands.{Operands}
@@ -41,23 +40,33 @@ AreThere unit count operands.Address instr =
     ((url : List ℕ) × (string_at unit instr.a ≡ Some url))
     × ((name : List ℕ) × (string_at unit instr.b ≡ Some name))
 
+-- what has something by its place in a list is within it
+pub then_within : {X Y : Type 0} (f : X → Option Y) (xs : List X) (i : ℕ) (y : Y)
+    → option_and_then f (slice_get xs i) ≡ Some y → i < length xs
+then_within f xs i y is = by (slice_get xs i) refl is
+  where
+    by : (o : Option _) → slice_get xs i ≡ o → option_and_then f o ≡ Some y → i < length xs
+    by None here is = absurd (cc is)
+    by (Some x) here is = slice_get_within xs i x here
+
+-- the same of what it is mapped to
+pub mapped_within : {X Y : Type 0} (f : X → Y) (xs : List X) (i : ℕ) (y : Y)
+    → option_map f (slice_get xs i) ≡ Some y → i < length xs
+mapped_within f xs i y is = by (slice_get xs i) refl is
+  where
+    by : (o : Option _) → slice_get xs i ≡ o → option_map f o ≡ Some y → i < length xs
+    by None here is = absurd (cc is)
+    by (Some x) here is = slice_get_within xs i x here
+
 -- a constant that has a value is there
 pub constant_within : (unit : CodeUnit) (index : ℕ) (v : Value) → constant_at unit index ≡ Some v
     → index < length unit.constants
-constant_within unit index v is = by (slice_get unit.constants index) refl is
-  where
-    by : (o : Option Constant) → slice_get unit.constants index ≡ o
-        → option_and_then (constant_of unit.charset) o ≡ Some v → index < length unit.constants
-    by None here is = absurd (cc is)
-    by (Some c) here is = slice_get_within unit.constants index c here
+constant_within unit index v is =
+    then_within (constant_of unit.charset) unit.constants index v is
 
 -- a function that takes so many arguments is there
 pub function_within : (unit : CodeUnit) (index count : ℕ)
     → option_map (λ (code : Code). code.args) (slice_get unit.functions index) ≡ Some count
     → index < length unit.functions
-function_within unit index count is = by (slice_get unit.functions index) refl is
-  where
-    by : (o : Option Code) → slice_get unit.functions index ≡ o
-        → option_map (λ (code : Code). code.args) o ≡ Some count → index < length unit.functions
-    by None here is = absurd (cc is)
-    by (Some code) here is = slice_get_within unit.functions index code here
+function_within unit index count is =
+    mapped_within (λ (code : Code). code.args) unit.functions index count is

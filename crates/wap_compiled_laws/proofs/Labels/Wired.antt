@@ -18,6 +18,8 @@ use Rattle.wap_meaning.specs.coding.Expressions.{short_code}
 use Rattle.wap_meaning.specs.coding.Statements.{branch_code, exit_form, loop_code}
 use Rattle.wap_compiled_laws.proofs.Pieces.Pieces.{Holds, front, behind, Sized, sized_both}
 use Rattle.wap_compiled_laws.proofs.Pieces.Jumps.{branches}
+use Rattle.wap_compiled_laws.proofs.Pieces.Sizes.{sized_branches, sized_branch, sized_short}
+use Rattle.wap_compiled_laws.proofs.Pieces.Sizes.{sized_loop}
 
 -- the operations that are jumps
 abbrev pub is_jump : OpName → Bool
@@ -129,19 +131,6 @@ module _ (Ranged : Instr → Type 0) (forms : List Form) where
     wires = λ exits i reach holds. all_none i;
   }
 
-  -- the forms of two branches
-  sized_branches : (first second : Coded) → Sized first → Sized second
-      → Sized (branches first second)
-  sized_branches first second ones twos =
-      sized_both (jump_over op.TjumpFw (first.size + 1))
-      (first ⨾ jump_over op.JumpFw (1 + second.size) ⨾ label ⨾ second ⨾ label)
-      (λ exits i. refl)
-      (sized_both first (jump_over op.JumpFw (1 + second.size) ⨾ label ⨾ second ⨾ label) ones
-      (sized_both (jump_over op.JumpFw (1 + second.size)) (label ⨾ second ⨾ label)
-      (λ exits i. refl)
-      (sized_both label (second ⨾ label) (λ exits i. refl)
-      (sized_both second label twos (λ exits i. refl)))))
-
   -- two branches
   pub wires_branches : (first second : Coded) → Wires first → Wires second
       → Wires (branches first second)
@@ -180,8 +169,7 @@ module _ (Ranged : Instr → Type 0) (forms : List Form) where
   -- one branch
   pub wires_branch : (body : Coded) → Wires body → Wires (branch_code body)
   wires_branch body p = record {
-    sized = sized_both (jump_over op.TjumpFw body.size) (body ⨾ label) (λ exits i. refl)
-        (sized_both body label p.sized (λ exits i. refl));
+    sized = sized_branch body p.sized;
     wires = λ exits i reach holds.
         let there = behind forms (i + 1) body.size (body.forms exits (i + 1)) _ holds.1
         (p.sized exits (i + 1)) in
@@ -200,10 +188,7 @@ module _ (Ranged : Instr → Type 0) (forms : List Form) where
       → IsOperation op.Tobool × Ranged (instr op.Tobool 0 0 0)
       → Wires second → Wires (short_code name second)
   wires_short name second is tobool p = record {
-    sized = sized_both (plain name) (jump_over op.TjumpFw (second.size + 1) ⨾ second ⨾
-        plain op.Tobool ⨾ label) (λ exits i. refl)
-        (sized_both (jump_over op.TjumpFw (second.size + 1)) (second ⨾ plain op.Tobool ⨾ label)
-        (λ exits i. refl) (sized_both second (plain op.Tobool ⨾ label) p.sized (λ exits i. refl)));
+    sized = sized_short name second p.sized;
     wires = λ exits i reach holds.
         let start : ℕ = i + 1 + 1 in
         let there = behind forms start second.size (second.forms exits start) _
@@ -290,23 +275,10 @@ module _ (Ranged : Instr → Type 0) (forms : List Form) where
     abbrev far : ℕ
     far = 1 + tested.size + body.size + 1 + update.size
 
-    -- the forms of a loop
-    loop_sized : Sized (loop_code test body update)
-    loop_sized =
-        sized_both label (tested ⨾ within over body.size body ⨾ label ⨾ update ⨾
-        jump_before op.JumpBw far ⨾ label) (λ exits i. refl)
-        (sized_both tested (within over body.size body ⨾ label ⨾ update ⨾
-        jump_before op.JumpBw far ⨾ label) (tests.sized over)
-        (sized_both (within over body.size body) (label ⨾ update ⨾ jump_before op.JumpBw far ⨾
-        label) (λ exits i. bodies.sized (Some (i + over, i + body.size)) i)
-        (sized_both label (update ⨾ jump_before op.JumpBw far ⨾ label) (λ exits i. refl)
-        (sized_both update (jump_before op.JumpBw far ⨾ label) updates.sized
-        (λ exits i. refl)))))
-
     -- its jumps know their labels
     pub wires_loop : Wires (loop_code test body update)
     wires_loop = record {
-      sized = loop_sized;
+      sized = sized_loop test body update tests.sized bodies.sized updates.sized;
       wires = λ exits i reach holds.
           let inside : ℕ = i + 1 + tested.size in
           let again : ℕ = inside + body.size in

@@ -10,14 +10,13 @@ use Rattle.wap_meaning.specs.SourceParts.{Does, ◌>>=◌, done, give, turn}
 use Rattle.wap_meaning.specs.Statements.{Ending, goes_on, breaks, continues, returns, if_continues}
 use Rattle.wap_meaning.specs.Statements.{looped, loop}
 use Rattle.wap_meaning.specs.coding.Coded.{Exits, Coded, empty, one, ◌⨾◌, label, jump_over}
-use Rattle.wap_meaning.specs.coding.Coded.{jump_before}
-use Rattle.wap_meaning.specs.coding.Coded.{within}
 use Rattle.wap_meaning.specs.coding.Statements.{branch_code, loop_code}
 use Rattle.wap_meaning.proofs.Following.{from_done_where, done_same, keeps_both, lessened}
 use Rattle.wap_meaning.specs.Keeping.{Keeps}
 use Rattle.wap_compiled_laws.proofs.Pieces.Pieces.{Holds, front, behind, Sized, sized_both, Site}
 use Rattle.wap_compiled_laws.proofs.Pieces.Pieces.{spot, onto}
 use Rattle.wap_compiled_laws.proofs.Pieces.Pieces.{Reaches, nearer, Piece, both}
+use Rattle.wap_compiled_laws.proofs.Pieces.Sizes.{sized_branch, sized_loop}
 use Rattle.wap_compiled_laws.proofs.Pieces.Instructions.{as_is, pushed, nothing}
 use Rattle.wap_compiled_laws.proofs.Pieces.Jumps.{HasLabel, HasJump, label_here, test_here}
 use Rattle.wap_compiled_laws.proofs.Pieces.Jumps.{back_here, chosen}
@@ -28,12 +27,6 @@ use Rattle.wap_unit.specs.declared.row.OpName.TheVariants as op
 
 module _ {S : Type 0} (site : Site S) where
   -- ---- one branch
-
-  -- the forms of one branch
-  sized_branch : (body : Coded) → Sized body → Sized (branch_code body)
-  sized_branch body sized =
-      sized_both (jump_over op.TjumpFw body.size) (body ⨾ label) (λ exits i. refl)
-      (sized_both body label sized (λ exits i. refl))
 
   -- one branch does what is done where the condition holds
   branch_piece : (v : Value) (does : Does Ending S) (body : Coded) → Runs site does body
@@ -301,32 +294,10 @@ module _ {S : Type 0} (site : Site S) where
     abbrev past : ℕ
     past = two.size + (three.size + 2)
 
-    -- the body, with its exits
-    abbrev body_code : Coded
-    body_code = within past two.size two
-
-    -- its forms
-    body_sized : Sized body_code
-    body_sized exits i = runs.sized (Some (i + past, i + two.size)) i
-
-    -- the jump back, and the label behind it
-    abbrev jump_code : Coded
-    jump_code =
-        jump_before op.JumpBw (1 + (one past).size + two.size + 1 + three.size) ⨾ label
-
-    -- the forms of a loop
-    loop_sized : Sized (loop_code one two three)
-    loop_sized =
-        sized_both label (one past ⨾ body_code ⨾ label ⨾ three ⨾ jump_code) (λ exits i. refl)
-        (sized_both (one past) (body_code ⨾ label ⨾ three ⨾ jump_code) (tests.sized past)
-        (sized_both body_code (label ⨾ three ⨾ jump_code) body_sized
-        (sized_both label (three ⨾ jump_code) (λ exits i. refl)
-        (sized_both three jump_code updates.sized (λ exits i. refl)))))
-
     -- a loop and its code agree
     pub loop_runs : Runs site (loop test body update) (loop_code one two three)
     loop_runs = record {
-      sized = loop_sized;
+      sized = sized_loop one two three tests.sized runs.sized updates.sized;
       falls = loop_keeps test body update tests.falls runs.falls updates.falls;
       piece = record {
         follows = λ exits i reach holds variables fits operands turns state.

@@ -28,10 +28,12 @@ use Rattle.wap_compiled_laws.proofs.Pieces.Pieces.{front, behind, Sized, sized_b
 use Rattle.wap_compiled_laws.proofs.Pieces.Pieces.{After, onto}
 use Rattle.wap_compiled_laws.proofs.Pieces.Pieces.{Reaches, nearer, Piece, both, op_here, op_piece}
 use Rattle.wap_compiled_laws.proofs.Pieces.Instructions.{as_is, pushed, nothing, store_piece}
-use Rattle.wap_compiled_laws.proofs.Pieces.Assignments.{from_same, from_from, piece_same, change_piece}
+use Rattle.wap_compiled_laws.proofs.Pieces.Assignments.{from_same, from_from, piece_same}
+use Rattle.wap_compiled_laws.proofs.Pieces.Assignments.{change_piece}
 use Rattle.wap_compiled_laws.proofs.Pieces.Jumps.{HasLabel, jump_here, Shifts, branches}
 use Rattle.wap_compiled_laws.proofs.Pieces.Jumps.{branches_piece}
-use Rattle.wap_compiled_laws.proofs.Expressions.Agreeing.{Agrees, choice_keeps, sized_branches}
+use Rattle.wap_compiled_laws.proofs.Pieces.Sizes.{sized_branches}
+use Rattle.wap_compiled_laws.proofs.Expressions.Agreeing.{Agrees, choice_keeps}
 use Rattle.wap_meaning.proofs.KeepingParts.{give_keeps, load_keeps, store_keeps}
 use Rattle.wap_unit.specs.declared.row.OpName.TheVariants as op
 
@@ -352,7 +354,7 @@ module _ {S : Type 0} (site : Site S) where
       → Runs (c >>= λ v. if jumps_at v then second else first) (one ⨾ branches two three)
   choice_runs c first second one two three ones twos threes = record {
     sized = sized_both one (branches two three) ones.sized
-        (sized_branches site two three twos.sized threes.sized);
+        (sized_branches two three twos.sized threes.sized);
     falls = keeps_both c (λ v. if jumps_at v then second else first) ones.falls
         (λ v. choice_keeps site (jumps_at v) first second twos.falls threes.falls);
     piece = both site c (λ v. if jumps_at v then second else first) one (branches two three) as_is

@@ -1,0 +1,64 @@
+-- A function of a program, its unit and the constants of the unit.
+use Rattle.std.proofs.Common.{◌≡◌, ℕ, ◌≤◌, ◌<◌, suc, Bool, true, false, ◌||◌, cond, List, []}
+use Rattle.std.proofs.Common.{◌∷◌, length, arith, slice_get}
+use Rattle.std.specs.Option.{option_map}
+use Rattle.wap_value.specs.Binary.{TakesBoth}
+use Rattle.wap_unit.specs.declared.unit.Unit.{Unit as CodeUnit}
+use Rattle.wap_unit.specs.declared.unit.Code.{Code}
+use Rattle.wap_grammar.specs.declared.program.program.Function.{Function}
+use Rattle.wap_grammar.specs.declared.program.program.Program.{Program}
+use Rattle.wap_grammar.specs.declared.program.expression.Literal.{Literal}
+use Rattle.wap_grammar.specs.declared.program.expression.Literal.TheVariants as literal
+use Rattle.wap_scope.specs.Names.{Reference}
+use Rattle.wap_scope.specs.accepted.Known.{variables, IsKnown}
+use Rattle.wap_meaning.specs.Names.{url_of}
+use Rattle.wap_meaning.specs.coding.Constants.{Numbers, HasPool, same_literal, is_in, place_in}
+use Rattle.wap_meaning.specs.coding.Compiled.{numbers_in}
+use Rattle.wap_meaning.specs.coding.Needs.{Need, Constant, Operator, Variable, Local, Other}
+use Rattle.wap_meaning.specs.coding.Needs.{Library}
+use Rattle.wap_compiled_laws.proofs.BodiesLemmas.Pooled.{IsPoolable}
+
+-- what is in a list has a place within it
+pub place_within : (l : Literal) (pool : List Literal) → is_in l pool ≡ true
+    → place_in l pool < length pool
+place_within l [] there = absurd (cc there)
+place_within l (x ∷ pool) there = by (same_literal l x) there (place_within l pool)
+  where
+    by : (same : Bool) → (same || is_in l pool) ≡ true
+        → (is_in l pool ≡ true → place_in l pool < length pool)
+        → cond same 0 (suc (place_in l pool)) < suc (length pool)
+    by true there further = omega arith
+    by false there further = omega (arith, further there)
+
+-- a function of a program, its unit and the constants of the unit
+pub record Place : Type 0 where
+  pub program : Program
+  pub function : Function
+  pub unit : CodeUnit
+  pub pool : List Literal
+  pub has : HasPool unit pool
+  pub arities : (i : ℕ) → option_map (λ (code : Code). code.args) (slice_get unit.functions i)
+      ≡ option_map (λ (f : Function). length f.params) (slice_get program.functions i)
+  pub few_constants : length pool ≤ 65536
+  pub few_functions : length program.functions < 256
+  pub few_variables : length (variables function) < 256
+
+module _ (here : Place) where
+  -- what its names mean, and the numbers of its constants
+  abbrev pub numbers : Numbers
+  numbers = numbers_in here.program here.pool here.function
+
+  -- what it names is known
+  abbrev pub Known : Reference → Type 0
+  Known = IsKnown here.program here.function
+
+  -- the constants have what a need needs, and an assignment has a fitting operator
+  abbrev pub Given : Need → Type 0
+  Given (Constant l) = IsPoolable l → is_in l here.pool ≡ true
+  Given (Operator o) = TakesBoth o
+  Given (Variable v) = Unit {0}
+  Given (Local f count) = Unit {0}
+  Given (Other u f) =
+      (is_in (literal.Str (url_of u.name numbers.names.urls)) here.pool ≡ true)
+      × (is_in (literal.Str f.name) here.pool ≡ true)
+  Given (Library l f count) = Unit {0}

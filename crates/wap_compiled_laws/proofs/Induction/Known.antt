@@ -1,0 +1,69 @@
+-- What is known of parts of sources: what they need is there, and what they say is said.
+use Rattle.std.proofs.Common.{◌≡◌, List, [], ◌∷◌, ◌++◌, sym, ap, ◌∙◌, subst}
+use Rattle.std.specs.List.{AllByRecursion}
+use Rattle.wap_grammar.specs.declared.program.expression.Expr.{Expr, roll-Expr, map-Expr}
+use Rattle.wap_grammar.specs.declared.program.expression.Expr.TheOpen.{Expr-F}
+use Rattle.wap_grammar.specs.declared.program.expression.Expr.TheFolds.{fold-roll-Expr}
+use Rattle.wap_scope.specs.Names.{Reference, references, references_by, Refers}
+use Rattle.wap_meaning.specs.coding.Needs.{Need, AreMet, expr_needs_by, expr_needs}
+use Rattle.wap_compiled_laws.proofs.CodeSizes.Each.{each_front, each_back}
+use Rattle.wap_compiled_laws.proofs.Induction.Pieces.{Setting}
+
+module _ (here : Setting) where
+  open here use {unit, numbers, Said}
+
+  -- what is needed is there, and something holds of each thing that is said
+  pub record Known {X : Type 0} (Q : X → Type 0) (needs : List Need) (says : List X) : Type 0 where
+    pub met : AreMet unit numbers needs
+    pub said : AllByRecursion Q says
+
+  -- what meets two lists of needs meets the first
+  met_front : (some other : List Need) → AreMet unit numbers (some ++ other)
+      → AreMet unit numbers some
+  met_front [] other met = tt
+  met_front (need ∷ some) other met = (met.0, met_front some other met.1)
+
+  -- and the second
+  met_back : (some other : List Need) → AreMet unit numbers (some ++ other)
+      → AreMet unit numbers other
+  met_back [] other met = met
+  met_back (need ∷ some) other met = met_back some other met.1
+
+  -- what is known of two parts is known of the first
+  pub front : {X : Type 0} (Q : X → Type 0) (needs more : List Need) (says after : List X)
+      → Known Q (needs ++ more) (says ++ after) → Known Q needs says
+  front Q needs more says after known = record {
+    met = met_front needs more known.met;
+    said = each_front Q says after known.said;
+  }
+
+  -- and of the second
+  pub behind : {X : Type 0} (Q : X → Type 0) (needs more : List Need) (says after : List X)
+      → Known Q (needs ++ more) (says ++ after) → Known Q more after
+  behind Q needs more says after known = record {
+    met = met_back needs more known.met;
+    said = each_back Q says after known.said;
+  }
+
+  -- what a name says
+  abbrev pub Named : Reference → Type 0
+  Named r = Said (Refers r)
+
+  -- what is known of an expression
+  abbrev pub KnownOf : Expr → Type 0
+  KnownOf e = Known Named (expr_needs e) (references e)
+
+  -- what is known of an expression by its parts
+  abbrev pub KnownBy : Expr-F Expr → Type 0
+  KnownBy x = Known Named (expr_needs_by (map-Expr Expr (List Need) expr_needs x))
+      (references_by (map-Expr Expr (List Reference) references x))
+
+  -- what is known of an expression is known of its parts
+  pub unrolled : (x : Expr-F Expr) (e : Expr) → roll-Expr x ≡ e → KnownOf e → KnownBy x
+  unfolding expr_needs references
+  unrolled x e is known = record {
+    met = subst (AreMet unit numbers)
+        (ap expr_needs (sym is) ∙ fold-roll-Expr (List Need) expr_needs_by x) known.met;
+    said = subst (AllByRecursion Named)
+        (ap references (sym is) ∙ fold-roll-Expr (List Reference) references_by x) known.said;
+  }

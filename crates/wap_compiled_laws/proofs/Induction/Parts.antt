@@ -1,0 +1,140 @@
+-- What holds of the pieces of code holds of the code of literals, of operators and of variables.
+use Rattle.std.proofs.Common.{◌≡◌, ℕ, suc, ◌+◌, ◌<◌, Bool, true, false, [], ◌∷◌, length, refl}
+use Rattle.std.proofs.Common.{subst, arith}
+use Rattle.wap_value.specs.declared.operator.UnOp.{UnOp}
+use Rattle.wap_value.specs.declared.operator.UnOp.TheVariants as un
+use Rattle.wap_value.specs.declared.operator.BinOp.{BinOp}
+use Rattle.wap_value.specs.declared.operator.BinOp.TheVariants as bin
+use Rattle.wap_value.specs.Binary.{TakesBoth}
+use Rattle.wap_unit.specs.declared.unit.Unit.{Unit as CodeUnit}
+use Rattle.wap_unit.specs.declared.row.OpName.TheVariants as op
+use Rattle.wap_unit.specs.declared.row.Operands.TheVariants as operands
+use Rattle.wap_asm.specs.Spellings.{operation_of, longest}
+use Rattle.wap_asm.specs.Placing.{wide_size}
+use Rattle.wap_grammar.specs.declared.program.expression.Literal.{Literal}
+use Rattle.wap_grammar.specs.declared.program.expression.Literal.TheVariants as literal
+use Rattle.wap_meaning.specs.Expressions.{value_of}
+use Rattle.wap_meaning.specs.coding.Coded.{Coded, ◌⨾◌, instr, plain, with_operand}
+use Rattle.wap_meaning.specs.coding.Constants.{number_of}
+use Rattle.wap_meaning.specs.coding.Needs.{AreMet, literal_needs}
+use Rattle.wap_meaning.specs.coding.Expressions.{literal_code, unary_code, binary_name, joined_code}
+use Rattle.wap_meaning.specs.coding.Expressions.{load_code, store_code, change_name}
+use Rattle.wap_meaning.specs.compiled.Wide.{literal_wide, unary_wide, binary_wide}
+use Rattle.wap_compiled_laws.proofs.Depths.Flow.{goes}
+use Rattle.wap_compiled_laws.proofs.Labels.Ranges.{constant_within}
+use Rattle.wap_compiled_laws.proofs.Induction.Pieces.{HasFacts, Setting}
+
+-- the operation of an operator that takes both values makes one value of two
+binary_is : (unit : CodeUnit) (binop : BinOp) → TakesBoth binop
+    → HasFacts unit (instr (binary_name binop) 0 0 0) operands.Plain (goes 2 1) 1
+unfolding wide_size operation_of longest
+binary_is unit bin.And takes = absurd takes
+binary_is unit bin.Or takes = absurd takes
+binary_is unit bin.Comma takes = absurd takes
+binary_is unit binop takes = refl
+
+module _ (here : Setting) where
+  open here use {unit, numbers, P, pieces}
+
+  -- a size that is the same
+  pub same : (inside : Bool) (coded : Coded) (from to m n : ℕ) → m ≡ n
+      → P inside coded from to m → P inside coded from to n
+  same inside coded from to m n is holds = subst (P inside coded from to) is holds
+
+  -- code leaves one operand more
+  abbrev pub Gives : Bool → Coded → ℕ → Type 0
+  Gives inside coded size = (x : ℕ) → P inside coded x (suc x) size
+
+  -- a literal
+  pub literal_gives : (inside : Bool) (l : Literal) → AreMet unit numbers (literal_needs l)
+      → Gives inside (literal_code numbers l) (literal_wide l)
+  unfolding wide_size operation_of longest
+  literal_gives inside (literal.Int z) met x =
+      pieces.constant_op inside (number_of numbers (literal.Int z)) x
+      (constant_within unit (number_of numbers (literal.Int z)) (value_of (literal.Int z)) met.0)
+  literal_gives inside literal.Float met x =
+      pieces.plain_op inside op.ConstInvalid 0 1 x refl
+  literal_gives inside (literal.Str []) met x = pieces.plain_op inside op.ConstEs 0 1 x refl
+  literal_gives inside (literal.Str (c ∷ cs)) met x =
+      pieces.constant_op inside (number_of numbers (literal.Str (c ∷ cs))) x
+      (constant_within unit (number_of numbers (literal.Str (c ∷ cs)))
+      (value_of (literal.Str (c ∷ cs))) met.0)
+  literal_gives inside (literal.Bool true) met x =
+      pieces.plain_op inside op.ConstTrue 0 1 x refl
+  literal_gives inside (literal.Bool false) met x =
+      pieces.plain_op inside op.ConstFalse 0 1 x refl
+  literal_gives inside literal.Invalid met x = pieces.plain_op inside op.ConstInvalid 0 1 x refl
+
+  -- an operator of one operand
+  pub unary_holds : (inside : Bool) (unop : UnOp) (x : ℕ)
+      → P inside (unary_code unop) (suc x) (suc x) (unary_wide unop)
+  unfolding wide_size operation_of longest
+  unary_holds inside un.Plus x =
+      pieces.both inside (plain op.Const0) (plain op.Sub) (suc x) (suc (suc x)) (suc x) 1 1
+      (pieces.plain_op inside op.Const0 0 1 (suc x) refl)
+      (pieces.plain_op inside op.Sub 2 1 x refl)
+  unary_holds inside un.Minus x = pieces.plain_op inside op.Uminus 1 1 x refl
+  unary_holds inside un.BitNot x = pieces.plain_op inside op.BNot 1 1 x refl
+  unary_holds inside un.Not x = pieces.plain_op inside op.Not 1 1 x refl
+  unary_holds inside un.TypeOf x = pieces.plain_op inside op.Typeof 1 1 x refl
+  unary_holds inside un.IsValid x = pieces.plain_op inside op.Isvalid 1 1 x refl
+  unary_holds inside un.ToBool x = pieces.plain_op inside op.Tobool 1 1 x refl
+  unary_holds inside un.Incr x = pieces.plain_op inside op.Incr 1 1 x refl
+  unary_holds inside un.Decr x = pieces.plain_op inside op.Decr 1 1 x refl
+
+  -- an operator that takes both values
+  pub binary_holds : (inside : Bool) (binop : BinOp) (x : ℕ) → TakesBoth binop
+      → P inside (plain (binary_name binop)) (suc (suc x)) (suc x) 1
+  binary_holds inside binop x takes =
+      pieces.plain_op inside (binary_name binop) 2 1 x (binary_is unit binop takes)
+
+  -- such an operator, and the operand on its right
+  operator_holds : (inside : Bool) (binop : BinOp) (second : Coded) (n : ℕ) → TakesBoth binop
+      → Gives inside second n → (x : ℕ)
+      → P inside (second ⨾ plain (binary_name binop)) (suc x) (suc x) (1 + n)
+  operator_holds inside binop second n takes gives x =
+      same inside (second ⨾ plain (binary_name binop)) (suc x) (suc x) (n + 1) (1 + n) (omega arith)
+      (pieces.both inside second (plain (binary_name binop)) (suc x) (suc (suc x)) (suc x) n 1
+      (gives (suc x)) (binary_holds inside binop x takes))
+
+  -- every operator and the operand on its right
+  pub joined_holds : (inside : Bool) (binop : BinOp) (second : Coded) (n : ℕ)
+      → Gives inside second n → (x : ℕ)
+      → P inside (joined_code binop second) (suc x) (suc x) (binary_wide binop + n)
+  unfolding wide_size operation_of longest
+  joined_holds inside bin.And second n gives x =
+      pieces.short_circuit inside op.Scand second x n refl (gives x)
+  joined_holds inside bin.Or second n gives x =
+      pieces.short_circuit inside op.Scor second x n refl (gives x)
+  joined_holds inside bin.Comma second n gives x =
+      pieces.both inside (plain op.Pop) second (suc x) x (suc x) 1 n
+      (pieces.plain_op inside op.Pop 1 0 x refl) (gives x)
+  joined_holds inside binop second n gives x = operator_holds inside binop second n tt gives x
+
+  -- a variable
+  pub load_gives : (inside : Bool) (a : ℕ) → a < length numbers.names.variables
+      → Gives inside (load_code a) 2
+  unfolding wide_size operation_of longest
+  load_gives inside a there x = pieces.variable_op inside op.LoadVar a 0 1 x 2 refl there
+
+  -- a value that is stored
+  pub store_holds : (inside : Bool) (a x : ℕ) → a < length numbers.names.variables
+      → P inside (store_code a) (suc x) x 2
+  unfolding wide_size operation_of longest
+  store_holds inside a x there = pieces.variable_op inside op.StoreVar a 1 0 x 2 refl there
+
+  -- a value that is stored and loaded again
+  pub kept_holds : (inside : Bool) (a x : ℕ) → a < length numbers.names.variables
+      → P inside (store_code a ⨾ load_code a) (suc x) (suc x) 4
+  kept_holds inside a x there =
+      pieces.both inside (store_code a) (load_code a) (suc x) x (suc x) 2 2
+      (store_holds inside a x there) (load_gives inside a there x)
+
+  -- a variable that goes up or down
+  pub change_holds : (inside up : Bool) (a x : ℕ) → a < length numbers.names.variables
+      → P inside (with_operand (change_name up) a) x x 2
+  unfolding wide_size operation_of longest
+  change_holds inside true a x there =
+      pieces.variable_op inside op.IncrVar a 0 0 x 2 refl there
+  change_holds inside false a x there =
+      pieces.variable_op inside op.DecrVar a 0 0 x 2 refl there
