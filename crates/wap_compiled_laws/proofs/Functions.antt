@@ -37,9 +37,9 @@ use Rattle.wap_meaning.specs.coding.Needs.{Need, Constant, Operator, Variable, L
 use Rattle.wap_meaning.specs.coding.Needs.{Library}
 use Rattle.wap_meaning.specs.coding.Needs.{AreMet, literals_of, stmt_needs}
 use Rattle.wap_compiled_laws.proofs.BodiesLemmas.Pooled.{IsPoolable, AllIn, all_in}
-use Rattle.wap_compiled_laws.proofs.Labels.Trees.{Ranged, body_tied}
+use Rattle.wap_compiled_laws.proofs.Depths.Spots.{Layout, Ranged}
+use Rattle.wap_compiled_laws.proofs.Depths.Bodies.{layout_of, wired_at, body_told}
 use Rattle.wap_compiled_laws.proofs.Labels.Wired.{WiredForm, LeadsTo}
-use Rattle.wap_compiled_laws.proofs.Pieces.Pieces.{holds_all}
 use Rattle.wap_meaning.specs.needs.Drawn.{function_needs, HasOperator}
 use Rattle.wap_meaning.specs.compiled.Pool.{use_literals, function_literals, literals_needed, pool}
 use Rattle.wap_meaning.specs.compiled.Units.{forms_of, compiled_function, compiled}
@@ -283,18 +283,18 @@ module _ (p : Program) (scoped : IsScoped p) (takes : AllTake p)
   leads name i n (inr (inr (is, less))) =
       subst (λ (o : OpName). Leads (operation_of o) i n) (sym is) less
 
+  -- its forms, in its unit
+  abbrev layout : Layout
+  layout = layout_of (compiled p) (numbers place) f.body
+
   -- each form is an operation, a jump that knows its label, or a label that knows itself
   wired : (k : ℕ) (form : Form) → slice_get (forms_of p f) k ≡ Some form
-      → WiredForm (Ranged (compiled p) (numbers place) (forms_of p f)) (forms_of p f) k form
+      → WiredForm (Ranged layout) (forms_of p f) k form
   unfolding forms_of place pool
   wired k form here =
-      let forms = forms_of p f in
-      let tied = body_tied (compiled p) (numbers place) forms f.body good.0 in
-      let less = slice_get_within forms k form here in
-      let size = tied.sized None 0 in
-      tied.wires None 0 tt (holds_all [] forms) k (omega arith)
-      (omega (arith, less, size)) form here
+      wired_at layout (body_told (compiled p) (numbers place) f.body good.0) k form here
 
+  -- so they may be placed
   pub placeable : ArePlaceable (forms_of p f)
   unfolding forms_of
   placeable = record {

@@ -2,4 +2,3 @@
 -- is no code here.
 pub mod Ranges
 pub mod Wired
-pub mod Trees

@@ -36,7 +36,7 @@ use Rattle.wap_verify.specs.CodePlaces.{instr_read, step_by, step_at}
 use Rattle.wap_verify.specs.Sound.{Runs, leads_within, has_target, is_aimed, IsSplit}
 use Rattle.wap_compiled_laws.proofs.Pieces.Pieces.{read_within}
 use Rattle.wap_compiled_laws.proofs.Depths.Flow.{Flow, goes, leaves, short, flow_of}
-use Rattle.wap_compiled_laws.proofs.Depths.Shapes.{AllFine, OpFine}
+use Rattle.wap_compiled_laws.proofs.Depths.Fine.{AllFine, OpFine}
 use Rattle.wap_compiled_laws.proofs.Labels.Ranges.{kind_of, AreThere}
 use Rattle.wap_compiled_laws.proofs.Soundness.Spelled.{Stands, IsPlaced, IsWired}
 use Rattle.wap_compiled_laws.proofs.Soundness.Table.{Says, IsAs, row_is_as}

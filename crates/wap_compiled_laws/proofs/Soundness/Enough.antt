@@ -16,7 +16,7 @@ use Rattle.wap_asm.specs.declared.form.Form.{Form}
 use Rattle.wap_asm.specs.declared.form.Form.TheVariants.{Op, Jump, Label}
 use Rattle.wap_compiled_laws.proofs.Soundness.Spelled.{IsPlaced}
 use Rattle.wap_compiled_laws.proofs.Depths.Flow.{Flow, goes, leaves, short, flow_of}
-use Rattle.wap_compiled_laws.proofs.Depths.Shapes.{AllFine, OpFine}
+use Rattle.wap_compiled_laws.proofs.Depths.Fine.{AllFine, OpFine}
 use Rattle.wap_compiled_laws.proofs.Soundness.Table.{Says, IsAs}
 use Rattle.wap_compiled_laws.proofs.Soundness.Stepping.{op_step, leave_step, jump_step, pair_step}
 use Rattle.wap_compiled_laws.proofs.Soundness.Spelled.{IsWired}

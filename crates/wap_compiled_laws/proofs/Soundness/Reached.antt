@@ -20,8 +20,8 @@ use Rattle.wap_asm.specs.declared.form.Form.TheVariants.{Op, Jump, Label}
 use Rattle.wap_compiled_laws.proofs.Labels.Wired.{is_jump}
 use Rattle.wap_compiled_laws.proofs.Soundness.Spelled.{IsPlaced, IsWired}
 use Rattle.wap_compiled_laws.proofs.Depths.Flow.{Flow, goes, leaves, short, flow_by, flow_of}
-use Rattle.wap_compiled_laws.proofs.Depths.Shapes.{FineAt, fine, joined, AllFine, OpFine, JumpFine}
-use Rattle.wap_compiled_laws.proofs.Depths.Shapes.{FormFine}
+use Rattle.wap_compiled_laws.proofs.Depths.Fine.{FineAt, fine, joined, AllFine, OpFine, JumpFine}
+use Rattle.wap_compiled_laws.proofs.Depths.Fine.{FormFine}
 use Rattle.wap_compiled_laws.proofs.Soundness.Table.{Says, IsAs}
 use Rattle.wap_compiled_laws.proofs.Soundness.Stepping.{op_step, leave_step, jump_step, pair_step}
 use Rattle.wap_unit.specs.declared.row.OpName.TheVariants as op

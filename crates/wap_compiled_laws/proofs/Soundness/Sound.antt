@@ -17,7 +17,7 @@ use Rattle.wap_asm.specs.declared.form.Form.{Form}
 use Rattle.wap_asm.specs.declared.form.Form.TheVariants.{Op, Jump, Label}
 use Rattle.wap_compiled_laws.proofs.Soundness.Spelled.{Stands, IsPlaced}
 use Rattle.wap_compiled_laws.proofs.Depths.Flow.{flow_of}
-use Rattle.wap_compiled_laws.proofs.Depths.Shapes.{AllFine}
+use Rattle.wap_compiled_laws.proofs.Depths.Fine.{AllFine}
 use Rattle.wap_compiled_laws.proofs.Soundness.Spelled.{IsWired}
 use Rattle.wap_compiled_laws.proofs.Soundness.Reached.{Stands_at, path_stands}
 
