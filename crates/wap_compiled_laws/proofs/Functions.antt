@@ -9,14 +9,14 @@ use Rattle.std.specs.List.{All, AllByRecursion, flat_map, sum_by}
 use Rattle.std.specs.Option.{option_map, option_map_or}
 use Rattle.std.proofs.lemmas.List.{append-nil}
 use Rattle.std.proofs.lemmas.List.Elements.{recursion_from_All, filter_map-append}
-use Rattle.std.proofs.lemmas.Option.{slice_get-map, slice_get_within, same_Some}
+use Rattle.std.proofs.lemmas.Option.{slice_get-map, same_Some}
 use Rattle.wap_unit.specs.declared.unit.Code.{Code}
 use Rattle.wap_unit.specs.declared.instr.Instr.{Instr}
 use Rattle.wap_unit.specs.declared.row.OpName.{OpName}
 use Rattle.wap_unit.specs.declared.row.Row.{Row}
 use Rattle.wap_asm.specs.Spelling.{holds}
 use Rattle.wap_asm.specs.Spellings.{operation_of, longest}
-use Rattle.wap_asm.specs.Placing.{wide, placed}
+use Rattle.wap_asm.specs.Placing.{wide}
 use Rattle.wap_asm.specs.Placed.{Leads, ArePlaceable, start}
 use Rattle.wap_asm.specs.declared.form.Form.{Form}
 use Rattle.wap_asm.specs.declared.form.Form.TheVariants.{Op, Jump, Label}
@@ -47,7 +47,7 @@ use Rattle.wap_meaning.specs.compiled.Wide.{function_wide}
 use Rattle.wap_meaning.specs.compiled.Accepted.{HasRoom}
 use Rattle.wap_meaning.specs.compiled.Savings.{saved, function_saves}
 use Rattle.wap_compiled_laws.proofs.CodeSizes.Each.{each_front, each_back}
-use Rattle.wap_compiled_laws.proofs.CodeSizes.Costs.{Fits, has_room, cost, both_costs, Costs}
+use Rattle.wap_compiled_laws.proofs.CodeSizes.Costs.{Fits, has_room, both_costs, Costs}
 use Rattle.wap_compiled_laws.proofs.CodeSizes.Places.{Place, numbers, Given}
 use Rattle.wap_compiled_laws.proofs.CodeSizes.Saving.{stmt_cost, body_less}
 use Rattle.wap_compiled_laws.proofs.CodeSizes.Bodies.{body_good}

@@ -1,11 +1,10 @@
 -- The code of a function of a program has room for its operands, and costs what the wide size says
 -- but for what it saves.
-use Rattle.std.proofs.Common.{◌≡◌, ℕ, ◌+◌, ◌<◌, Bool, true, false, List, length, Option, Some, None}
+use Rattle.std.proofs.Common.{◌≡◌, ℕ, ◌+◌, ◌<◌, Bool, true, false, List, length, Some}
 use Rattle.std.proofs.Common.{refl, sym, ap, ◌∙◌, arith, map, option_map, slice_get}
 use Rattle.std.specs.List.{AllByRecursion, flat_map, sum_by}
 use Rattle.std.proofs.lemmas.List.{length-map}
 use Rattle.wap_unit.specs.declared.unit.Code.{Code}
-use Rattle.wap_unit.specs.declared.unit.Constant.{Constant}
 use Rattle.wap_unit.specs.declared.row.OpName.{OpName}
 use Rattle.wap_unit.specs.declared.row.OpName.TheVariants as op
 use Rattle.wap_unit.specs.declared.row.Operands.TheVariants as operands

@@ -4,7 +4,7 @@ use Rattle.wap_unit.specs.declared.row.OpName.{OpName}
 use Rattle.wap_unit.specs.declared.row.OpName.TheVariants as op
 use Rattle.wap_asm.specs.Spellings.{operation_of, longest}
 use Rattle.wap_asm.specs.Placing.{wide_size}
-use Rattle.wap_meaning.specs.coding.Coded.{Exits, Coded, empty, one, ◌⨾◌, instr, plain, label}
+use Rattle.wap_meaning.specs.coding.Coded.{Exits, Coded, one, ◌⨾◌, instr, plain, label}
 use Rattle.wap_meaning.specs.coding.Coded.{jump_over, jump_before, within}
 use Rattle.wap_meaning.specs.coding.Expressions.{short_code}
 use Rattle.wap_meaning.specs.coding.Statements.{branch_code, exit_form, loop_code}

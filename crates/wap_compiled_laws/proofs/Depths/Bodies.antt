@@ -1,10 +1,13 @@
 -- The code of functions has one number of operands at each form, none where statements begin; its
 -- jumps know their labels, and its operands are in range where what it needs is there.
-use Rattle.std.proofs.Common.{◌≡◌, ℕ, zero, suc, ◌+◌, ◌<◌, Bool, false, List, [], ◌∷◌, length}
-use Rattle.std.proofs.Common.{Option, Some, None, refl, sym, ap, subst, arith, map, unwrap_or, slice_get}
+use Rattle.std.proofs.Common.{◌≡◌, ℕ, zero, suc, ◌+◌, false, List, [], ◌∷◌, length}
+use Rattle.std.proofs.Common.{Option, Some, None, refl, sym, ap, subst, arith, map, unwrap_or}
+use Rattle.std.proofs.Common.{option_map, slice_get}
 use Rattle.std.specs.List.{flat_map}
+use Rattle.std.specs.Option.{option_map_or}
 use Rattle.std.proofs.lemmas.Option.{slice_get_within}
 use Rattle.wap_unit.specs.declared.unit.Unit.{Unit as CodeUnit}
+use Rattle.wap_unit.specs.declared.unit.Code.{Code}
 use Rattle.wap_unit.specs.declared.row.OpName.{OpName}
 use Rattle.wap_unit.specs.declared.row.OpName.TheVariants as op
 use Rattle.wap_unit.specs.declared.row.Operands.{Operands}
@@ -32,6 +35,12 @@ use Rattle.wap_compiled_laws.proofs.Induction.Pieces.{operation_is, names_is}
 use Rattle.wap_compiled_laws.proofs.Induction.Statements.{of_body}
 
 -- ---- pieces
+
+-- a function that takes so many arguments takes them
+by_option : (o : Option Code) (count : ℕ) → option_map (λ (code : Code). code.args) o ≡ Some count
+    → option_map_or (λ (code : Code). code.args) o 0 ≡ count
+by_option None count is = absurd (cc is)
+by_option (Some code) count is = cc is
 
 module _ (layout : Layout) where
   open layout use {unit, variables}
@@ -77,7 +86,7 @@ module _ (layout : Layout) where
         shape_op layout (instr op.LoadConst a 0 0) 0 1 x refl ((refl, refl), there);
     local_op = λ inside a count x is.
         shape_op layout (instr op.Call a 0 0) count 1 x
-        (ap (λ (o : Option ℕ). goes (unwrap_or o 0) 1) is)
+        (ap (λ (n : ℕ). goes n 1) (by_option (slice_get unit.functions a) count is))
         ((refl, refl), function_within unit a count is);
     other_op = λ inside u f a b count x url name one two said.
         shape_op layout (instr op.CallUrl a b count) count 1 x refl

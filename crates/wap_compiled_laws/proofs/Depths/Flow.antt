@@ -1,5 +1,6 @@
 -- How many values each operation of compiled code takes and gives.
-use Rattle.std.specs.Prelude.{ℕ, unwrap_or, option_map, slice_get}
+use Rattle.std.specs.Prelude.{ℕ, unwrap_or, slice_get}
+use Rattle.std.specs.Option.{option_map_or}
 use Rattle.wap_unit.specs.declared.unit.Unit.{Unit as CodeUnit}
 use Rattle.wap_unit.specs.declared.unit.Code.{Code}
 use Rattle.wap_unit.specs.declared.row.OpName.{OpName}
@@ -45,8 +46,7 @@ flow_by unit op.Scor instr = short
 flow_by unit op.Return instr = leaves 1
 flow_by unit op.ReturnEs instr = leaves 0
 flow_by unit op.Call instr =
-    goes (unwrap_or (option_map (λ (code : Code). code.args)
-    (slice_get unit.functions instr.a)) 0) 1
+    goes (option_map_or (λ (code : Code). code.args) (slice_get unit.functions instr.a) 0) 1
 flow_by unit op.CallLib instr = goes (unwrap_or (lib_args instr.b instr.a) 0) 1
 flow_by unit op.CallUrl instr = goes instr.c 1
 flow_by unit _ instr = goes 2 1

@@ -57,9 +57,11 @@ module _ (layout : Layout) where
         let test_spot : Spot layout d (i + coded.size) =
         spot layout d (i + coded.size) (Jump op.TjumpFw (i + coded.size + 1 + count)) there.0
         (back.0 ∙ ap suc (sym at_far), subst (λ n. d n ≡ 0) next last ∙ sym at_far)
-        (subst (HasLabel layout) far label, inr (inl (refl, omega arith))) in
-        (ps.0, all_both layout d i coded.size 1 ps.1 (all_first layout d (i + coded.size)
-        test_spot));
+        (subst (HasLabel layout) far label, inr (inl (refl, omega arith))) in (
+          ps.0,
+          all_both layout d i coded.size 1 ps.1 (all_first layout d (i + coded.size)
+              test_spot),
+        );
   }
 
   -- a loop

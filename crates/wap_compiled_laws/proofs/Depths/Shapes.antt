@@ -1,6 +1,6 @@
 -- Branches and short-circuits go from one number of operands to another.
-use Rattle.std.proofs.Common.{◌≡◌, ℕ, suc, ◌+◌, ◌≤◌, List, [], ◌∷◌, ◌++◌, refl, sym, ap, ◌∙◌, subst}
-use Rattle.std.proofs.Common.{arith, slice_get, length-append, inl, inr}
+use Rattle.std.proofs.Common.{◌≡◌, ℕ, suc, ◌+◌, ◌≤◌, [], ◌∷◌, ◌++◌, refl, sym, ap, ◌∙◌, subst}
+use Rattle.std.proofs.Common.{arith, length-append, inl, inr}
 use Rattle.wap_unit.specs.declared.row.OpName.{OpName}
 use Rattle.wap_unit.specs.declared.row.OpName.TheVariants as op
 use Rattle.wap_asm.specs.Spellings.{operation_of}
@@ -13,8 +13,8 @@ use Rattle.wap_compiled_laws.proofs.Pieces.Jumps.{branches}
 use Rattle.wap_compiled_laws.proofs.Pieces.Sizes.{sized_branches, sized_branch, sized_short}
 use Rattle.wap_compiled_laws.proofs.Labels.Wired.{IsOperation}
 use Rattle.wap_compiled_laws.proofs.Depths.Flow.{short, flow_of}
-use Rattle.wap_compiled_laws.proofs.Depths.Fine.{fine, joined, OpFine}
-use Rattle.wap_compiled_laws.proofs.Depths.Spots.{Same, same_front, same_back, Layout, Ranged}
+use Rattle.wap_compiled_laws.proofs.Depths.Fine.{joined, OpFine}
+use Rattle.wap_compiled_laws.proofs.Depths.Spots.{same_front, same_back, Layout, Ranged}
 use Rattle.wap_compiled_laws.proofs.Depths.Spots.{HasLabel, Spot, spot_of, spot, AllSpots, all_both}
 use Rattle.wap_compiled_laws.proofs.Depths.Spots.{all_first, Free, nearer, Shape}
 

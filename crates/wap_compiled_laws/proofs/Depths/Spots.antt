@@ -160,8 +160,8 @@ module _ (layout : Layout) where
     long = refl;
     fits = λ exits i d same last free holds. (
       same.0,
-      all_first d i (spot d i (Op form) holds.0 (subst (OpFine (flow_of unit) forms d i) (sym flows)
-          (
+      all_first d i (spot d i (Op form) holds.0
+          (subst (OpFine (flow_of unit) forms d i) (sym flows) (
             omega (arith, same.0, higher_is takes below),
             last ∙ omega (arith, same.0, higher_is takes below, higher_is gives below),
           )) is),

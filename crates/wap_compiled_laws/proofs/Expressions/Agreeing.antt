@@ -21,10 +21,9 @@ use Rattle.wap_meaning.specs.Expressions.{assigned, stepped, step_of, each_of, j
 use Rattle.wap_meaning.specs.Expressions.{decides, as_boolean}
 use Rattle.wap_asm.specs.declared.form.Form.{Form}
 use Rattle.wap_asm.specs.declared.form.Form.TheVariants.{Op}
-use Rattle.wap_meaning.specs.coding.Coded.{Exits, Coded, one, ◌⨾◌, instr, plain, label, all_code}
-use Rattle.wap_meaning.specs.coding.Coded.{jump_over}
+use Rattle.wap_meaning.specs.coding.Coded.{Exits, Coded, one, ◌⨾◌, instr, plain, all_code}
 use Rattle.wap_meaning.specs.coding.Expressions.{load_code, store_code, assigned_code, binary_name}
-use Rattle.wap_meaning.specs.coding.Expressions.{joined_code, chain_code, cond_code, short_code}
+use Rattle.wap_meaning.specs.coding.Expressions.{joined_code, chain_code, cond_code}
 use Rattle.wap_meaning.specs.coding.Expressions.{step_code}
 use Rattle.wap_meaning.proofs.KeepingParts.{give_keeps, load_keeps, store_keeps, kept_keeps}
 use Rattle.wap_meaning.proofs.KeepingParts.{calling_keeps}

@@ -1,6 +1,6 @@
 -- What holds of the pieces of code holds of the code of each statement, by induction on trees: it
 -- leaves the operands as they were, and costs what the wide size says but for what it saves.
-use Rattle.std.proofs.Common.{◌≡◌, ℕ, ◌+◌, Bool, true, false, List, [], ◌∷◌, ◌++◌, Some, None, refl}
+use Rattle.std.proofs.Common.{ℕ, ◌+◌, Bool, true, false, List, [], ◌∷◌, ◌++◌, Some, None, refl}
 use Rattle.std.proofs.Common.{sym, ap, subst, arith, map}
 use Rattle.std.specs.List.{AllByRecursion, flat_map, sum, sum_by}
 use Rattle.std.proofs.lemmas.List.Sums.{sum_by-cons}
@@ -21,7 +21,7 @@ use Rattle.wap_meaning.specs.compiled.Wide.{expr_wide, loop_wide}
 use Rattle.wap_compiled_laws.proofs.Pieces.Jumps.{branches}
 use Rattle.wap_compiled_laws.proofs.CodeSizes.Saving.{effect_cost_if, stmt_cost_by, stmt_cost}
 use Rattle.wap_compiled_laws.proofs.Induction.Pieces.{Setting}
-use Rattle.wap_compiled_laws.proofs.Induction.Known.{Known, front, behind}
+use Rattle.wap_compiled_laws.proofs.Induction.Known.{front, behind}
 use Rattle.wap_compiled_laws.proofs.Induction.Effects.{Stated, known_of, Rests, rests_same}
 use Rattle.wap_compiled_laws.proofs.Induction.Effects.{rests_both, gives, whole_rests}
 use Rattle.wap_compiled_laws.proofs.Induction.Effects.{variables_rest, update_rests, loop_rests}

@@ -2,7 +2,7 @@
 use Rattle.std.proofs.Common.{◌≡◌, ◌≢◌, ℕ, zero, suc, ◌+◌, ◌-◌, ◌<◌, ◌≤◌, ◌⊎◌, Bool, true, false}
 use Rattle.std.proofs.Common.{◌&&◌, ◌||◌, not, eqb, cond, List, [], ◌∷◌, length, Option, Some}
 use Rattle.std.proofs.Common.{None, Ok, Err, refl, sym, ap, ◌∙◌, subst, arith, slice_get}
-use Rattle.std.proofs.Common.{inl, inr, is_some, option_map, option_and_then, unwrap_or, find}
+use Rattle.std.proofs.Common.{inl, inr, is_some, option_map, option_and_then, unwrap_or}
 use Rattle.std.proofs.lemmas.Bool.{eq-eqb, lt-ltb, le-ltb}
 use Rattle.std.proofs.lemmas.Bool.Decides.{eqb_tells}
 use Rattle.std.proofs.lemmas.Option.{slice_get-get_or, slice_get_within}
@@ -30,256 +30,27 @@ use Rattle.wap_asm.specs.declared.form.Form.TheVariants.{Op, Jump, Label}
 use Rattle.wap_verify.specs.declared.step.Step.{Step}
 use Rattle.wap_verify.specs.declared.step.Way.{Way}
 use Rattle.wap_verify.specs.declared.fault.VerifyFault.TheVariants as fault
-use Rattle.wap_verify.specs.CodePlaces.{values_taken, operand_fault, step_of, pair, pair_at, jump_by}
-use Rattle.wap_verify.specs.CodePlaces.{jump_read, is_conditional_forward, is_pair, fine_at, checked}
-use Rattle.wap_verify.specs.CodePlaces.{instr_read, step_by, step_at}
+use Rattle.wap_verify.specs.CodePlaces.{values_taken, operand_fault, step_of, pair, pair_at}
+use Rattle.wap_verify.specs.CodePlaces.{jump_by, jump_read, is_conditional_forward, is_pair}
+use Rattle.wap_verify.specs.CodePlaces.{fine_at, checked, instr_read, step_by, step_at}
 use Rattle.wap_verify.specs.Sound.{Runs, leads_within, has_target, is_aimed, IsSplit}
 use Rattle.wap_compiled_laws.proofs.Pieces.Pieces.{read_within}
 use Rattle.wap_compiled_laws.proofs.Depths.Flow.{Flow, goes, leaves, short, flow_of}
 use Rattle.wap_compiled_laws.proofs.Depths.Fine.{AllFine, OpFine}
 use Rattle.wap_compiled_laws.proofs.Labels.Ranges.{kind_of, AreThere}
 use Rattle.wap_compiled_laws.proofs.Soundness.Spelled.{Stands, IsPlaced, IsWired}
-use Rattle.wap_compiled_laws.proofs.Soundness.Table.{Says, IsAs, row_is_as}
+use Rattle.wap_compiled_laws.proofs.Soundness.Table.{same_at, Says, IsAs, row_is_as}
 use Rattle.wap_compiled_laws.proofs.Soundness.Reached.{says_of, flow_same, IsFirst, label_first}
 use Rattle.wap_compiled_laws.proofs.Soundness.Reached.{op_fits}
 
 -- ---- operands
 
--- all rows name what their operations name
-abbrev AllKinds : List Row → Type 0
-AllKinds [] = Unit {0}
-AllKinds (row ∷ more) = (row.operands ≡ kind_of row.operation) × AllKinds more
-
--- the table's rows do
-kinds : AllKinds rows
-kinds = (
-  refl,
-  (
-    refl,
-    (
-      refl,
-      (
-        refl,
-        (
-          refl,
-          (
-            refl,
-            (
-              refl,
-              (
-                refl,
-                (
-                  refl,
-                  (
-                    refl,
-                    (
-                      refl,
-                      (
-                        refl,
-                        (
-                          refl,
-                          (
-                            refl,
-                            (
-                              refl,
-                              (
-                                refl,
-                                (
-                                  refl,
-                                  (
-                                    refl,
-                                    (
-                                      refl,
-                                      (
-                                        refl,
-                                        (
-                                          refl,
-                                          (
-                                            refl,
-                                            (
-                                              refl,
-                                              (
-                                                refl,
-                                                (
-                                                  refl,
-                                                  (
-                                                    refl,
-                                                    (
-                                                      refl,
-                                                      (
-                                                        refl,
-                                                        (
-                                                          refl,
-                                                          (
-                                                            refl,
-                                                            (
-                                                              refl,
-                                                              (
-                                                                refl,
-                                                                (
-                                                                  refl,
-                                                                  (
-                                                                    refl,
-                                                                    (
-                                                                      refl,
-                                                                      (
-                                                                        refl,
-                                                                        (
-                                                                          refl,
-                                                                          (
-                                                                            refl,
-                                                                            (
-                                                                              refl,
-                                                                              (
-                                                                                refl,
-                                                                                (
-                                                                                  refl,
-                                                                                  (
-                                                                                    refl,
-                                                                                    (
-                                                                                      refl,
-                                                                                      (
-                                                                                        refl,
-                                                                                        (
-                                                                                          refl,
-                                                                                          (
-                                                                                            refl,
-                                                                                            (
-                                                                                              refl,
-                                                                                              (
-                                                                                                refl,
-                                                                                                (
-                                                                                                  refl,
-                                                                                                  (
-                                                                                                    refl,
-                                                                                                    (
-                                                                                                      refl,
-                                                                                                      (
-                                                                                                        refl,
-                                                                                                        (
-                                                                                                          refl,
-                                                                                                          (
-                                                                                                            refl,
-                                                                                                            (
-                                                                                                              refl,
-                                                                                                              (
-                                                                                                                refl,
-                                                                                                                (
-                                                                                                                  refl,
-                                                                                                                  (
-                                                                                                                    refl,
-                                                                                                                    (
-                                                                                                                      refl,
-                                                                                                                      (
-                                                                                                                        refl,
-                                                                                                                        (
-                                                                                                                          refl,
-                                                                                                                          (
-                                                                                                                            refl,
-                                                                                                                            (
-                                                                                                                              refl,
-                                                                                                                              (
-                                                                                                                                refl,
-                                                                                                                                (
-                                                                                                                                  refl,
-                                                                                                                                  (
-                                                                                                                                    refl,
-                                                                                                                                    (
-                                                                                                                                      refl,
-                                                                                                                                      (
-                                                                                                                                        refl,
-                                                                                                                                        (
-                                                                                                                                          refl,
-                                                                                                                                          tt,
-                                                                                                                                        ),
-                                                                                                                                      ),
-                                                                                                                                    ),
-                                                                                                                                  ),
-                                                                                                                                ),
-                                                                                                                              ),
-                                                                                                                            ),
-                                                                                                                          ),
-                                                                                                                        ),
-                                                                                                                      ),
-                                                                                                                    ),
-                                                                                                                  ),
-                                                                                                                ),
-                                                                                                              ),
-                                                                                                            ),
-                                                                                                          ),
-                                                                                                        ),
-                                                                                                      ),
-                                                                                                    ),
-                                                                                                  ),
-                                                                                                ),
-                                                                                              ),
-                                                                                            ),
-                                                                                          ),
-                                                                                        ),
-                                                                                      ),
-                                                                                    ),
-                                                                                  ),
-                                                                                ),
-                                                                              ),
-                                                                            ),
-                                                                          ),
-                                                                        ),
-                                                                      ),
-                                                                    ),
-                                                                  ),
-                                                                ),
-                                                              ),
-                                                            ),
-                                                          ),
-                                                        ),
-                                                      ),
-                                                    ),
-                                                  ),
-                                                ),
-                                              ),
-                                            ),
-                                          ),
-                                        ),
-                                      ),
-                                    ),
-                                  ),
-                                ),
-                              ),
-                            ),
-                          ),
-                        ),
-                      ),
-                    ),
-                  ),
-                ),
-              ),
-            ),
-          ),
-        ),
-      ),
-    ),
-  ),
-)
-
--- a row that is found names what its operation names
-found_kind : (test : Row → Bool) (all : List Row) (row : Row) → AllKinds all
-    → find test all ≡ Some row → row.operands ≡ kind_of row.operation
-found_kind test [] row alls is = absurd (cc is)
-found_kind test (first ∷ all) row alls is =
-    by (test first) is (found_kind test all row alls.1)
-  where
-    by : (here : Bool) → cond here (Some first) (find test all) ≡ Some row
-        → (find test all ≡ Some row → row.operands ≡ kind_of row.operation)
-        → row.operands ≡ kind_of row.operation
-    by true is inner =
-        subst (λ (r : Row). r.operands ≡ kind_of r.operation)
-        (ap (λ (o : Option Row). unwrap_or o first) is) alls.0
-    by false is inner = inner is
-
--- so does the row of a byte
+-- the row of a byte names what its operation names
 row_kind : (code : ℕ) (row : Row) → row_of code ≡ Some row → row.operands ≡ kind_of row.operation
 unfolding row_of
-row_kind code row is = found_kind (has_code code) rows row kinds is
+row_kind code row is =
+    same_at (λ (r : Row). r.operands) (λ (r : Row). kind_of r.operation) rows (has_code code) row
+    refl is
 
 -- a constant that has characters is a string
 string_holds : (unit : CodeUnit) (at : ℕ) (text : List ℕ) → string_at unit at ≡ Some text

@@ -9,7 +9,7 @@ use Rattle.wap_execution.specs.Outcomes.{Ended}
 use Rattle.wap_meaning.specs.SourceParts.{Does, ◌>>=◌, done, give, turn}
 use Rattle.wap_meaning.specs.Statements.{Ending, goes_on, breaks, continues, returns, if_continues}
 use Rattle.wap_meaning.specs.Statements.{looped, loop}
-use Rattle.wap_meaning.specs.coding.Coded.{Exits, Coded, empty, one, ◌⨾◌, label, jump_over}
+use Rattle.wap_meaning.specs.coding.Coded.{Exits, Coded, empty, one, ◌⨾◌, jump_over}
 use Rattle.wap_meaning.specs.coding.Statements.{branch_code, loop_code}
 use Rattle.wap_meaning.proofs.Following.{from_done_where, done_same, keeps_both, lessened}
 use Rattle.wap_meaning.specs.Keeping.{Keeps}
