@@ -6,5 +6,6 @@ pub mod Costs
 pub mod Pieces
 pub mod Places
 pub mod Saving
+pub mod Settled
 pub mod Needs
 pub mod Bodies
