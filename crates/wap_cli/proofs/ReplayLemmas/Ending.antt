@@ -31,7 +31,7 @@ use Rattle.wap_cli.specs.prepare.Working.{WorksOnAll, IsOfFolder, AsksWithin}
 use Rattle.wap_cli.specs.prepare.Writing.{PutsTo}
 use Rattle.wap_cli.specs.replay.Outside.{Outside}
 use Rattle.wap_cli.specs.replay.Texts.{replayed, site_over}
-use Rattle.wap_cli.specs.replay.Headline.{ended, IsSiteOf, ReplaysSeen}
+use Rattle.wap_cli.specs.replay.Headline.{ended, AllRead, IsSiteOf, ReplaysSeen}
 use Rattle.wap_cli.specs.replay.inside.Jobs.{TellsOf}
 
 -- ---- a text that was written
@@ -140,7 +140,12 @@ wanting begun source last store sink unread few counts end_once = record {
   prefix = λ e. absurd cc;
   unwritten = λ undone other. refl;
   keys = λ by differs e. absurd (no_end by e);
+  too_many = λ e. absurd cc;
+  given = λ e. absurd cc;
   all_read = λ e. absurd cc;
+  read_for_store = λ e. absurd cc;
+  read_for_sink = λ e. absurd cc;
+  read_first = inl refl;
   unasked = λ by differs e. refl;
   store_fault = λ e. absurd cc;
   read_fault = λ e. absurd cc;
@@ -153,6 +158,7 @@ wanting begun source last store sink unread few counts end_once = record {
   accepted = λ why e. cc;
   closed = λ e. cc;
   of_line = λ line e. cc;
+  listed = λ e. absurd cc;
   once = inl refl;
   asked = none_asked store;
   kept = refl;
@@ -203,7 +209,12 @@ module _ {A : Type 0} (lists_in : A → List (List Key)) (begun : Begun) (source
             let same = ended_is by other e in
             subst (λ (x : Ending). IfSome source.left (λ bytes. (lists_of bytes).ending ≡ x)) same
             (read.ending_is (λ fails. some (sym same ∙ fails)));
+        too_many = λ e. read.too_many (ended_is by ending.TooManyKeys e);
+        given = λ e. read.given (ended_is by ending.ReadFault e);
         all_read = λ e. absurd (is.done e);
+        read_for_store = λ e. absurd (is.store e);
+        read_for_sink = λ e. absurd (is.write e);
+        read_first = inl refl;
         unasked = λ other some e. refl;
         store_fault = λ e. absurd (is.store e);
         read_fault = λ e. read.failed (ended_is by ending.ReadFault e);
@@ -218,6 +229,7 @@ module _ {A : Type 0} (lists_in : A → List (List Key)) (begun : Begun) (source
         accepted = is.refused;
         closed = is.closed;
         of_line = of_line_by by read.of_line;
+        listed = λ e. absurd (is.done e);
         once = inl refl;
         asked = none_asked store;
         kept = refl;
@@ -275,6 +287,12 @@ module _ {A : Type 0} (lists_in : A → List (List Key)) (begun : Begun) (lists 
   no_read : ending.End ≢ ending.ReadFault
   no_read e = cc
 
+  done_holds : Done ≡ NoMemory → ⊥
+  done_holds e = cc
+
+  all_there : AllRead source last
+  all_there = record { none_left = read.none_left refl; ending_is = read.ending_is no_read }
+
   by_end : (by : Ending) → status ≡ ended by → by ≡ ending.End
   by_end ending.End e = refl
   by_end (ending.BadKey line fault) e = absurd (not_so (BadKey line fault) (λ none. none) e)
@@ -295,7 +313,12 @@ module _ {A : Type 0} (lists_in : A → List (List Key)) (begun : Begun) (lists 
     keys = λ by differs e.
         subst (λ (x : Ending). IfSome source.left (λ bytes. (lists_of bytes).ending ≡ x))
         (sym (by_end by e)) (read.ending_is no_read);
-    all_read = λ e. read.none_left refl;
+    too_many = λ e. absurd (not_so TooManyKeys (λ none. none) e);
+    given = λ e. absurd (not_so KeyReadFault (λ none. none) e);
+    all_read = λ e. all_there;
+    read_for_store = λ e. all_there;
+    read_for_sink = λ e. all_there;
+    read_first = inr all_there;
     unasked = λ by differs e. absurd (differs (by_end by e));
     store_fault = works.store_fault;
     read_fault = λ e. absurd (not_so KeyReadFault (λ none. none) e);
@@ -310,6 +333,7 @@ module _ {A : Type 0} (lists_in : A → List (List Key)) (begun : Begun) (lists 
     accepted = λ fault. not_so (Refused fault) (λ none. none);
     closed = not_so OpenDialog (λ none. none);
     of_line = λ line. not_so (BadKey line key.NoMemory) (λ none. none);
+    listed = λ e. works.listings (λ wants. done_holds (sym e ∙ wants));
     once = works.once;
     asked = works.asked;
     kept = works.kept;

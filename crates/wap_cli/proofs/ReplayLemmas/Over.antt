@@ -24,7 +24,12 @@ module _ (IsSite IsSiteToo : Site → Type 0) (same : (site : Site) → IsSiteTo
       prefix = λ e site is. so.prefix e site (same site is);
       unwritten = so.unwritten;
       keys = so.keys;
+      too_many = so.too_many;
+      given = so.given;
       all_read = so.all_read;
+      read_for_store = so.read_for_store;
+      read_for_sink = so.read_for_sink;
+      read_first = so.read_first;
       unasked = so.unasked;
       store_fault = so.store_fault;
       read_fault = so.read_fault;
@@ -37,6 +42,7 @@ module _ (IsSite IsSiteToo : Site → Type 0) (same : (site : Site) → IsSiteTo
       accepted = so.accepted;
       closed = so.closed;
       of_line = so.of_line;
+      listed = so.listed;
       once = so.once;
       asked = so.asked;
       kept = so.kept;

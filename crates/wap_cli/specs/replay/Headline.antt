@@ -1,23 +1,24 @@
 -- What the replaying of lists of keys comes to: what is written, what is asked for, and how it
 -- ends. This project's own.
-use Rattle.std.specs.Prelude.{◌≡◌, ◌≢◌, ◌⊎◌, ℕ, ◌+◌, ◌≤◌, false, List, Some, IfSome}
+use Rattle.std.specs.Prelude.{◌≡◌, ◌≢◌, ◌⊎◌, ℕ, ◌+◌, ◌≤◌, false, List, length, Some, IfSome}
 use Rattle.wap_base.specs.Contents.{Contents}
 use Rattle.wap_base.specs.Count.{raised, Rose}
 use Rattle.wap_devices.specs.Stores.{StoreSeen}
+use Rattle.wap_devices.specs.Sources.{SourceSeen}
 use Rattle.wap_devices.specs.Transfer.{Appends, AppendsPrefix, IsAtEnd}
 use Rattle.wap_keys.specs.declared.limits.TheConstants.{KEYS_LIMIT}
 use Rattle.wap_keys.specs.declared.fault.KeyFault.TheVariants as key
 use Rattle.wap_keys.specs.declared.ending.Ending.{Ending}
 use Rattle.wap_keys.specs.declared.ending.Ending.TheVariants as ending
-use Rattle.wap_keys.specs.Read.{TakesAtMost, AtMostOnce}
-use Rattle.wap_keys.specs.lists.Lists.{all_of, lists_of}
+use Rattle.wap_keys.specs.Read.{TakesAtMost, AtMostOnce, Takes}
+use Rattle.wap_keys.specs.lists.Lists.{all_of, lists_at, lists_of}
 use Rattle.wap_pages.specs.declared.fault.PageFault.{PageFault}
 use Rattle.wap_world.specs.Sites.{Site}
 use Rattle.wap_world.specs.Sessions.{Begun}
 use Rattle.wap_cli.specs.declared.status.Status.{Status}
 use Rattle.wap_cli.specs.declared.status.Status.TheVariants.{Done, Usage, Refused, StoreFault}
 use Rattle.wap_cli.specs.declared.status.Status.TheVariants.{KeyReadFault, WriteFault, NoMemory}
-use Rattle.wap_cli.specs.declared.status.Status.TheVariants.{BadKey, OpenDialog}
+use Rattle.wap_cli.specs.declared.status.Status.TheVariants.{BadKey, OpenDialog, TooManyKeys}
 use Rattle.wap_cli.specs.Statuses.{IsOrWants}
 use Rattle.wap_cli.specs.prepare.Working.{AsksWithin}
 use Rattle.wap_cli.specs.browse.Endings as endings
@@ -33,6 +34,12 @@ pub record NothingFails (old new : Outside) : Type 0 where
   pub store : ¬ Rose old.store.faults new.store.faults
   pub source : ¬ Rose old.source.faults new.source.faults
   pub sink : ¬ Rose old.sink.faults new.sink.faults
+
+-- the lists were read to their end: no byte is left, and where the bytes are known, their lists end
+-- so
+pub record AllRead (before after : SourceSeen) : Type 0 where
+  pub none_left : IsAtEnd after.left
+  pub ending_is : IfSome before.left (λ bytes. (lists_of bytes).ending ≡ ending.End)
 
 -- what there is to be written, by whatever the site of the store is, where the bytes of the keys
 -- are known
@@ -51,11 +58,22 @@ pub record Replays (IsSite : Site → Type 0) (begun : Begun) (old new : Outside
       → Tells IsSite begun old (AppendsPrefix old.sink.written new.sink.written)
   -- and else nothing
   pub unwritten : status ≢ Done → status ≢ WriteFault → new.sink ≡ old.sink
-  -- these statuses come only where the bytes of the keys end so, and Done only where all were read
+  -- these statuses come only where the bytes of the keys end so
   pub keys : (by : Ending) → by ≢ ending.ReadFault → status ≡ ended by
       → IfSome old.source.left (λ bytes. (lists_of bytes).ending ≡ by)
-  pub all_read : status ≡ Done → IsAtEnd new.source.left
-  -- but where the keys came to their end nothing is asked of the store
+  -- TooManyKeys comes only where one byte more was taken than counts
+  pub too_many : status ≡ TooManyKeys → (taken : List ℕ) × (length taken ≡ KEYS_LIMIT + 1)
+      × Takes taken old.source new.source
+  -- KeyReadFault comes only where no line is refused of the bytes that were taken by then
+  pub given : status ≡ KeyReadFault → (taken : List ℕ) × Takes taken old.source new.source
+      × ((lists_at ending.ReadFault taken).ending ≡ ending.ReadFault)
+  -- these statuses come only where all keys were read to their end
+  pub all_read : status ≡ Done → AllRead old.source new.source
+  pub read_for_store : status ≡ StoreFault → AllRead old.source new.source
+  pub read_for_sink : status ≡ WriteFault → AllRead old.source new.source
+  -- and with any status something is asked of the store only where they were
+  pub read_first : (new.store ≡ old.store) ⊎ AllRead old.source new.source
+  -- where the keys came to another end nothing is
   pub unasked : (by : Ending) → by ≢ ending.End → status ≡ ended by → new.store ≡ old.store
   -- these statuses come only where a count of faults rose
   pub store_fault : status ≡ StoreFault → Rose old.store.faults new.store.faults
@@ -75,7 +93,8 @@ pub record Replays (IsSite : Site → Type 0) (begun : Begun) (old new : Outside
   pub closed : status ≢ OpenDialog
   -- out of memory is no fault of a line
   pub of_line : (line : ℕ) → status ≢ BadKey line key.NoMemory
-  -- the names are asked for once at most, and so is each page
+  -- on Done the names were asked for once, and else once at most, and so is each page
+  pub listed : status ≡ Done → new.store.listings ≡ raised old.store.listings
   pub once : (new.store.listings ≡ old.store.listings)
       ⊎ (new.store.listings ≡ raised old.store.listings)
   pub asked : AsksWithin old.store new.store
