@@ -1,3 +1,4 @@
+pub mod MemoryLemmas
 pub mod Answering
 pub mod Serving
 pub mod Seeing

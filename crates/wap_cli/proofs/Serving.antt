@@ -1,6 +1,5 @@
 -- What a run comes to where memory runs out before anything is done.
-use Rattle.std.proofs.Common.{◌≡◌, ◌≢◌, ℕ, List, Option, Some, None, Ok, Err, inl, inr, refl, ap, ◌∙◌, arith}
-use Rattle.std.specs.Prelude.{IfSome}
+use Rattle.std.proofs.Common.{◌≡◌, ◌≢◌, ℕ, List, Option, Some, None, Ok, Err, inl, inr, refl, arith}
 use Rattle.wap_base.specs.Contents.{Contents, page_named}
 use Rattle.wap_devices.specs.Sinks.{SinkSeen}
 use Rattle.wap_keys.specs.declared.words.words.Command.{Command}
@@ -12,12 +11,13 @@ use Rattle.wap_cli.specs.declared.status.Status.TheVariants.{Done, Usage, Refuse
 use Rattle.wap_cli.specs.declared.status.Status.TheVariants.{KeyReadFault, WriteFault, NoMemory}
 use Rattle.wap_cli.specs.declared.status.Status.TheVariants.{BadKey, OpenDialog, TooManyKeys}
 use Rattle.wap_devices.specs.Stores.{StoreSeen, Fetches}
-use Rattle.wap_devices.specs.Contents.{answer_of, answer_for}
 use Rattle.wap_devices.specs.declared.store.Fetched.{Fetched}
 use Rattle.wap_devices.specs.declared.store.StoreErr.TheVariants as store_error
 use Rattle.wap_cli.specs.browse.Plays.{opened}
 use Rattle.wap_cli.proofs.BrowseLemmas.Exits.{nothing_browses}
 use Rattle.wap_cli.proofs.BrowseLemmas.Summary.{browses_by}
+use Rattle.wap_cli.proofs.MemoryLemmas.Pages.{reason_remembers}
+use Rattle.wap_cli.proofs.ResumeLemmas.Fetching.{found_page}
 use Rattle.wap_cli.proofs.ResumeLemmas.Going.{nothing_imaged, nothing_resumed}
 use Rattle.wap_cli.specs.prepare.Preparing.{Reports}
 use Rattle.wap_cli.proofs.PrepareLemmas.Ending.{nothing_done}
@@ -67,6 +67,7 @@ nothing_served command name old = record {
           nothing_answered command page old.sink,
         );
     ends = tt;
+    of_reason = λ fault e. absurd cc;
     store_fault = λ e. absurd cc;
     write_fault = λ e. absurd cc;
     unwritten = λ undone other. refl;
@@ -109,18 +110,6 @@ nothing_runs (Some (Replay one)) old =
 
 -- ---- what the store answered
 
-page_of_answer : (page : Option (List ℕ)) → page_of (answer_of page) ≡ page
-page_of_answer (Some bytes) = refl
-page_of_answer None = refl
-
--- what the store answered is the page of the name
-found_page : (contents : Option Contents) (name : List ℕ) (fetched : Fetched)
-    → IfSome contents (λ pages. fetched ≡ answer_for name pages)
-    → IsPageOf contents name (page_of fetched)
-found_page None name fetched is = tt
-found_page (Some pages) name fetched is =
-    ap page_of is ∙ page_of_answer (page_named name pages)
-
 -- a status of a command on one page that is no fault
 is_answer : (status : Status) → IsOfPage status → status ≢ StoreFault → status ≢ WriteFault
     → IsAnswer status
@@ -146,6 +135,8 @@ module _ (command : PageCommand) (name : List ℕ) (store store_after : StoreSee
     page = λ other.
         (page_of fetched, found_page store.contents name fetched fetches.found, answers);
     ends = answers.ends;
+    of_reason = λ fault is.
+        reason_remembers command (page_of fetched) fault (answers.refused fault is);
     store_fault = λ is. absurd (answers.stored is);
     write_fault = answers.failed;
     unwritten = answers.unwritten;
@@ -167,6 +158,7 @@ module _ (command : PageCommand) (name : List ℕ) (store store_after : StoreSee
   serves_fault fetches = record {
     page = λ other. absurd (other refl);
     ends = tt;
+    of_reason = λ fault is. absurd cc;
     store_fault = λ is. fetches.asked.failed refl;
     write_fault = λ is. absurd cc;
     unwritten = λ undone other. refl;
@@ -189,6 +181,7 @@ module _ (command : PageCommand) (name : List ℕ) (store store_after : StoreSee
         let page = page_in store.contents name in
         (page, page_there store.contents name, nothing_answered command page sink);
     ends = tt;
+    of_reason = λ fault is. absurd cc;
     store_fault = λ is. absurd cc;
     write_fault = λ is. absurd cc;
     unwritten = λ undone other. refl;

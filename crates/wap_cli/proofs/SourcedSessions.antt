@@ -1,7 +1,6 @@
 -- What is said of sessions that are saved and gone on with over the units that a store's pages are
 -- judged to is said of them over the sources that its pages are.
 use Rattle.std.proofs.Common.{◌≡◌, ℕ, List, refl, ap, subst}
-use Rattle.wap_base.specs.Contents.{Contents}
 use Rattle.wap_base.specs.declared.key.Key.{Key}
 use Rattle.wap_keys.specs.Lines.{keys_of}
 use Rattle.wap_pages.specs.declared.fault.PageFault.{PageFault}
@@ -81,6 +80,7 @@ module _ {P Q : Type 0} (Are : P → Type 0) (site : P → Site) (AreToo : Q →
         (λ it. Browses Are (λ p. resumed_at it.0 it.1 (site p)) (asked_once old) new
         status) one is so.goes_on));
     stops = so.stops;
+    of_reason = so.of_reason;
   }
 
 -- ---- where what pages are judged isn't seen
@@ -102,7 +102,7 @@ module _ {P : Type 0} (Are : P → Type 0) (site : P → Site) (old new : Outsid
     }
 
     -- one that isn't begun
-    unbegun_unjudged : (Cause : Contents → PageFault → Type 0) → Unbegun Cause old new status
+    unbegun_unjudged : (Cause : PageFault → Type 0) → Unbegun Cause old new status
         → Unbegun Cause (without_pages old) (without_pages new) status
     unbegun_unjudged Cause so = record {
       ends = so.ends;
@@ -135,7 +135,8 @@ module _ {P : Type 0} (Are : P → Type 0) (site : P → Site) (old new : Outsid
           (some_fact so.saved
           (λ it. Browses Are (λ pages. resumed_at it.0 it.1 (site pages)) (asked_once old) new
           status) one is so.goes_on));
-      stops = λ none. unbegun_unjudged (λ contents. Hinders contents name) (so.stops none);
+      stops = λ none. unbegun_unjudged (Hinders old.pages.behind name) (so.stops none);
+      of_reason = so.of_reason;
     }
 
 -- ---- over the pages of a store

@@ -1,5 +1,5 @@
 -- What a run comes to, by its command. This project's own.
-use Rattle.std.specs.Prelude.{◌≡◌, ◌≢◌, ◌⊎◌, ℕ, ◌≤◌, List, Option, Some, None}
+use Rattle.std.specs.Prelude.{◌≡◌, ◌≢◌, ◌⊎◌, ℕ, ◌≤◌, false, List, Option, Some, None}
 use Rattle.wap_base.specs.Count.{raised, Rose}
 use Rattle.wap_devices.specs.Stores.{StoreSeen}
 use Rattle.wap_devices.specs.Sinks.{SinkSeen}
@@ -16,6 +16,7 @@ use Rattle.wap_cli.specs.declared.status.Status.TheVariants.{Done, Usage, Refuse
 use Rattle.wap_cli.specs.declared.status.Status.TheVariants.{WriteFault, NoMemory}
 use Rattle.wap_cli.specs.Statuses.{IsOrWants}
 use Rattle.wap_cli.specs.Answers.{IsOfPage, IsPageOf, Answers}
+use Rattle.wap_cli.specs.Memory.{is_of_memory}
 use Rattle.wap_cli.specs.Browsing.{BrowsesOver}
 use Rattle.wap_cli.specs.Devices.{Devices}
 use Rattle.wap_cli.specs.Replaying.{ReplaysOver}
@@ -45,6 +46,8 @@ pub record Serves (command : PageCommand) (name : List ℕ) (store store_after :
   pub page : status ≢ StoreFault → (page : Option (List ℕ)) × IsPageOf store.contents name page
       × Answers command page sink sink_after status
   pub ends : IsOfPage status
+  -- out of memory is no reason to refuse
+  pub of_reason : (fault : PageFault) → status ≡ Refused fault → is_of_memory fault ≡ false
   -- these statuses come only where a count of faults rose
   pub store_fault : status ≡ StoreFault → Rose store.faults store_after.faults
   pub write_fault : status ≡ WriteFault → Rose sink.faults sink_after.faults

@@ -6,6 +6,7 @@ pub mod SavedSessions
 pub mod Calls
 pub mod Devices
 pub mod Answers
+pub mod Memory
 pub mod Folders
 pub mod inspect
 pub mod prepare

@@ -20,10 +20,13 @@ use Rattle.wap_session.specs.Feeding.{State, Leads, Plays, beginning}
 use Rattle.wap_session.proofs.Playing.{plays_more}
 use Rattle.wap_cli.specs.declared.made.playing.Played.{Played as Came}
 use Rattle.wap_cli.specs.declared.made.making.Tour.{Tour}
-use Rattle.wap_cli.specs.made.Making.{made_begun, made_pages, made_site, made_keys, made_report}
+use Rattle.wap_cli.specs.made.Making.{made_begun, made_keys, made_report}
 use Rattle.wap_cli.specs.made.Making.{first_url, onward}
-use Rattle.wap_cli.specs.made.Making.{accepted_in, value_in, made_line}
-use Rattle.wap_cli.specs.made.inside.Tours.{lines_by, IsPlayed, IsTour, report_of}
+use Rattle.wap_cli.specs.made.Making.{value_in, made_line}
+use Rattle.wap_cli.specs.made.inside.Counting.{accepted_in}
+use Rattle.wap_cli.specs.made.inside.Tours.{made_pages, made_site, lines_by, IsPlayed, IsTour}
+use Rattle.wap_cli.specs.made.inside.Tours.{report_of}
+use Rattle.wap_cli.proofs.MadeLemmas.Counting.{same_accepted}
 
 -- ---- the folder
 
@@ -103,13 +106,15 @@ is_tour n pages names listed keys given first second tour paged named lists pres
       pages = counted ∙ many;
       accepted = at_known first (made_pages n)
           (λ p. tour.accepted ≡ length (accepted_in p listed)) known accepted
-          ∙ ap (λ (l : List (List ℕ)). length (accepted_in (made_pages n) l)) (lists ∙ is_named);
+          ∙ ap (λ (l : List (List ℕ)). length (accepted_in (made_pages n) l)) (lists ∙ is_named)
+          ∙ ap length (same_accepted (made_pages n) (names_of (folder n)));
       lines = played.lines;
       sum = played.sum;
     }
 
 -- the lines on it
-pub report_is : (n : ℕ) (tour : Tour) → IsTour n tour → report_of tour ≡ made_report n
+pub report_is : (n : ℕ) (tour : Tour) → IsTour n tour
+    → report_of tour ≡ made_report n (made_site n)
 report_is n tour so =
     ap₂ (λ (a b : List ℕ). a ++ b)
     (ap (λ (m : ℕ). made_line (codes "pages") (decimal m)) so.pages)

@@ -1,8 +1,6 @@
 -- How a command ends whose page of the current card is no deck, or isn't got.
-use Rattle.std.proofs.Common.{◌≡◌, ℕ, false, List, [], ◌∷◌, Option, Some, Ok, Err}
-use Rattle.std.proofs.Common.{refl, ap, subst, ◌∙◌}
-use Rattle.std.specs.Prelude.{IfSome, Result}
-use Rattle.std.specs.Option.{option_map}
+use Rattle.std.proofs.Common.{◌≡◌, ℕ, false, List, [], ◌∷◌, Option, Ok, Err, refl, subst, ◌∙◌}
+use Rattle.std.specs.Prelude.{Result}
 use Rattle.wap_base.specs.Count.{Rose}
 use Rattle.wap_base.specs.Contents.{Contents}
 use Rattle.wap_base.specs.declared.fault.RunErr.{RunErr}
@@ -11,23 +9,20 @@ use Rattle.wap_devices.specs.Stores.{StoreSeen}
 use Rattle.wap_devices.specs.Sources.{SourceSeen}
 use Rattle.wap_devices.specs.Sinks.{SinkSeen}
 use Rattle.wap_image.specs.declared.context_parts.parts.ContextParts.{ContextParts}
-use Rattle.wap_world.specs.site.Pages.{Pages as JudgedPages}
 use Rattle.wap_world.specs.site.Misses.{Cache}
 use Rattle.wap_world.specs.site.Asking.{Stays}
 use Rattle.wap_world.proofs.SiteLemmas.Asking.{Stays-then}
 use Rattle.wap_pages.specs.declared.fault.PageFault.{PageFault}
 use Rattle.wap_pages.specs.declared.fault.PageFault.TheVariants as page_fault
 use Rattle.wap_pages.specs.Caches.{seen_over}
-use Rattle.wap_pages.specs.Judged.{judged}
 use Rattle.wap_context.specs.declared.saved.Revived.{Revived}
 use Rattle.wap_context.specs.declared.saved.Revived.TheVariants as what
-use Rattle.wap_context.specs.Saved.{asked_for, IsRevived, Revives}
+use Rattle.wap_context.specs.Saved.{asked_for, Revives}
 use Rattle.wap_cli.specs.declared.status.Status.{Status}
 use Rattle.wap_cli.specs.declared.status.Status.TheVariants.{Refused, StoreFault, NoMemory}
-use Rattle.wap_cli.proofs.BrowseLemmas.Optional.{if_some, some_fact}
 use Rattle.wap_cli.proofs.BrowseLemmas.Forgetting.{fresh_over}
 use Rattle.wap_cli.specs.resume.Resuming.{LacksDeck, Unbegun}
-use Rattle.wap_cli.specs.resume.inside.Loading.{RefusesDeck}
+use Rattle.wap_cli.specs.resume.inside.Loading.{IsCause, RefusesDeck}
 use Rattle.wap_cli.proofs.ResumeLemmas.Reviving.{lacks_missing, lacks_deck}
 use Rattle.wap_cli.proofs.ResumeLemmas.Going.{fetched_stays}
 
@@ -55,8 +50,8 @@ module _ (parts : ContextParts) (store mid : StoreSeen) (cache : Cache) (capacit
 
   -- nothing is begun
   abbrev Ends : Status → Type 0
-  Ends status = Unbegun (λ contents. LacksDeck contents parts)
-      (fresh_over store capacity source sink) (fresh_over mid capacity source sink) status
+  Ends status = Unbegun (LacksDeck store.contents parts) (fresh_over store capacity source sink)
+      (fresh_over mid capacity source sink) status
 
   -- the store failed
   pub fault_ends : Made (Err run_error.Store) → Ends StoreFault
@@ -82,24 +77,13 @@ module _ (parts : ContextParts) (store mid : StoreSeen) (cache : Cache) (capacit
     unwritten = refl;
   }
 
-  -- what is made, where the contents are known
-  made_there : (one : Revived) → IsRevived parts (option_map judged store.contents) one
-      → (contents : Contents) → store.contents ≡ Some contents
-      → IsRevived parts (Some (judged contents)) one
-  made_there one is contents known =
-      subst (λ (c : Option JudgedPages). IsRevived parts c one) (ap (option_map judged) known) is
-
   -- the page is missing
   pub missing_ends : Made (Ok what.Missing) → Ends (Refused page_fault.Missing)
   missing_ends made = record {
     ends = tt;
     refused = λ fault is.
         let same : page_fault.Missing ≡ fault = cc in
-        subst (λ (f : PageFault). IfSome store.contents (λ contents. LacksDeck contents parts f))
-        same
-        (if_some store.contents (λ contents. LacksDeck contents parts page_fault.Missing)
-        (λ contents known.
-        lacks_missing parts contents (made_there what.Missing made.is contents known)));
+        subst (LacksDeck store.contents parts) same (lacks_missing parts store.contents made.is);
     store_fault = λ is. absurd cc;
     steady = λ other some. made.asks.steady;
     stays = forgets made.stays;
@@ -111,15 +95,14 @@ module _ (parts : ContextParts) (store mid : StoreSeen) (cache : Cache) (capacit
   pub refused_ends : (name : List ℕ) (last : StoreSeen) (status : Status)
       → Made (Ok what.Refused) → asked_for parts ≡ (name, false) ∷ []
       → RefusesDeck name mid last status
-      → Unbegun (λ contents. LacksDeck contents parts) (fresh_over store capacity source sink)
+      → Unbegun (LacksDeck store.contents parts) (fresh_over store capacity source sink)
       (fresh_over last capacity source sink) status
   refused_ends name last status made asked refuses = record {
     ends = refuses.none.ends;
-    refused = λ fault is. if_some store.contents (λ contents. LacksDeck contents parts fault)
-        (λ contents known.
-        lacks_deck parts contents name fault (made_there what.Refused made.is contents known) asked
-        (some_fact mid.contents _ contents (made.stays.behind ∙ known)
-        (refuses.none.refused fault is)));
+    refused = λ fault is.
+        lacks_deck parts store.contents name fault made.is asked
+        (subst (λ (contents : Option Contents). IsCause contents name fault) made.stays.behind
+        (refuses.none.refused fault is));
     store_fault = λ is.
         subst (λ (count : ℕ). Rose count last.faults) made.asks.steady (refuses.none.failed is);
     steady = λ other some. refuses.none.steady other some ∙ made.asks.steady;

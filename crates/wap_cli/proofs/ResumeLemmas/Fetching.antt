@@ -1,6 +1,6 @@
 -- What is fetched of a store: what was saved, or the page of a deck.
 use Rattle.std.proofs.Common.{◌≡◌, ℕ, List, Option, Some, None, Ok, Err, refl, sym, ap, subst}
-use Rattle.std.proofs.Common.{inl, inr}
+use Rattle.std.proofs.Common.{inl, inr, ◌∙◌}
 use Rattle.std.specs.Prelude.{Result, IfSome, IfOk, IfErr}
 use Rattle.wap_base.specs.Contents.{Contents, page_named}
 use Rattle.wap_devices.specs.Contents.{answer_of, answer_for}
@@ -15,24 +15,23 @@ use Rattle.wap_pages.specs.declared.fault.PageFault.{PageFault}
 use Rattle.wap_pages.specs.declared.fault.PageFault.TheVariants as page_fault
 use Rattle.wap_cli.specs.declared.status.Status.{Status}
 use Rattle.wap_cli.specs.declared.status.Status.TheVariants.{Refused, StoreFault, NoMemory}
-use Rattle.wap_cli.proofs.BrowseLemmas.Optional.{if_some, some_fact}
+use Rattle.wap_cli.specs.Answers.{IsPageOf, page_of}
 use Rattle.wap_cli.specs.resume.Resuming.{Hinders}
 use Rattle.wap_cli.specs.resume.inside.Loading.{IsFetched, GivesNone, IsUnread, Loads, IsCause}
 use Rattle.wap_cli.specs.resume.inside.Loading.{IsDeckFault, RefusesDeck}
 
 -- ---- the answer
 
-was_found : (bytes : List ℕ) (found : Option (List ℕ)) → fetched.Found bytes ≡ answer_of found
-    → found ≡ Some bytes
-was_found bytes (Some other) is = ap (λ (b : List ℕ). Some b) (sym same)
-  where
-    same : bytes ≡ other
-    same = cc
-was_found bytes None is = absurd cc
+page_of_answer : (page : Option (List ℕ)) → page_of (answer_of page) ≡ page
+page_of_answer (Some bytes) = refl
+page_of_answer None = refl
 
-was_missing : (found : Option (List ℕ)) → fetched.Missing ≡ answer_of found → found ≡ None
-was_missing (Some other) is = absurd cc
-was_missing None is = refl
+-- what the store answered is the page of the name
+pub found_page : (contents : Option Contents) (name : List ℕ) (answer : Fetched)
+    → IfSome contents (λ pages. answer ≡ answer_for name pages)
+    → IsPageOf contents name (page_of answer)
+found_page None name answer is = tt
+found_page (Some pages) name answer is = ap page_of is ∙ page_of_answer (page_named name pages)
 
 -- whatever was answered, one page was asked for
 pub is_fetched : (name : List ℕ) (before after : StoreSeen) (result : Result Fetched StoreErr)
@@ -47,7 +46,7 @@ is_fetched name before after result fetches = record {
 
 -- ---- nothing was got
 
-module _ (Cause : Contents → PageFault → Type 0) (before after : StoreSeen) where
+module _ (Cause : PageFault → Type 0) (before after : StoreSeen) where
   -- memory ran out
   pub gives_up : GivesNone Cause before after NoMemory
   gives_up = record {
@@ -58,14 +57,13 @@ module _ (Cause : Contents → PageFault → Type 0) (before after : StoreSeen) 
   }
 
   -- for a cause
-  pub gives_cause : (why : PageFault)
-      → IfSome before.contents (λ contents. Cause contents why)
-      → after.faults ≡ before.faults → GivesNone Cause before after (Refused why)
+  pub gives_cause : (why : PageFault) → Cause why → after.faults ≡ before.faults
+      → GivesNone Cause before after (Refused why)
   gives_cause why cause same = record {
     ends = tt;
     refused = λ fault is.
         let so : why ≡ fault = cc in
-        subst (λ (f : PageFault). IfSome before.contents (λ contents. Cause contents f)) so cause;
+        subst Cause so cause;
     failed = λ is. absurd cc;
     steady = λ other some. same;
   }
@@ -83,41 +81,39 @@ module _ (Cause : Contents → PageFault → Type 0) (before after : StoreSeen) 
 -- ---- what was saved
 
 module _ (name : List ℕ) (before after : StoreSeen) where
+  -- the bytes of its page, or none
+  was_found : (bytes : List ℕ) → Fetches name before after (Ok (fetched.Found bytes))
+      → IsPageOf before.contents name (Some bytes)
+  was_found bytes fetches = found_page before.contents name (fetched.Found bytes) fetches.found
+
+  was_missing : Fetches name before after (Ok fetched.Missing)
+      → IsPageOf before.contents name None
+  was_missing fetches = found_page before.contents name fetched.Missing fetches.found
+
+  abbrev Hindered : Status → Type 0
+  Hindered status = GivesNone (Hinders before.contents name) before after status
+
   -- the bytes are no image
   pub unread_none : (bytes : List ℕ) (status : Status)
       → Fetches name before after (Ok (fetched.Found bytes)) → IsUnread bytes status
-      → GivesNone (λ contents. Hinders contents name) before after status
+      → Hindered status
   unread_none bytes status fetches (inl is) =
-      subst (GivesNone (λ contents. Hinders contents name) before after) (sym is)
-      (gives_up (λ contents. Hinders contents name) before after)
+      subst Hindered (sym is) (gives_up (Hinders before.contents name) before after)
   unread_none bytes status fetches (inr (why, is, refused)) =
-      subst (GivesNone (λ contents. Hinders contents name) before after) (sym is)
-      (gives_cause (λ contents. Hinders contents name) before after (page_fault.Image why)
-      (if_some before.contents (λ contents. Hinders contents name (page_fault.Image why))
-      (λ contents known.
-      Hinders.refused bytes why
-      (was_found bytes (page_named name contents)
-      (some_fact before.contents (λ c. fetched.Found bytes ≡ answer_for name c) contents known
-      fetches.found))
-      refused))
-      fetches.asked.steady)
+      subst Hindered (sym is)
+      (gives_cause (Hinders before.contents name) before after (page_fault.Image why)
+      (Hinders.refused bytes why (was_found bytes fetches) refused) fetches.asked.steady)
 
   -- there is none
   pub missing_none : Fetches name before after (Ok fetched.Missing)
-      → GivesNone (λ contents. Hinders contents name) before after (Refused page_fault.Missing)
+      → Hindered (Refused page_fault.Missing)
   missing_none fetches =
-      gives_cause (λ contents. Hinders contents name) before after page_fault.Missing
-      (if_some before.contents (λ contents. Hinders contents name page_fault.Missing)
-      (λ contents known.
-      Hinders.missing (was_missing (page_named name contents)
-      (some_fact before.contents (λ c. fetched.Missing ≡ answer_for name c) contents known
-      fetches.found))))
-      fetches.asked.steady
+      gives_cause (Hinders before.contents name) before after page_fault.Missing
+      (Hinders.missing (was_missing fetches)) fetches.asked.steady
 
   -- nothing is loaded
-  pub loads_none : (status : Status)
-      → GivesNone (λ contents. Hinders contents name) before after status
-      → IsFetched before after → Loads name before after (Err status)
+  pub loads_none : (status : Status) → Hindered status → IsFetched before after
+      → Loads name before after (Err status)
   loads_none status none fetched =
       record { found = tt; rules = tt; steady = tt; none = none; fetched = fetched }
 
@@ -126,15 +122,7 @@ module _ (name : List ℕ) (before after : StoreSeen) where
       → Fetches name before after (Ok (fetched.Found bytes)) → IsImage bytes saved
       → MayBeSaved saved.0 saved.1 → Loads name before after (Ok saved)
   loads_some bytes saved fetches image rules = record {
-    found = if_some before.contents (λ contents. (b : List ℕ) × (page_named name contents ≡ Some b)
-        × IsImage b saved)
-        (λ contents known. (
-          bytes,
-          was_found bytes (page_named name contents)
-              (some_fact before.contents (λ c. fetched.Found bytes ≡ answer_for name c) contents
-              known fetches.found),
-          image,
-        ));
+    found = (bytes, was_found bytes fetches, image);
     rules = rules;
     steady = fetches.asked.steady;
     none = tt;
@@ -143,47 +131,30 @@ module _ (name : List ℕ) (before after : StoreSeen) where
 
   -- ---- the deck
 
-  -- the bytes of its page, where contents are known
-  was_there : (bytes : List ℕ) → Fetches name before after (Ok (fetched.Found bytes))
-      → (contents : Contents) → before.contents ≡ Some contents
-      → page_named name contents ≡ Some bytes
-  was_there bytes fetches contents known = was_found bytes (page_named name contents)
-      (some_fact before.contents (λ c. fetched.Found bytes ≡ answer_for name c) contents known
-      fetches.found)
+  abbrev Undecked : Status → Type 0
+  Undecked status = GivesNone (IsCause before.contents name) before after status
 
   -- its bytes are those of no deck
   pub deck_none : (bytes : List ℕ) (status : Status)
       → Fetches name before after (Ok (fetched.Found bytes)) → IsDeckFault name bytes status
-      → GivesNone (λ contents. IsCause contents name) before after status
+      → Undecked status
   deck_none bytes status fetches (inl is) =
-      subst (GivesNone (λ contents. IsCause contents name) before after) (sym is)
-      (gives_up (λ contents. IsCause contents name) before after)
+      subst Undecked (sym is) (gives_up (IsCause before.contents name) before after)
   deck_none bytes status fetches (inr (inl (why, is, refused))) =
-      subst (GivesNone (λ contents. IsCause contents name) before after) (sym is)
-      (gives_cause (λ contents. IsCause contents name) before after why
-      (if_some before.contents (λ contents. IsCause contents name why)
-      (λ contents known.
-      IsCause.refused bytes why (was_there bytes fetches contents known) refused))
-      fetches.asked.steady)
+      subst Undecked (sym is)
+      (gives_cause (IsCause before.contents name) before after why
+      (IsCause.refused bytes why (was_found bytes fetches) refused) fetches.asked.steady)
   deck_none bytes status fetches (inr (inr (is, accepted))) =
-      subst (GivesNone (λ contents. IsCause contents name) before after) (sym is)
-      (gives_cause (λ contents. IsCause contents name) before after page_fault.NotDeck
-      (if_some before.contents (λ contents. IsCause contents name page_fault.NotDeck)
-      (λ contents known.
-      IsCause.accepted bytes (was_there bytes fetches contents known) accepted))
-      fetches.asked.steady)
+      subst Undecked (sym is)
+      (gives_cause (IsCause before.contents name) before after page_fault.NotDeck
+      (IsCause.accepted bytes (was_found bytes fetches) accepted) fetches.asked.steady)
 
   -- there is none any more
   pub deck_gone : Fetches name before after (Ok fetched.Missing)
-      → GivesNone (λ contents. IsCause contents name) before after (Refused page_fault.Missing)
+      → Undecked (Refused page_fault.Missing)
   deck_gone fetches =
-      gives_cause (λ contents. IsCause contents name) before after page_fault.Missing
-      (if_some before.contents (λ contents. IsCause contents name page_fault.Missing)
-      (λ contents known.
-      IsCause.missing (was_missing (page_named name contents)
-      (some_fact before.contents (λ c. fetched.Missing ≡ answer_for name c) contents known
-      fetches.found))))
-      fetches.asked.steady
+      gives_cause (IsCause before.contents name) before after page_fault.Missing
+      (IsCause.missing (was_missing fetches)) fetches.asked.steady
 
 -- ---- what a fetch comes to
 

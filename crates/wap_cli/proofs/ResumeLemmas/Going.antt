@@ -4,11 +4,11 @@ use Rattle.std.proofs.Common.{◌∙◌, inl, inr}
 use Rattle.std.specs.Prelude.{IfSome}
 use Rattle.std.specs.Option.{option_map}
 use Rattle.wap_base.specs.Count.{Rose}
-use Rattle.wap_base.specs.Contents.{Contents, page_named}
+use Rattle.wap_base.specs.Contents.{Contents}
 use Rattle.wap_devices.specs.Stores.{StoreSeen}
 use Rattle.wap_devices.specs.Sources.{SourceSeen}
 use Rattle.wap_devices.specs.Sinks.{SinkSeen}
-use Rattle.wap_image.specs.Images.{Saved, IsImage}
+use Rattle.wap_image.specs.Images.{Saved}
 use Rattle.wap_world.specs.site.Misses.{Cache}
 use Rattle.wap_world.specs.site.Asking.{Stays}
 use Rattle.wap_world.proofs.SiteLemmas.Asking.{Stays-same, Stays-then}
@@ -18,22 +18,18 @@ use Rattle.wap_pages.specs.Judged.{judged}
 use Rattle.wap_world.specs.Sessions.{Begun, world_of}
 use Rattle.wap_state.specs.Saved.{parts_of}
 use Rattle.wap_cli.specs.declared.status.Status.{Status}
-use Rattle.wap_cli.specs.declared.status.Status.TheVariants.{NoMemory}
+use Rattle.wap_cli.specs.declared.status.Status.TheVariants.{Refused, NoMemory}
 use Rattle.wap_cli.specs.browse.Outside.{Outside}
 use Rattle.wap_cli.specs.browse.Plays.{ArePagesOf, opened}
 use Rattle.wap_cli.specs.browse.Headline.{BrowsesSeen}
-use Rattle.wap_cli.proofs.BrowseLemmas.Optional.{if_some, some_fact}
+use Rattle.wap_cli.proofs.MemoryLemmas.Pages.{hinders_remember}
 use Rattle.wap_cli.proofs.BrowseLemmas.Exits.{nothing_browses}
 use Rattle.wap_cli.proofs.BrowseLemmas.Summary.{browses_by}
 use Rattle.wap_cli.proofs.BrowseLemmas.Forgetting.{fresh_over, outside_over, forget_cache}
 use Rattle.wap_cli.specs.resume.Saving.{ImagesSeen, unshown}
-use Rattle.wap_cli.specs.resume.Resuming.{resumed, HasDeck, LacksDeck, Hinders, IsThere, Unbegun}
+use Rattle.wap_cli.specs.resume.Resuming.{resumed, HasDeck, LacksDeck, Hinders, Unbegun}
 use Rattle.wap_cli.specs.resume.Resuming.{asked_once, ResumesSeen}
 use Rattle.wap_cli.specs.resume.inside.Loading.{IsFetched, GivesNone, Loads, Continues}
-
--- nothing that was saved
-abbrev none_saved : Option Saved
-none_saved = None
 
 -- ---- nothing was done
 
@@ -51,7 +47,7 @@ nothing_imaged begun old = record {
 }
 
 -- or anything was fetched
-pub unbegun_same : (Cause : Contents → PageFault → Type 0) (old : Outside)
+pub unbegun_same : (Cause : PageFault → Type 0) (old : Outside)
     → Unbegun Cause old old NoMemory
 unbegun_same Cause old = record {
   ends = tt;
@@ -66,10 +62,10 @@ unbegun_same Cause old = record {
 pub nothing_resumed : (name : List ℕ) (old : Outside) → ResumesSeen name old old NoMemory
 nothing_resumed name old = record {
   saved = None;
-  is = if_some old.pages.behind (λ contents. IfSome none_saved (IsThere contents name))
-      (λ contents known. tt);
+  is = tt;
   goes_on = tt;
-  stops = λ none. unbegun_same (λ contents. Hinders contents name) old;
+  stops = λ none. unbegun_same (Hinders old.pages.behind name) old;
+  of_reason = λ fault is. absurd cc;
 }
 
 -- ---- over the pages of a store
@@ -89,7 +85,7 @@ module _ (before after : StoreSeen) (capacity : ℕ) (source : SourceSeen) (sink
   }
 
   -- it gave nothing
-  pub unbegun_by : (Cause : Contents → PageFault → Type 0) (status : Status)
+  pub unbegun_by : (Cause : PageFault → Type 0) (status : Status)
       → GivesNone Cause before after status → IsFetched before after
       → Unbegun Cause (fresh_over before capacity source sink)
       (fresh_over after capacity source sink) status
@@ -119,16 +115,17 @@ module _ (name : List ℕ) (before mid after : StoreSeen) (capacity : ℕ)
   now = fresh_over mid capacity source sink
 
   -- nothing was loaded
-  pub resumes_none : GivesNone (λ contents. Hinders contents name) before mid status
+  pub resumes_none : GivesNone (Hinders before.contents name) before mid status
       → IsFetched before mid → ResumesSeen name old now status
   resumes_none none fetched = record {
     saved = None;
-    is = if_some before.contents (λ contents. IfSome none_saved (IsThere contents name))
-        (λ contents known. tt);
+    is = tt;
     goes_on = tt;
     stops = λ is.
-        unbegun_by before mid capacity source sink (λ contents. Hinders contents name) status none
+        unbegun_by before mid capacity source sink (Hinders before.contents name) status none
         fetched;
+    of_reason = λ fault is.
+        hinders_remember before.contents name fault (none.refused fault is);
   }
 
   -- after the fetch the store is as it was, but that it was asked once more
@@ -146,40 +143,39 @@ module _ (name : List ℕ) (before mid after : StoreSeen) (capacity : ℕ)
       → BrowsesSeen (resumed saved.0 saved.1) now new status → ResumesSeen name old new status
   resumes_on saved loads deck plays = record {
     saved = Some saved;
-    is = if_some before.contents (λ contents. IsThere contents name saved)
-        (λ contents known.
-        let (bytes, page, image) = some_fact before.contents (λ c. (b : List ℕ)
-        × (page_named name c ≡ Some b) × IsImage b saved) contents known loads.found in
-        record {
-          bytes = bytes;
-          page = page;
-          image = image;
-          deck = some_fact now.pages.behind (λ c. HasDeck c saved.0) contents
-              (loads.fetched.contents ∙ known) deck;
-        });
+    is = record {
+      bytes = loads.found.0;
+      page = loads.found.1;
+      image = loads.found.2;
+      deck =
+          subst (λ (c : Option Contents). IfSome c (λ contents. HasDeck contents saved.0))
+          loads.fetched.contents deck;
+    };
     goes_on = subst (λ (o : Outside). BrowsesSeen (resumed saved.0 saved.1) o new status)
         (fetched_is loads.fetched loads.steady) plays;
     stops = λ none. absurd cc;
+    of_reason = λ fault is. absurd (plays.accepted fault is);
   }
 
   -- its deck isn't there
+  hindered : (saved : Saved) → Loads name before mid (Ok saved)
+      → Unbegun (LacksDeck mid.contents saved.0) now new status → (fault : PageFault)
+      → status ≡ Refused fault → Hinders before.contents name fault
+  hindered saved loads unbegun fault is =
+      Hinders.deckless loads.found.0 saved fault loads.found.1 loads.found.2
+      (subst (λ (c : Option Contents). LacksDeck c saved.0 fault) loads.fetched.contents
+      (unbegun.refused fault is))
+
   resumes_not : (saved : Saved) → Loads name before mid (Ok saved)
-      → Unbegun (λ contents. LacksDeck contents saved.0) now new status
+      → Unbegun (LacksDeck mid.contents saved.0) now new status
       → ResumesSeen name old new status
   resumes_not saved loads unbegun = record {
     saved = None;
-    is = if_some before.contents (λ contents. IfSome none_saved (IsThere contents name))
-        (λ contents known. tt);
+    is = tt;
     goes_on = tt;
     stops = λ is. record {
       ends = unbegun.ends;
-      refused = λ fault is. if_some before.contents (λ contents. Hinders contents name fault)
-          (λ contents known.
-          let (bytes, page, image) = some_fact before.contents (λ c. (b : List ℕ)
-          × (page_named name c ≡ Some b) × IsImage b saved) contents known loads.found in
-          Hinders.deckless bytes saved fault page image
-          (some_fact mid.contents (λ c. LacksDeck c saved.0 fault) contents
-          (loads.fetched.contents ∙ known) (unbegun.refused fault is)));
+      refused = hindered saved loads unbegun;
       store_fault = λ is.
           subst (λ (count : ℕ). Rose count after.faults) loads.steady (unbegun.store_fault is);
       steady = λ other some. unbegun.steady other some ∙ loads.steady;
@@ -188,6 +184,8 @@ module _ (name : List ℕ) (before mid after : StoreSeen) (capacity : ℕ)
       unread = unbegun.unread;
       unwritten = unbegun.unwritten;
     };
+    of_reason = λ fault is.
+        hinders_remember before.contents name fault (hindered saved loads unbegun fault is);
   }
 
   pub resumes_by : (saved : Saved) → Loads name before mid (Ok saved)

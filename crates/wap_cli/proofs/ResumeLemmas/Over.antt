@@ -128,5 +128,5 @@ pub lost_over : {S : Type 0} (seen : S → StoreSeen) (saved : Saved) (store bac
 lost_over {S = S} seen saved store back capacity source sink is =
     subst (λ (s : S). Continues saved (fresh_over (seen store) capacity source sink)
     (fresh_over (seen s) capacity source sink) NoMemory) (sym is)
-    (inr (unbegun_same (λ contents. LacksDeck contents saved.0)
+    (inr (unbegun_same (LacksDeck (seen store).contents saved.0)
     (fresh_over (seen store) capacity source sink)))

@@ -20,7 +20,7 @@ use Rattle.wap_world.specs.site.Misses.{Asked}
 use Rattle.wap_world.specs.site.Asking.{Stays, Asks}
 use Rattle.wap_pages.specs.declared.fault.PageFault.{PageFault}
 use Rattle.wap_pages.specs.declared.fault.PageFault.TheVariants as page_fault
-use Rattle.wap_pages.specs.Judged.{judged, page_where}
+use Rattle.wap_pages.specs.Judged.{judged, page_where, IsDeckPage}
 use Rattle.wap_pages.proofs.Judgements.{page_of-judged, page_there, page_deck, deck_page}
 use Rattle.wap_world.specs.declared.history.Entry.{Entry}
 use Rattle.wap_world.specs.Shelves.{Shelf}
@@ -31,6 +31,7 @@ use Rattle.wap_context.specs.host.Finding.{shelved_page}
 use Rattle.wap_context.proofs.HostLemmas.Shelves.{shelved_is}
 use Rattle.wap_context.specs.Browsers.{Browser, IsOver}
 use Rattle.wap_context.specs.Sites.{site_of}
+use Rattle.wap_context.specs.declared.saved.Revived.{Revived}
 use Rattle.wap_context.specs.declared.saved.Revived.TheVariants.{Context, Missing, Refused}
 use Rattle.wap_state.specs.Saved.{saved_world}
 use Rattle.wap_context.specs.Saved.{with_last_in, revived_on, asked_for}
@@ -264,9 +265,21 @@ unnamed : (name : List ℕ) (found : Option (List ℕ)) → page_where name foun
 unnamed name (Some bytes) is = absurd (page_there name bytes is)
 unnamed name None is = refl
 
+-- the page of the last entry, where the contents are known
+answered : (parts : ContextParts) (contents : Option Contents) (one : Revived)
+    (made : IsRevived parts (option_map judged contents) one) (entry : Entry)
+    → last_entry (saved_world parts) ≡ Some entry → (known : Contents) → contents ≡ Some known
+    → page_of (name_for entry.url) (judged known) ≡ made.answer
+answered parts contents one made entry is known there =
+    let last = last_entry (saved_world parts) in
+    sym (some_fact last (λ e. made.answer ≡ page_of (name_for e.url) (judged known)) entry is
+    (some_fact (option_map judged contents)
+    (λ all. IfSome last (λ e. made.answer ≡ page_of (name_for e.url) all)) (judged known)
+    (ap (option_map judged) there) made.found))
+
 -- the page of the last entry is missing
-pub lacks_missing : (parts : ContextParts) (contents : Contents)
-    → IsRevived parts (Some (judged contents)) Missing
+pub lacks_missing : (parts : ContextParts) (contents : Option Contents)
+    → IsRevived parts (option_map judged contents) Missing
     → LacksDeck contents parts page_fault.Missing
 lacks_missing parts contents made =
     let last = last_entry (saved_world parts) in
@@ -276,11 +289,11 @@ lacks_missing parts contents made =
     record {
       name = name;
       asked = asked_entry parts entry is;
-      deckless = IsDeckless.missing (unnamed name (page_named name contents)
-          (sym (page_of-judged name contents)
-          ∙ sym (some_fact last (λ e. made.answer ≡ page_of (name_for e.url) (judged contents))
-          entry is made.found)
-          ∙ none));
+      deckless = IsDeckless.missing
+          (if_some contents (λ known. None ≡ page_named name known)
+          (λ known there.
+          sym (unnamed name (page_named name known) (sym (page_of-judged name known)
+          ∙ answered parts contents Missing made entry is known there ∙ none))));
     }
 
 -- the name that is asked for first
@@ -295,8 +308,8 @@ unfolding first_name
 names_same one other is = ap first_name is
 
 -- or it is no deck, for the cause that its bytes are judged for
-pub lacks_deck : (parts : ContextParts) (contents : Contents) (name : List ℕ) (why : PageFault)
-    → IsRevived parts (Some (judged contents)) Refused
+pub lacks_deck : (parts : ContextParts) (contents : Option Contents) (name : List ℕ)
+    (why : PageFault) → IsRevived parts (option_map judged contents) Refused
     → asked_for parts ≡ (name, false) ∷ [] → IsCause contents name why
     → LacksDeck contents parts why
 lacks_deck parts contents name why made asked cause =
@@ -306,18 +319,17 @@ lacks_deck parts contents name why made asked cause =
     last made.is in
     let name_now = name_for entry.url in
     let same : name_now ≡ name = names_same name_now name (sym (asked_entry parts entry is) ∙ asked) in
-    let answer : page_of name (judged contents) ≡ made.answer =
-    subst (λ (n : List ℕ). page_of n (judged contents) ≡ made.answer) same
-    (sym (some_fact last (λ e. made.answer ≡ page_of (name_for e.url) (judged contents)) entry is
-    made.found)) in
     record {
       name = name;
       asked = asked;
-      deckless = deckless_by contents name why made.answer answer undecked cause;
+      deckless = deckless_by contents name why made.answer
+          (λ known so.
+          subst (λ (n : List ℕ). page_of n (judged known) ≡ made.answer) same
+          (answered parts contents Refused made entry is known so)) undecked cause;
     }
   where
-    deckless_by : (contents : Contents) (name : List ℕ) (why : PageFault) (answer : Page)
-        → page_of name (judged contents) ≡ answer
+    deckless_by : (contents : Option Contents) (name : List ℕ) (why : PageFault) (answer : Page)
+        → ((known : Contents) → contents ≡ Some known → page_of name (judged known) ≡ answer)
         → ((deck : Deck) → answer ≢ page.Deck deck)
         → IsCause contents name why → IsDeckless contents name why
     deckless_by contents name _ answer is undecked (IsCause.missing none) =
@@ -327,7 +339,10 @@ lacks_deck parts contents name why made asked cause =
     deckless_by contents name _ answer is undecked (IsCause.accepted bytes there accepted) =
         IsDeckless.other bytes there (record {
           accepted = accepted;
-          other = λ deck so.
-              undecked deck (sym is ∙ page_of-judged name contents
-              ∙ ap (page_where name) there ∙ deck_page name bytes deck so);
+          other = if_some contents (λ known. (deck : Deck) → ¬ IsDeckPage name bytes deck)
+              (λ known so deck is_deck.
+              undecked deck (sym (is known so) ∙ page_of-judged name known
+              ∙ ap (page_where name)
+              (sym (some_fact contents (λ all. Some bytes ≡ page_named name all) known so there))
+              ∙ deck_page name bytes deck is_deck));
         })

@@ -1,6 +1,7 @@
 -- What `make` writes on the made folder of a number: how many pages it has, how many of them are
--- accepted, how many lines a session over it shows, and the sum that the session leaves. This
--- project's own.
+-- accepted, how many lines a session over it shows, and the sum that the session leaves. Its pages
+-- are those that its bytes are by their relations, and a source of a script means what its program
+-- means. This project's own.
 use Rattle.std.specs.Prelude.{◌≡◌, ◌≢◌, ◌⊎◌, ℕ, ◌≤◌, Bool, true, false, nat_eq, if◌then◌else◌}
 use Rattle.std.specs.Prelude.{List, [], ◌∷◌, ◌++◌, length, filter, replicate, drop, codes, decimal}
 use Rattle.std.specs.Prelude.{encode_utf8_all}
@@ -12,35 +13,35 @@ use Rattle.wap_devices.specs.Sinks.{SinkSeen}
 use Rattle.wap_devices.specs.Transfer.{Appends, AppendsPrefix}
 use Rattle.wap_base.specs.declared.key.Key.{Key}
 use Rattle.wap_base.specs.declared.key.Key.TheVariants.{Do, Vars}
-use Rattle.wap_world.specs.site.Pages.{Pages, page_of}
-use Rattle.wap_world.specs.declared.site.page.Page.{Page}
-use Rattle.wap_world.specs.declared.site.page.Page.TheVariants as page
-use Rattle.wap_pages.specs.Judged.{judged}
+use Rattle.wap_world.specs.Shelves.{Shelved, deck_page, script_page, text_page, refused_page}
+use Rattle.wap_world.specs.Shelves.{no_page}
 use Rattle.wap_make.specs.Folders.{folder, deck_count}
 use Rattle.wap_keys.specs.declared.words.numbers.TheConstants.{DEFAULT_SEED, DEFAULT_BUDGET}
 use Rattle.wap_world.specs.Sites.{Site}
 use Rattle.wap_world.specs.Sessions.{Begun, session, shown_by}
-use Rattle.wap_world.specs.scripting.UnitSites.{unit_pages}
-use Rattle.wap_context.specs.Sites.{site_of}
+use Rattle.wap_site_laws.specs.pages.SourcePages.{ArePages}
+use Rattle.wap_cli.specs.Browsing.{PagesAndCalls, site_over}
+use Rattle.wap_cli.specs.Calls.{ReadsCalls}
 use Rattle.wap_cli.specs.declared.status.Status.{Status}
 use Rattle.wap_cli.specs.declared.status.Status.TheVariants.{Done, WriteFault, NoMemory}
 
 -- ---- pages
 
--- the pages of the folder, as a browser judges them
-abbrev pub made_pages : ℕ → Pages
-made_pages n = judged (folder n)
+-- the folder is these pages, and fragments call what they spell
+abbrev pub AreMade : ℕ → PagesAndCalls → Type 0
+AreMade n one = ArePages (folder n) one.pages × ReadsCalls one.call
 
-abbrev pub is_accepted : Page → Bool
-is_accepted (page.Deck deck) = true
-is_accepted (page.Script unit) = true
-is_accepted (page.Words text) = true
-is_accepted page.Refused = false
-is_accepted page.Missing = false
+-- whether a page stands there that is accepted
+abbrev pub is_accepted_there : Shelved → Bool
+is_accepted_there (deck_page deck) = true
+is_accepted_there (script_page entrance) = true
+is_accepted_there (text_page text) = true
+is_accepted_there refused_page = false
+is_accepted_there no_page = false
 
 -- those of these names whose pages are accepted
-abbrev pub accepted_in : Pages → List (List ℕ) → List (List ℕ)
-accepted_in pages names = filter (λ name. is_accepted (page_of name pages)) names
+abbrev pub accepted_over : Site → List (List ℕ) → List (List ℕ)
+accepted_over site names = filter (λ name. is_accepted_there (site.shelf name)) names
 
 -- ---- the session
 
@@ -69,18 +70,14 @@ made_keys n = replicate (deck_count n) onward
 abbrev pub lines_of : Site → List Key → List (List ℕ)
 lines_of site keys = shown_by (session site made_begun keys)
 
--- the site of the folder
-abbrev pub made_site : ℕ → Site
-made_site n = site_of (unit_pages (made_pages n))
-
--- the lines over the folder
-abbrev pub made_lines : ℕ → List (List ℕ)
-made_lines n = lines_of (made_site n) (made_keys n)
+-- the lines over the folder, which has this site
+abbrev pub made_lines : ℕ → Site → List (List ℕ)
+made_lines n site = lines_of site (made_keys n)
 
 -- what one key more shows, which asks for the variables
-abbrev pub made_variables : ℕ → List (List ℕ)
-made_variables n =
-    drop (length (made_lines n)) (lines_of (made_site n) (made_keys n ++ Vars ∷ []))
+abbrev pub made_variables : ℕ → Site → List (List ℕ)
+made_variables n site =
+    drop (length (made_lines n site)) (lines_of site (made_keys n ++ Vars ∷ []))
 
 -- the beginning of the line of the variable that the script sets
 abbrev pub sum_mark : List ℕ
@@ -99,18 +96,22 @@ value_in (line ∷ lines) =
 abbrev pub made_line : List ℕ → List ℕ → List ℕ
 made_line word text = word ++ (codes " " ++ (text ++ codes "\n"))
 
-abbrev pub made_report : ℕ → List ℕ
-made_report n =
+abbrev pub made_report : ℕ → Site → List ℕ
+made_report n site =
     made_line (codes "pages") (decimal (length (folder n)))
-    ++ (made_line (codes "ok") (decimal (length (accepted_in (made_pages n) (names_of (folder n)))))
-    ++ (made_line (codes "lines") (decimal (length (made_lines n)))
-    ++ made_line (codes "t") (value_in (made_variables n))))
+    ++ (made_line (codes "ok") (decimal (length (accepted_over site (names_of (folder n)))))
+    ++ (made_line (codes "lines") (decimal (length (made_lines n site)))
+    ++ made_line (codes "t") (value_in (made_variables n site))))
+
+-- what there is to be written, by whatever pages the folder is
+abbrev pub TellsMade : ℕ → (List ℕ → Type 0) → Type 0
+TellsMade n Wrote = (one : PagesAndCalls) → AreMade n one → Wrote (made_report n (site_over one))
 
 -- the sink, before and after, and how it ended
 pub record Makes (n : ℕ) (sink sink_after : SinkSeen) (status : Status) : Type 0 where
   -- on Done the lines were written, and where the sink failed, a prefix of them
-  pub done : status ≡ Done → Appends sink.written sink_after.written (made_report n)
-  pub prefix : status ≡ WriteFault → AppendsPrefix sink.written sink_after.written (made_report n)
+  pub done : status ≡ Done → TellsMade n (Appends sink.written sink_after.written)
+  pub prefix : status ≡ WriteFault → TellsMade n (AppendsPrefix sink.written sink_after.written)
   -- and else nothing
   pub unwritten : status ≢ Done → status ≢ WriteFault → sink_after ≡ sink
   pub ends : (status ≡ Done) ⊎ (status ≡ WriteFault) ⊎ (status ≡ NoMemory)

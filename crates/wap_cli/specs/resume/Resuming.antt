@@ -23,6 +23,8 @@ use Rattle.wap_world.specs.Steps.{Step}
 use Rattle.wap_state.specs.Saved.{saved_world}
 use Rattle.wap_context.specs.Saved.{with_last_in, asked_for}
 use Rattle.wap_context.specs.Sites.{site_of}
+use Rattle.wap_cli.specs.Answers.{IsPageOf}
+use Rattle.wap_cli.specs.Memory.{is_of_memory}
 use Rattle.wap_cli.specs.declared.status.Status.{Status}
 use Rattle.wap_cli.specs.declared.status.Status.TheVariants.{Done, Usage, Refused, StoreFault}
 use Rattle.wap_cli.specs.declared.status.Status.TheVariants.{KeyReadFault, WriteFault, NoMemory}
@@ -68,41 +70,45 @@ abbrev pub HasDeck : Contents → ContextParts → Type 0
 HasDeck contents parts =
     IfSome (last_entry (saved_world parts)) (λ entry. IsDeckThere contents (name_for entry.url))
 
--- a page with these bytes is accepted, and no deck
-pub record IsNoDeck (name bytes : List ℕ) : Type 0 where
+-- a page with these bytes is accepted, and it is no deck where the contents are known: else the
+-- store may have answered another page before
+pub record IsNoDeck (contents : Option Contents) (name bytes : List ℕ) : Type 0 where
   pub accepted : (why : PageFault) → ¬ Refuses name bytes why
-  pub other : (deck : Deck) → ¬ IsDeckPage name bytes deck
+  pub other : IfSome contents (λ pages. (deck : Deck) → ¬ IsDeckPage name bytes deck)
 
--- there is no deck under this name, for this cause
-pub data IsDeckless (contents : Contents) (name : List ℕ) : PageFault → Type 0 where
-  missing : page_named name contents ≡ None → IsDeckless contents name Missing
-  refused : (bytes : List ℕ) (why : PageFault) → page_named name contents ≡ Some bytes
+-- there is no deck under this name, for this cause, which some page has: that of the name where the
+-- contents are known
+pub data IsDeckless (contents : Option Contents) (name : List ℕ) : PageFault → Type 0 where
+  missing : IsPageOf contents name None → IsDeckless contents name Missing
+  refused : (bytes : List ℕ) (why : PageFault) → IsPageOf contents name (Some bytes)
       → Refuses name bytes why → IsDeckless contents name why
-  other : (bytes : List ℕ) → page_named name contents ≡ Some bytes → IsNoDeck name bytes
+  other : (bytes : List ℕ) → IsPageOf contents name (Some bytes) → IsNoDeck contents name bytes
       → IsDeckless contents name NotDeck
 
 -- the current card has no deck there, for this cause
-pub record LacksDeck (contents : Contents) (parts : ContextParts) (why : PageFault) : Type 0 where
-  pub name : List ℕ
-  pub asked : asked_for parts ≡ (name, false) ∷ []
-  pub deckless : IsDeckless contents name why
+pub record LacksDeck (contents : Option Contents) (parts : ContextParts) (why : PageFault) : Type 0
+  where
+    pub name : List ℕ
+    pub asked : asked_for parts ≡ (name, false) ∷ []
+    pub deckless : IsDeckless contents name why
 
 -- ---- what is there under a name, and why nothing is
 
--- this was saved there, and its current card has its deck
-pub record IsThere (contents : Contents) (name : List ℕ) (saved : Saved) : Type 0 where
+-- this was saved there, by the bytes of some page, which is that of the name where the contents are
+-- known; then its current card has its deck
+pub record IsThere (contents : Option Contents) (name : List ℕ) (saved : Saved) : Type 0 where
   pub bytes : List ℕ
-  pub page : page_named name contents ≡ Some bytes
+  pub page : IsPageOf contents name (Some bytes)
   pub image : IsImage bytes saved
-  pub deck : HasDeck contents saved.0
+  pub deck : IfSome contents (λ pages. HasDeck pages saved.0)
 
--- nothing is begun with what is there, for this cause
-pub data Hinders (contents : Contents) (name : List ℕ) : PageFault → Type 0 where
-  missing : page_named name contents ≡ None → Hinders contents name Missing
-  refused : (bytes : List ℕ) (why : ImageFault) → page_named name contents ≡ Some bytes
+-- nothing is begun with what is there, for this cause, which some page has in the same way
+pub data Hinders (contents : Option Contents) (name : List ℕ) : PageFault → Type 0 where
+  missing : IsPageOf contents name None → Hinders contents name Missing
+  refused : (bytes : List ℕ) (why : ImageFault) → IsPageOf contents name (Some bytes)
       → IsRefused bytes why → Hinders contents name (Image why)
   deckless : (bytes : List ℕ) (saved : Saved) (why : PageFault)
-      → page_named name contents ≡ Some bytes → IsImage bytes saved
+      → IsPageOf contents name (Some bytes) → IsImage bytes saved
       → LacksDeck contents saved.0 why → Hinders contents name why
 
 -- ---- where nothing is begun
@@ -121,12 +127,10 @@ EndsUnbegun OpenDialog = ⊥
 EndsUnbegun TooManyKeys = ⊥
 
 -- nothing was begun, for one of these causes: no key was read, and nothing written
-pub record Unbegun (Cause : Contents → PageFault → Type 0) (old new : Outside) (status : Status)
-    : Type 0 where
+pub record Unbegun (Cause : PageFault → Type 0) (old new : Outside) (status : Status) : Type 0 where
   pub ends : EndsUnbegun status
-  -- Refused has its cause, where the contents of the store are known
-  pub refused : (fault : PageFault) → status ≡ Refused fault
-      → IfSome old.pages.behind (λ contents. Cause contents fault)
+  -- Refused has its cause
+  pub refused : (fault : PageFault) → status ≡ Refused fault → Cause fault
   -- StoreFault comes only where the count of faults rose, and no fault is passed over
   pub store_fault : status ≡ StoreFault → Rose old.pages.faults new.pages.faults
   pub steady : status ≢ StoreFault → status ≢ NoMemory → new.pages.faults ≡ old.pages.faults
@@ -147,12 +151,14 @@ pub record Resumes {P : Type 0} (Are : P → Type 0) (site : P → Site) (name :
     (old new : Outside) (status : Status) : Type 0 where
   -- with this it goes on, if it does: with what is there under the name
   pub saved : Option Saved
-  pub is : IfSome old.pages.behind (λ contents. IfSome saved (IsThere contents name))
+  pub is : IfSome saved (IsThere old.pages.behind name)
   -- then its keys are read and played, once the image was fetched
   pub goes_on : IfSome saved (λ one. Browses Are
       (λ pages. resumed_at one.0 one.1 (site pages)) (asked_once old) new status)
   -- else nothing is begun
-  pub stops : saved ≡ None → Unbegun (λ contents. Hinders contents name) old new status
+  pub stops : saved ≡ None → Unbegun (Hinders old.pages.behind name) old new status
+  -- out of memory is no reason to refuse
+  pub of_reason : (fault : PageFault) → status ≡ Refused fault → is_of_memory fault ≡ false
 
 -- the same over the pages that are seen
 abbrev pub ResumesSeen : List ℕ → Outside → Outside → Status → Type 0

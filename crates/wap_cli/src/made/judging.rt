@@ -2,7 +2,7 @@
 ghost use Rattle.std.specs.Prelude.{◌≡◌, ◌≤◌, ◌∷◌, [], if◌then◌else◌};
 ghost use Rattle.std.specs.Prelude.{IfOk, IfSome, OnOk, length};
 ghost use Rattle.wap_base.specs.Contents.{names_of};
-ghost use Rattle.wap_cli.specs.made.Making.{is_accepted, accepted_in};
+ghost use Rattle.wap_cli.specs.made.inside.Counting.{is_accepted, accepted_in};
 
 use std::alloc::Global;
 use wap_base::{Bytes, NoMemory, RunErr, Text};

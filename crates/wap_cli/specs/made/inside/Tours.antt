@@ -4,12 +4,24 @@ use Rattle.wap_base.specs.Contents.{names_of}
 use Rattle.wap_base.specs.declared.key.Key.{Key}
 use Rattle.wap_base.specs.declared.key.Key.TheVariants.{Vars}
 use Rattle.wap_make.specs.Folders.{folder}
+use Rattle.wap_pages.specs.Judged.{judged}
+use Rattle.wap_world.specs.site.Pages.{Pages}
 use Rattle.wap_world.specs.Sites.{Site}
 use Rattle.wap_world.specs.Sessions.{played, shown_by, world_of}
+use Rattle.wap_world.specs.scripting.UnitSites.{unit_pages}
+use Rattle.wap_context.specs.Sites.{site_of}
 use Rattle.wap_cli.specs.declared.made.playing.Played.{Played}
 use Rattle.wap_cli.specs.declared.made.making.Tour.{Tour}
-use Rattle.wap_cli.specs.made.Making.{made_begun, made_pages, made_lines, made_variables}
-use Rattle.wap_cli.specs.made.Making.{accepted_in, value_in, made_line}
+use Rattle.wap_cli.specs.made.Making.{made_begun, made_lines, made_variables}
+use Rattle.wap_cli.specs.made.Making.{accepted_over, value_in, made_line}
+
+-- the pages of the folder, as a browser judges them
+abbrev pub made_pages : ℕ → Pages
+made_pages n = judged (folder n)
+
+-- and their site
+abbrev pub made_site : ℕ → Site
+made_site n = site_of (unit_pages (made_pages n))
 
 -- the lines of keys from the beginning
 abbrev pub lines_by : Site → List Key → List (List ℕ)
@@ -24,9 +36,9 @@ pub record IsPlayed (site : Site) (keys : List Key) (came : Played) : Type 0 whe
 -- it is that of the folder of this number
 pub record IsTour (n : ℕ) (tour : Tour) : Type 0 where
   pub pages : tour.pages ≡ length (folder n)
-  pub accepted : tour.accepted ≡ length (accepted_in (made_pages n) (names_of (folder n)))
-  pub lines : tour.played.lines ≡ length (made_lines n)
-  pub sum : tour.played.sum.items ≡ value_in (made_variables n)
+  pub accepted : tour.accepted ≡ length (accepted_over (made_site n) (names_of (folder n)))
+  pub lines : tour.played.lines ≡ length (made_lines n (made_site n))
+  pub sum : tour.played.sum.items ≡ value_in (made_variables n (made_site n))
 
 -- the lines on it
 abbrev pub report_of : Tour → List ℕ

@@ -1,7 +1,8 @@
 -- Fetching what was saved, and finding the deck of its current card. This project's own.
-use Rattle.std.specs.Prelude.{◌≡◌, ◌≢◌, ◌⊎◌, ◌≤◌, ℕ, List, Some, None, IfSome, Result, IfOk, IfErr, OnOk}
+use Rattle.std.specs.Prelude.{◌≡◌, ◌≢◌, ◌⊎◌, ◌≤◌, ℕ, List, Option, Some, None, IfSome, Result}
+use Rattle.std.specs.Prelude.{IfOk, IfErr, OnOk}
 use Rattle.wap_base.specs.Count.{raised, Rose}
-use Rattle.wap_base.specs.Contents.{Contents, names_of, page_named}
+use Rattle.wap_base.specs.Contents.{Contents, names_of}
 use Rattle.wap_base.specs.Texts.{AreDistinct}
 use Rattle.wap_devices.specs.Stores.{StoreSeen}
 use Rattle.wap_image.specs.declared.context_parts.fault.ImageFault.{ImageFault}
@@ -11,6 +12,7 @@ use Rattle.wap_image.specs.Refusal.{IsRefused}
 use Rattle.wap_pages.specs.declared.fault.PageFault.{PageFault}
 use Rattle.wap_pages.specs.declared.fault.PageFault.TheVariants.{Missing, Image, NotDeck}
 use Rattle.wap_pages.specs.Judged.{Refuses}
+use Rattle.wap_cli.specs.Answers.{IsPageOf}
 use Rattle.wap_cli.specs.declared.status.Status.{Status}
 use Rattle.wap_cli.specs.declared.status.Status.TheVariants.{Refused, StoreFault, NoMemory}
 use Rattle.wap_cli.specs.browse.Outside.{Outside}
@@ -33,11 +35,10 @@ pub record IsFetched (before after : StoreSeen) : Type 0 where
   pub counts : before.faults ≤ after.faults
 
 -- that gave nothing, for one of these causes
-pub record GivesNone (Cause : Contents → PageFault → Type 0) (before after : StoreSeen)
-    (status : Status) : Type 0 where
+pub record GivesNone (Cause : PageFault → Type 0) (before after : StoreSeen) (status : Status)
+    : Type 0 where
   pub ends : EndsUnbegun status
-  pub refused : (fault : PageFault) → status ≡ Refused fault
-      → IfSome before.contents (λ contents. Cause contents fault)
+  pub refused : (fault : PageFault) → status ≡ Refused fault → Cause fault
   pub failed : status ≡ StoreFault → Rose before.faults after.faults
   pub steady : status ≢ StoreFault → status ≢ NoMemory → after.faults ≡ before.faults
 
@@ -51,11 +52,11 @@ IsUnread bytes status = (status ≡ NoMemory)
 -- what was saved under a name is fetched, or why there is nothing
 pub record Loads (name : List ℕ) (before after : StoreSeen) (result : Result Saved Status) : Type 0
   where
-    pub found : IfOk result (λ saved. IfSome before.contents (λ contents.
-        (bytes : List ℕ) × (page_named name contents ≡ Some bytes) × IsImage bytes saved))
+    pub found : IfOk result (λ saved. (bytes : List ℕ)
+        × IsPageOf before.contents name (Some bytes) × IsImage bytes saved)
     pub rules : IfOk result (λ saved. MayBeSaved saved.0 saved.1)
     pub steady : OnOk result (after.faults ≡ before.faults)
-    pub none : IfErr result (GivesNone (λ contents. Hinders contents name) before after)
+    pub none : IfErr result (GivesNone (Hinders before.contents name) before after)
     pub fetched : IsFetched before after
 
 -- ---- the deck of the current card
@@ -67,16 +68,16 @@ IsDeckFault name bytes status = (status ≡ NoMemory)
     ⊎ ((status ≡ Refused NotDeck) × ((why : PageFault) → ¬ Refuses name bytes why))
 
 -- why the page of a name is refused where it is no deck: unlike for a deck, it may be accepted
-pub data IsCause (contents : Contents) (name : List ℕ) : PageFault → Type 0 where
-  missing : page_named name contents ≡ None → IsCause contents name Missing
-  refused : (bytes : List ℕ) (why : PageFault) → page_named name contents ≡ Some bytes
+pub data IsCause (contents : Option Contents) (name : List ℕ) : PageFault → Type 0 where
+  missing : IsPageOf contents name None → IsCause contents name Missing
+  refused : (bytes : List ℕ) (why : PageFault) → IsPageOf contents name (Some bytes)
       → Refuses name bytes why → IsCause contents name why
-  accepted : (bytes : List ℕ) → page_named name contents ≡ Some bytes
+  accepted : (bytes : List ℕ) → IsPageOf contents name (Some bytes)
       → ((why : PageFault) → ¬ Refuses name bytes why) → IsCause contents name NotDeck
 
 -- the page of a name is fetched anew, and judged for why it is no deck
 pub record RefusesDeck (name : List ℕ) (before after : StoreSeen) (status : Status) : Type 0 where
-  pub none : GivesNone (λ contents. IsCause contents name) before after status
+  pub none : GivesNone (IsCause before.contents name) before after status
   pub fetched : IsFetched before after
 
 -- ---- all of it
@@ -86,4 +87,4 @@ abbrev pub Continues : Saved → Outside → Outside → Status → Type 0
 Continues saved old new status =
     (IfSome old.pages.behind (λ contents. HasDeck contents saved.0)
     × BrowsesSeen (resumed saved.0 saved.1) old new status)
-    ⊎ Unbegun (λ contents. LacksDeck contents saved.0) old new status
+    ⊎ Unbegun (LacksDeck old.pages.behind saved.0) old new status

@@ -1,6 +1,6 @@
 use Rattle.std.proofs.Common.{◌≡◌, ◌≤◌, take, length}
 use Rattle.std.specs.Prelude.{IfSome}
-use Rattle.wap_cli.specs.made.Making.{accepted_in}
+use Rattle.wap_cli.specs.made.inside.Counting.{accepted_in}
 use Rattle.wap_cli.proofs.made.judging.count_accepted.Given as goal
 
 -- the pages of the first names were counted
