@@ -1,0 +1,14 @@
+//! Decks as indented text, the way to an element by its names, and what of a deck isn't good, in
+//! words.
+
+mod earlier;
+mod faults;
+mod names;
+mod order;
+mod tree;
+mod values;
+mod way;
+
+pub(crate) use faults::add_deck_words;
+pub(crate) use names::last_path;
+pub(crate) use tree::add_deck;

@@ -1,0 +1,146 @@
+//! A deck as indented text.
+use crate::decks::names::name_of_tag;
+use crate::pieces::{add_all, add_spaces, begin_line, shown};
+use wap_base::{Conv, NoMemory, Part, Text};
+use wap_tokens::markup::{Deck, Item, LEVEL_LIMIT, Node};
+use wap_tokens::name_of_attr;
+
+/// Adds a character as WML's text has it.
+fn add_character(out: &mut Text, character: char) -> Result<(), NoMemory> {
+    match character {
+        '&' => out.add("&amp;"),
+        '<' => out.add("&lt;"),
+        '>' => out.add("&gt;"),
+        '"' => out.add("&quot;"),
+        '$' => out.add("$$"),
+        _ => out.push(shown(character)),
+    }
+}
+
+fn add_characters(out: &mut Text, text: &str) -> Result<(), NoMemory> {
+    for character in text.chars() {
+        add_character(out, character)?;
+    }
+    Ok(())
+}
+
+fn add_part(out: &mut Text, part: &Part) -> Result<(), NoMemory> {
+    match part {
+        Part::Lit(text) => add_characters(out, text.as_str()),
+        Part::Var(name, conv) => {
+            let end = match conv {
+                Conv::Escape => ":escape)",
+                Conv::Unescape => ":unesc)",
+                Conv::Plain => ")",
+            };
+            add_all(out, &["$(", name.text().as_str(), end])
+        }
+    }
+}
+
+/// Adds a value, references to variables as `$(name)`.
+pub(crate) fn add_value(out: &mut Text, parts: &[Part]) -> Result<(), NoMemory> {
+    for part in parts {
+        add_part(out, part)?;
+    }
+    Ok(())
+}
+
+fn add_attributes(out: &mut Text, node: &Node) -> Result<(), NoMemory> {
+    for attr in node.attrs.as_slice() {
+        add_all(out, &[" ", name_of_attr(attr.0), "=\""])?;
+        add_value(out, attr.1.as_slice())?;
+        out.add("\"")?;
+    }
+    Ok(())
+}
+
+/// The rest of a way that leads through the child at a place.
+fn way_through<'a>(mark: Option<&'a [usize]>, place: usize) -> Option<&'a [usize]> {
+    match mark {
+        Some([first, rest @ ..]) if *first == place => Some(rest),
+        _ => None,
+    }
+}
+
+/// Begins a line so far inside, with a mark where the way ends.
+fn begin_inside(out: &mut Text, mark: Option<&[usize]>, levels: u32) -> Result<(), NoMemory> {
+    begin_line(out, matches!(mark, Some([])))?;
+    for _ in levels..LEVEL_LIMIT {
+        out.add("  ")?;
+    }
+    Ok(())
+}
+
+/// Whether a text has blanks alone.
+fn is_blank(parts: &[Part]) -> bool {
+    match parts {
+        [Part::Lit(text)] => text.as_str().trim().is_empty(),
+        _ => false,
+    }
+}
+
+fn add_words(
+    out: &mut Text,
+    mark: Option<&[usize]>,
+    levels: u32,
+    parts: &[Part],
+) -> Result<(), NoMemory> {
+    if is_blank(parts) {
+        return Ok(());
+    }
+    begin_inside(out, mark, levels)?;
+    add_value(out, parts)?;
+    out.add("\n")
+}
+
+/// Adds a node of so many levels.
+#[cycle(nodes)]
+fn add_node(
+    out: &mut Text,
+    mark: Option<&[usize]>,
+    levels: u32,
+    node: &Node,
+) -> Result<(), NoMemory> {
+    if levels == 0 {
+        return Ok(());
+    }
+    let name = name_of_tag(node.tag);
+    begin_inside(out, mark, levels)?;
+    add_all(out, &["<", name])?;
+    add_attributes(out, node)?;
+    if node.kids.is_empty() {
+        return out.add("/>\n");
+    }
+    out.add(">\n")?;
+    add_items(out, mark, levels - 1, node.kids.as_slice())?;
+    begin_inside(out, None, levels)?;
+    add_all(out, &["</", name, ">\n"])
+}
+
+/// Adds items, their nodes of so many levels.
+#[cycle(nodes)]
+fn add_items(
+    out: &mut Text,
+    mark: Option<&[usize]>,
+    levels: u32,
+    items: &[Item],
+) -> Result<(), NoMemory> {
+    for (place, item) in items.iter().enumerate() {
+        let inner = way_through(mark, place);
+        match item {
+            Item::Text(parts) => add_words(out, inner, levels, parts.as_slice())?,
+            Item::Node(node) => add_node(out, inner, levels, node)?,
+        }
+    }
+    Ok(())
+}
+
+/// Adds a deck, an element or text a line, with a mark at the end of a way, if there is one.
+pub(crate) fn add_deck(
+    out: &mut Text,
+    deck: &Deck,
+    mark: Option<&[usize]>,
+) -> Result<(), NoMemory> {
+    add_node(out, mark, LEVEL_LIMIT, &deck.root)
+}
