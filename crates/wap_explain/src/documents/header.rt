@@ -38,6 +38,7 @@ fn identifier_name(number: u32) -> &'static str {
         6 => " (service loading)",
         7 => " (a cache operation)",
         8 => " (channels)",
+        4360 => " (Phone.com's WML 1.1)",
         _ => "",
     }
 }
