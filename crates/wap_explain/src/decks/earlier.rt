@@ -1,6 +1,6 @@
 //! The earlier element that has an id or a name.
 use crate::decks::names::{name_of_do, name_of_tag, node_at, plain_value};
-use crate::decks::way::add_way;
+use crate::decks::way::{add_numbered_way, add_way};
 use crate::pieces::{add_all, add_shown};
 use std::alloc::Global;
 use wap_base::{NoMemory, Rows, Text};
@@ -66,7 +66,7 @@ fn add_card_words(out: &mut Text, root: &Node, id: &str) -> Result<(), NoMemory>
     add_shown(out, id)?;
     out.add("\": ")?;
     if let Some(place) = find_card(root.kids.as_slice(), id) {
-        add_way(out, root, &[place])?;
+        add_numbered_way(out, root, place)?;
     }
     out.add("\nIds of cards have to differ.\n")
 }

@@ -21,6 +21,23 @@ fn count_same(items: &[Item], tag: Tag, place: usize) -> (usize, usize) {
     (all, own)
 }
 
+/// Adds an element's number among those of its name.
+fn add_number(out: &mut Text, number: usize) -> Result<(), NoMemory> {
+    out.add("[")?;
+    out.add_number(number as u64)?;
+    out.add("]")
+}
+
+/// Adds the way to a child of the root by its name and number.
+pub(crate) fn add_numbered_way(out: &mut Text, root: &Node, place: usize) -> Result<(), NoMemory> {
+    let items = root.kids.as_slice();
+    let Some(Item::Node(node)) = items.get(place) else {
+        return Ok(());
+    };
+    add_all(out, &[name_of_tag(root.tag), " / ", name_of_tag(node.tag)])?;
+    add_number(out, count_same(items, node.tag, place).1)
+}
+
 /// Adds an element's name, with its id or else its number among those of its name.
 fn add_node_step(
     out: &mut Text,
@@ -38,9 +55,7 @@ fn add_node_step(
     if all < 2 {
         return Ok(());
     }
-    out.add("[")?;
-    out.add_number(own as u64)?;
-    out.add("]")
+    add_number(out, own)
 }
 
 /// Adds the way from the root, as `wml / card "a" / p[2]`.

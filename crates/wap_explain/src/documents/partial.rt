@@ -49,7 +49,7 @@ fn place_of(fault: DocFault) -> Option<usize> {
 }
 
 /// The deck of bytes, or where their reading stopped.
-fn attempt(alloc: Global, bytes: &[u8]) -> Result<Attempt, NoMemory> {
+fn read_cut(alloc: Global, bytes: &[u8]) -> Result<Attempt, NoMemory> {
     match deck_in(alloc, bytes) {
         Ok(deck) => Ok(Attempt::Read(deck)),
         Err(PageErr::NoMemory) => Err(NoMemory),
@@ -68,7 +68,7 @@ pub(crate) fn deck_as_wml(alloc: Global, bytes: &[u8]) -> Result<Option<Deck>, N
     };
     let mut changed = Bytes::of(alloc, &[*version, WML_1_1 as u8])?;
     changed.add(rest)?;
-    match attempt(alloc, changed.as_slice())? {
+    match read_cut(alloc, changed.as_slice())? {
         Attempt::Read(deck) => Ok(Some(deck)),
         Attempt::Stopped(_) | Attempt::Failed => Ok(None),
     }
@@ -82,9 +82,9 @@ fn deck_before(
     in_string: bool,
 ) -> Result<Attempt, NoMemory> {
     let cut = cut_at(alloc, bytes, at, in_string)?;
-    match attempt(alloc, cut.as_slice())? {
+    match read_cut(alloc, cut.as_slice())? {
         Attempt::Stopped(end) if end >= at => {
-            attempt(alloc, cut.as_slice().get(..end).unwrap_or(&[]))
+            read_cut(alloc, cut.as_slice().get(..end).unwrap_or(&[]))
         }
         other => Ok(other),
     }

@@ -49,6 +49,16 @@ fn after_mark(mark: &str, in_block: bool) -> &'static str {
     }
 }
 
+/// Whether parameters begin at a token: behind `function`, a name and a parenthesis.
+fn begins_parameters(source: &[u8], tokens: &[Token], number: usize) -> bool {
+    match tokens.get(..number) {
+        Some([.., word, _, mark]) => {
+            text_of(source, word) == "function" && text_of(source, mark) == "("
+        }
+        _ => false,
+    }
+}
+
 /// What may follow a token, or begin a program where there is none.
 fn after(source: &[u8], before: Option<&Token>, in_block: bool) -> &'static str {
     let Some(token) = before else {
@@ -62,6 +72,16 @@ fn after(source: &[u8], before: Option<&Token>, in_block: bool) -> &'static str 
     }
 }
 
+/// Whether a reserved word begins a statement, a function or a pragma, or stands in expressions.
+fn has_use(word: &str) -> bool {
+    match word {
+        "var" | "if" | "else" | "while" | "for" | "return" | "break" | "continue" => true,
+        "function" | "extern" | "use" | "div" | "typeof" | "isvalid" => true,
+        "true" | "false" | "invalid" => true,
+        _ => false,
+    }
+}
+
 /// Adds what stands at the place.
 fn add_token(out: &mut Text, source: &[u8], token: Option<&Token>) -> Result<(), NoMemory> {
     let Some(token) = token else {
@@ -70,7 +90,7 @@ fn add_token(out: &mut Text, source: &[u8], token: Option<&Token>) -> Result<(),
     let text = text_of(source, token);
     add_all(out, &[text, " can't stand here.\n"])?;
     match token.kind {
-        Kind::Reserved => add_all(
+        Kind::Reserved if !has_use(text) => add_all(
             out,
             &[
                 text,
@@ -104,9 +124,11 @@ pub(crate) fn add_syntax_words(
             &["After ", text_of(source, token), " there may stand "],
         )?,
     }
-    add_all(
-        out,
-        &[after(source, before, is_in_block(source, open)), ".\n"],
-    )?;
+    let expected = if begins_parameters(source, tokens, number) {
+        "the name of a parameter or )"
+    } else {
+        after(source, before, is_in_block(source, open))
+    };
+    add_all(out, &[expected, ".\n"])?;
     add_innermost(out, source, open)
 }

@@ -87,7 +87,12 @@ pub(crate) fn add_lines_around(
     to: usize,
 ) -> Result<(), NoMemory> {
     let place = place_of(source, from);
-    for (index, line) in source.split(|byte| *byte == b'\n').enumerate() {
+    let text = if from < source.len() {
+        source.strip_suffix(b"\n").unwrap_or(source)
+    } else {
+        source
+    };
+    for (index, line) in text.split(|byte| *byte == b'\n').enumerate() {
         let number = index.saturating_add(1);
         let is_near = number.saturating_add(AROUND) >= place.line
             && number <= place.line.saturating_add(AROUND);

@@ -75,7 +75,7 @@ fn add_arguments(
     let Some(token) = first_named(source, names, name) else {
         return out.add("A function of another unit takes 255 arguments at most.\n");
     };
-    add_all(out, &[name, " takes another number of arguments: "])?;
+    add_all(out, &[name, " takes "])?;
     let count = parameter_count(source, tokens, token.from as usize);
     out.add_number(count as u64)?;
     out.add(".\n")?;
@@ -104,7 +104,8 @@ fn fault_words(fault: ScopeFault) -> &'static str {
         ScopeFault::TwoVariables { .. } => " is a variable of this function already.\n",
         ScopeFault::NoFunction { .. } => " is no function of this source.\n",
         ScopeFault::TwoFunctions { .. } => " is the name of an earlier function.\n",
-        ScopeFault::Arguments { .. } => " is called with a number of arguments that it lacks.\n",
+        ScopeFault::Arguments { .. } =>
+            " is called with another number of arguments than it takes.\n",
         ScopeFault::NoUnit { .. } => " is no name of a unit: use url NAME \"URL\" makes one.\n",
         ScopeFault::TwoUnits { .. } => " names a unit already.\n",
         ScopeFault::NoLibrary { .. } => " is no library, or has no such function.\n",

@@ -2,7 +2,7 @@
 use crate::pieces::begin_line;
 use crate::units::kept::nothing_kept;
 use crate::units::notes::add_note;
-use crate::units::places::{Part, code_of, first_line, instruction_at, read_line};
+use crate::units::places::{Part, code_of, first_line, instruction_at, is_of_byte, read_line};
 use std::alloc::Global;
 use std::str;
 use wap_base::{Bytes, NoMemory, Text};
@@ -22,6 +22,20 @@ fn listing_of(alloc: Global, unit: &Unit) -> Result<Bytes, NoMemory> {
     }
 }
 
+/// Adds what the operands of the instruction name that a line shows.
+fn add_note_of(out: &mut Text, unit: &Unit, line: &str, part: Part) -> Result<(), NoMemory> {
+    let Part::Code(function, at) = part else {
+        return Ok(());
+    };
+    if is_of_byte(line) {
+        return Ok(());
+    }
+    match instruction_at(code_of(unit, function), at) {
+        Some((row, instr)) => add_note(out, unit, &row, &instr, at),
+        None => Ok(()),
+    }
+}
+
 /// Adds a line, and behind it what the operands of its instruction name.
 fn add_line(
     out: &mut Text,
@@ -32,11 +46,7 @@ fn add_line(
 ) -> Result<(), NoMemory> {
     begin_line(out, marked)?;
     out.add(line)?;
-    if let Part::Code(function, at) = part {
-        if let Some((row, instr)) = instruction_at(code_of(unit, function), at) {
-            add_note(out, unit, &row, &instr, at)?;
-        }
-    }
+    add_note_of(out, unit, line, part)?;
     out.add("\n")
 }
 

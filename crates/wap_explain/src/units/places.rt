@@ -53,6 +53,22 @@ pub(crate) fn code_of(unit: &Unit, function: usize) -> &[u8] {
     }
 }
 
+/// Whether a line of code shows a byte that is of no instruction.
+pub(crate) fn is_of_byte(line: &str) -> bool {
+    line.contains(" BYTE ")
+}
+
+/// The place behind the one that a line of code shows.
+fn next_at(code: &[u8], at: usize, line: &str) -> usize {
+    if is_of_byte(line) {
+        return at.saturating_add(1);
+    }
+    match instruction_at(code, at) {
+        Some((_, instr)) => instr.next,
+        None => at.saturating_add(1),
+    }
+}
+
 /// Goes on behind a line, and tells what it shows. A line of code begins with its place.
 pub(crate) fn read_line(reader: &mut Reader, unit: &Unit, line: &str) -> Part {
     if line.starts_with("pragma ") {
@@ -70,9 +86,6 @@ pub(crate) fn read_line(reader: &mut Reader, unit: &Unit, line: &str) -> Part {
     }
     let function = reader.functions - 1;
     let at = reader.at;
-    reader.at = match instruction_at(code_of(unit, function), at) {
-        Some((_, instr)) => instr.next,
-        None => at.saturating_add(1),
-    };
+    reader.at = next_at(code_of(unit, function), at, line);
     Part::Code(function, at)
 }

@@ -57,7 +57,9 @@ pub(crate) fn verify_words(fault: VerifyFault) -> &'static str {
         VerifyFault::LoneShort { .. } => {
             "A conditional jump forward has to follow right behind SCAND or SCOR."
         }
-        VerifyFault::Target { .. } => "It jumps to where no instruction begins.",
+        VerifyFault::Target { .. } => {
+            "It jumps to where no instruction begins. SCAND and SCOR are one with the jump behind."
+        }
         VerifyFault::Underflow { .. } => "It takes more values than there are here.",
         VerifyFault::Depths { .. } => "On two ways to here there are different numbers of values:",
         VerifyFault::NoMemory => "",
