@@ -20,17 +20,17 @@ use Rattle.wap_keys.specs.lists.Lists.{lists_at, lists_of, HasNoDivider, one_lis
 
 -- a test of what is not so fails
 fails : {P : Type 0} (test : Bool) → Decides test P → (P → ⊥) → test ≡ false
-fails true so no = absurd (no (so.0 refl))
-fails false so no = refl
+fails true so other = absurd (other (so.0 refl))
+fails false so other = refl
 
 -- a line that is no divider says what it says as a key line
 chosen : (long whole divides : Bool) (key : Result (Option Key) KeyFault) → divides ≡ false
     → cond long (said.Bad TooLong) (cond whole (cond divides said.Divider (said_of key))
     said.Nothing)
     ≡ said_of (cond long (Err TooLong) (cond whole key (Ok None)))
-chosen true whole divides key no = refl
-chosen false true divides key no = ap (λ (b : Bool). cond b said.Divider (said_of key)) no
-chosen false false divides key no = refl
+chosen true whole divides key is = refl
+chosen false true divides key is = ap (λ (b : Bool). cond b said.Divider (said_of key)) is
+chosen false false divides key is = refl
 
 -- it stands before one list as before the keys of that list
 before : (number : ℕ) (key : Result (Option Key) KeyFault) (keys : Keys)
