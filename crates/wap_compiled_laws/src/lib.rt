@@ -2,6 +2,8 @@
 //! mean, and the units of accepted sources do; they may be run, and can be written and read back.
 //!
 //! - `pieces`: Pieces of placed code do what parts of sources do.
+//! - `induction`: What holds of the pieces of code holds of the code of each expression and
+//!   statement.
 //! - `expressions`: Expressions of sources and their code agree.
 //! - `statements`: Statements of sources and their code agree.
 //! - `bodies`: The code of functions comes to what these mean.
