@@ -95,8 +95,9 @@ pub record IsUnread (start now : SourceSeen) (taken : List ℕ) (keys : List Key
   pub none_taken : taken ≡ []
   pub none_given : keys ≡ []
 
--- no read began once the last of these keys was there, or a line that is no key line, were it only
--- begun and too long already
+-- nothing was read; or when the last read began, each key that was there was among these, and no
+-- line that is no key line was there, were it only begun and too long already: no key waits for a
+-- read
 abbrev pub IsPrompt : SourceSeen → SourceSeen → List ℕ → List Key → Type 0
 IsPrompt start now taken keys = IsUnread start now taken keys ⊎ IsJustRead start now taken keys
 

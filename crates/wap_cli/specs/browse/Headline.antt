@@ -65,8 +65,8 @@ pub record Reads {P : Type 0} (Are : P → Type 0) (play : P → List Key → St
   -- one after the other these keys were given, the first that the whole lines among them say
   pub given : List Key
   pub first : AreFirst given (keys_among (rose old.source.ends new.source.ends) taken)
-  -- with any status, no read began once the last of them was there, or a line that is no key line,
-  -- were it only begun and too long already
+  -- with any status, when the last read began each key that was there was among these, and no line
+  -- that is no key line was there, were it only begun and too long already
   pub prompt : IsPrompt old.source new.source taken given
   -- where the store failed, or the sink, the last was handled before the next read began; or what
   -- is done before the first was, and nothing was read
