@@ -12,8 +12,8 @@ use Rattle.wap_grammar.specs.Lexemes.{lexemes_of}
 use Rattle.wap_grammar.specs.Programs.{IsProgram, Spells}
 use Rattle.wap_grammar.specs.Refusal.{IsPast}
 use Rattle.wap_grammar.specs.Depth.{IsFirstBelow}
-use Rattle.wap_grammar.specs.inside.Statements.{statement_at}
-use Rattle.wap_grammar.specs.inside.Programs.{program_at}
+use Rattle.wap_grammar.specs.reading.Statements.{statement_at}
+use Rattle.wap_grammar.specs.reading.Programs.{program_at}
 use Rattle.wap_grammar.specs.declared.program.program.Function.{Function}
 use Rattle.wap_grammar.specs.declared.program.program.Program.{Program}
 use Rattle.wap_scope.specs.declared.fault.ScopeFault.{ScopeFault}

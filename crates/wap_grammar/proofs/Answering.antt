@@ -8,8 +8,8 @@ use Rattle.wap_grammar.specs.declared.lexeme.Lexeme.{Lexeme}
 use Rattle.wap_grammar.specs.Programs.{IsProgram, Spells}
 use Rattle.wap_grammar.specs.Refusal.{IsPast}
 use Rattle.wap_grammar.specs.Depth.{IsFirstBelow}
-use Rattle.wap_grammar.specs.inside.Programs.{program_at}
-use Rattle.wap_grammar.specs.inside.Statements.{statement_at}
+use Rattle.wap_grammar.specs.reading.Programs.{program_at}
+use Rattle.wap_grammar.specs.reading.Statements.{statement_at}
 use Rattle.wap_grammar.proofs.Whole.{program_ok, program_again}
 use Rattle.wap_grammar.proofs.Below.{program_none, program_past, first_spelled}
 

@@ -21,10 +21,10 @@ use Rattle.wap_grammar.specs.Statements.{IsStatement}
 use Rattle.wap_grammar.specs.Programs.{IsProgram, Spells}
 use Rattle.wap_grammar.specs.Depth.{IsLate, IsExpressionOver, IsStatementOver}
 use Rattle.wap_grammar.specs.Depth.{IsProgramLate, IsFirstBelow}
-use Rattle.wap_grammar.specs.inside.TokenReading.{Reading, nested}
-use Rattle.wap_grammar.specs.inside.Expressions.{expression_at}
-use Rattle.wap_grammar.specs.inside.Statements.{Statements, statement_at}
-use Rattle.wap_grammar.specs.inside.Programs.{program_by, program_at}
+use Rattle.wap_grammar.specs.reading.TokenReading.{Reading, nested}
+use Rattle.wap_grammar.specs.reading.Expressions.{expression_at}
+use Rattle.wap_grammar.specs.reading.Statements.{Statements, statement_at}
+use Rattle.wap_grammar.specs.reading.Programs.{program_by, program_at}
 use Rattle.wap_grammar.proofs.Firsts.{Ends}
 use Rattle.wap_grammar.proofs.Items.{Reads}
 use Rattle.wap_grammar.proofs.Operands.{AllRead, AllStart}

@@ -8,8 +8,8 @@ use Rattle.wap_grammar.specs.declared.lexeme.Lexeme.{Lexeme}
 use Rattle.wap_grammar.specs.declared.word.Sign.TheVariants as signs
 use Rattle.wap_grammar.specs.Lexemes.{word_of, is_sign}
 use Rattle.wap_grammar.specs.Spellings.{Spelling, sign, Several}
-use Rattle.wap_grammar.specs.inside.TokenReading.{Reading, told, items_at}
-use Rattle.wap_grammar.specs.inside.Statements.{Statements, next_statement, block_at}
+use Rattle.wap_grammar.specs.reading.TokenReading.{Reading, told, items_at}
+use Rattle.wap_grammar.specs.reading.Statements.{Statements, next_statement, block_at}
 use Rattle.wap_grammar.proofs.Firsts.{value_same, told_ok}
 use Rattle.wap_grammar.proofs.Items.{Reads, ReadsItems, reads_items}
 use Rattle.wap_grammar.proofs.CommaLists.{Anything, closing_ok, closing_again}

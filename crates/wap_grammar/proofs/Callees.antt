@@ -12,8 +12,8 @@ use Rattle.wap_grammar.specs.Lexemes.{is_sign}
 use Rattle.wap_grammar.specs.Values.{id_of}
 use Rattle.wap_grammar.specs.Spellings.{name, sign}
 use Rattle.wap_grammar.specs.Expressions.{IsCallee, local, external, library}
-use Rattle.wap_grammar.specs.inside.TokenReading.{Reading, word_of, span_of, after, told, id_at}
-use Rattle.wap_grammar.specs.inside.Expressions.{callee_after, callee_at}
+use Rattle.wap_grammar.specs.reading.TokenReading.{Reading, word_of, span_of, after, told, id_at}
+use Rattle.wap_grammar.specs.reading.Expressions.{callee_after, callee_at}
 use Rattle.wap_grammar.proofs.Firsts.{value_same, told_ok, sign_first, id_ok}
 
 module _ (src : List ℕ) where

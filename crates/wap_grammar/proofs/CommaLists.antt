@@ -22,13 +22,13 @@ use Rattle.wap_grammar.specs.Expressions.{Expressions}
 use Rattle.wap_grammar.specs.Statements.{IsDeclaration, plain, valued, IsOptional, none}
 use Rattle.wap_grammar.specs.Statements.{some, done_first, IsInitial, expression, variables}
 use Rattle.wap_grammar.specs.Statements.{IsCondition, condition}
-use Rattle.wap_grammar.specs.inside.TokenReading.{Reading, span_of, after, told, expect_at}
-use Rattle.wap_grammar.specs.inside.TokenReading.{closed, id_at, items_at}
-use Rattle.wap_grammar.specs.inside.Expressions.{Reader}
-use Rattle.wap_grammar.specs.inside.Statements as reading
-use Rattle.wap_grammar.specs.inside.Statements.{next_listed, listed_at, declaration_after}
-use Rattle.wap_grammar.specs.inside.Statements.{declaration_at, variables_at, optional_at}
-use Rattle.wap_grammar.specs.inside.Statements.{initial_at, condition_at}
+use Rattle.wap_grammar.specs.reading.TokenReading.{Reading, span_of, after, told, expect_at}
+use Rattle.wap_grammar.specs.reading.TokenReading.{closed, id_at, items_at}
+use Rattle.wap_grammar.specs.reading.Expressions.{Reader}
+use Rattle.wap_grammar.specs.reading.Statements as reading
+use Rattle.wap_grammar.specs.reading.Statements.{next_listed, listed_at, declaration_after}
+use Rattle.wap_grammar.specs.reading.Statements.{declaration_at, variables_at, optional_at}
+use Rattle.wap_grammar.specs.reading.Statements.{initial_at, condition_at}
 use Rattle.wap_grammar.proofs.Firsts.{value_same, told_ok, sign_first, comma_first}
 use Rattle.wap_grammar.proofs.Firsts.{closed_ok, closed_at, expect_ok, id_ok, Ends}
 use Rattle.wap_grammar.proofs.Firsts.{looseness, looseness_of, no_comma, no_start}

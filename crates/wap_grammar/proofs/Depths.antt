@@ -3,9 +3,9 @@
 use Rattle.std.proofs.Common.{◌≡◌, ℕ, zero, suc, ◌+◌, ◌≤◌, nat_lt, Bool, cond}
 use Rattle.std.proofs.Common.{List, length, refl, ap, inl, inr, arith}
 use Rattle.wap_grammar.specs.declared.lexeme.Lexeme.{Lexeme}
-use Rattle.wap_grammar.specs.inside.TokenReading.{Reading, nested}
-use Rattle.wap_grammar.specs.inside.Expressions.{Reader, part_at, expression_at}
-use Rattle.wap_grammar.specs.inside.Statements.{Statements, statement_by, statement_at}
+use Rattle.wap_grammar.specs.reading.TokenReading.{Reading, nested}
+use Rattle.wap_grammar.specs.reading.Expressions.{Reader, part_at, expression_at}
+use Rattle.wap_grammar.specs.reading.Statements.{Statements, statement_by, statement_at}
 use Rattle.wap_grammar.proofs.Guards.{Guard, nowhere, late, anywhere, allows, IsRest, Goes}
 use Rattle.wap_grammar.proofs.Guards.{Forks, past_of, all_goes, forks_same}
 use Rattle.wap_grammar.proofs.Places.{splits_part, splits_statement_by}

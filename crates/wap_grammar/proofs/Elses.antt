@@ -8,8 +8,8 @@ use Rattle.wap_grammar.specs.declared.word.Sign.TheVariants as signs
 use Rattle.wap_grammar.specs.Lexemes.{word_of, is_sign}
 use Rattle.wap_grammar.specs.Spellings.{Spelling, sign}
 use Rattle.wap_grammar.specs.Statements.{IsElse, without, with_else}
-use Rattle.wap_grammar.specs.inside.TokenReading.{span_of, after, told}
-use Rattle.wap_grammar.specs.inside.Statements.{Statements, else_at}
+use Rattle.wap_grammar.specs.reading.TokenReading.{span_of, after, told}
+use Rattle.wap_grammar.specs.reading.Statements.{Statements, else_at}
 use Rattle.wap_grammar.proofs.Firsts.{value_same, told_ok, sign_first}
 use Rattle.wap_grammar.proofs.Items.{Reads}
 use Rattle.wap_grammar.proofs.CommaLists.{Anything}

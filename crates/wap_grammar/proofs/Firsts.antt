@@ -20,8 +20,8 @@ use Rattle.wap_grammar.specs.Lexemes.{precedence, sign_of, unary_of, step_of, as
 use Rattle.wap_grammar.specs.Lexemes.{operator_of, is_same_sign, is_sign, is_name, is_comma}
 use Rattle.wap_grammar.specs.Values.{id_of, literal_of}
 use Rattle.wap_grammar.specs.Spellings.{token, name, sign}
-use Rattle.wap_grammar.specs.inside.TokenReading.{Reading, word_of, span_of, after, syntax}
-use Rattle.wap_grammar.specs.inside.TokenReading.{told, expect_at, closed, id_at}
+use Rattle.wap_grammar.specs.reading.TokenReading.{Reading, word_of, span_of, after, syntax}
+use Rattle.wap_grammar.specs.reading.TokenReading.{told, expect_at, closed, id_at}
 use denote.Enum.Bare.{same_true}
 
 -- ---- the parts of an answer

@@ -13,8 +13,9 @@ use Rattle.wap_grammar.specs.declared.word.Sign.{Sign}
 use Rattle.wap_grammar.specs.Lexemes.{word_of, is_sign, is_name}
 use Rattle.wap_grammar.specs.Values.{id_of}
 use Rattle.wap_grammar.specs.Refusal.{place_of, IsPast}
-use Rattle.wap_grammar.specs.inside.TokenReading.{Reading, span_of, after, syntax, nested, told, expect_at}
-use Rattle.wap_grammar.specs.inside.TokenReading.{closed, id_at, Next, one_more, run_at, items_at}
+use Rattle.wap_grammar.specs.reading.TokenReading.{Reading, span_of, after, syntax, nested, told}
+use Rattle.wap_grammar.specs.reading.TokenReading.{expect_at}
+use Rattle.wap_grammar.specs.reading.TokenReading.{closed, id_at, Next, one_more, run_at, items_at}
 
 -- where parts may begin that stand too deep: nowhere, where fewer tokens than so many are left, or
 -- anywhere

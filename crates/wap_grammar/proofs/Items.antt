@@ -5,7 +5,7 @@ use Rattle.wap_base.specs.Outcome.{◌>>=◌}
 use Rattle.wap_base.proofs.Choices.{bind_ok}
 use Rattle.wap_grammar.specs.declared.lexeme.Lexeme.{Lexeme}
 use Rattle.wap_grammar.specs.Spellings.{Spelling, Several, none, more}
-use Rattle.wap_grammar.specs.inside.TokenReading.{Reading, told, Next, one_more, run_at, items_at}
+use Rattle.wap_grammar.specs.reading.TokenReading.{Reading, told, Next, one_more, run_at, items_at}
 use Rattle.wap_grammar.proofs.Firsts.{value_same, told_ok}
 
 -- a reading gives what is spelled, and all that is spelled where nothing follows that goes on with

@@ -22,9 +22,9 @@ use Rattle.wap_grammar.specs.Spellings.{Spelling, token, name, sign, Several}
 use Rattle.wap_grammar.specs.Spellings as several
 use Rattle.wap_grammar.specs.Expressions.{Expressions, IsOperand, operand, IsLooser, tighter, chain}
 use Rattle.wap_grammar.specs.Expressions.{conditional, assignment, IsPart, IsExpression}
-use Rattle.wap_grammar.specs.inside.TokenReading.{Reading, word_of, span_of, after, nested}
-use Rattle.wap_grammar.specs.inside.TokenReading.{told, closed, id_at, items_at}
-use Rattle.wap_grammar.specs.inside.Expressions.{
+use Rattle.wap_grammar.specs.reading.TokenReading.{Reading, word_of, span_of, after, nested}
+use Rattle.wap_grammar.specs.reading.TokenReading.{told, closed, id_at, items_at}
+use Rattle.wap_grammar.specs.reading.Expressions.{
   Reader,
   chained,
   operand_by,

@@ -22,12 +22,12 @@ use Rattle.wap_grammar.specs.Expressions.{Expressions, IsCallee, local, external
 use Rattle.wap_grammar.specs.Expressions.{IsArgument, argument, AreArguments, none, some}
 use Rattle.wap_grammar.specs.Expressions.{IsUnary, literal, variable, postfix, prefix, call}
 use Rattle.wap_grammar.specs.Expressions.{parentheses, unary}
-use Rattle.wap_grammar.specs.inside.TokenReading.{Reading, word_of, span_of, after, told}
-use Rattle.wap_grammar.specs.inside.TokenReading.{closed, id_at, items_at}
-use Rattle.wap_grammar.specs.inside.Expressions.{Reader, callee_after, callee_at, stepped}
-use Rattle.wap_grammar.specs.inside.Expressions.{variable_at, next_argument, arguments_at}
-use Rattle.wap_grammar.specs.inside.Expressions.{named_at, primary_by, primary_at, prefixed}
-use Rattle.wap_grammar.specs.inside.Expressions.{step_by, unary_by, unary_at}
+use Rattle.wap_grammar.specs.reading.TokenReading.{Reading, word_of, span_of, after, told}
+use Rattle.wap_grammar.specs.reading.TokenReading.{closed, id_at, items_at}
+use Rattle.wap_grammar.specs.reading.Expressions.{Reader, callee_after, callee_at, stepped}
+use Rattle.wap_grammar.specs.reading.Expressions.{variable_at, next_argument, arguments_at}
+use Rattle.wap_grammar.specs.reading.Expressions.{named_at, primary_by, primary_at, prefixed}
+use Rattle.wap_grammar.specs.reading.Expressions.{step_by, unary_by, unary_at}
 use Rattle.wap_grammar.proofs.Firsts.{value_same, told_ok, sign_first, comma_first, step_is}
 use Rattle.wap_grammar.proofs.Firsts.{closed_ok, closed_at, id_ok, literal_plain, Ends}
 use Rattle.wap_grammar.proofs.Firsts.{no_sign, no_step, no_comma, starts, starts_unary_of}

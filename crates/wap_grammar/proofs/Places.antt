@@ -24,8 +24,9 @@ use Rattle.wap_grammar.specs.Lexemes.{word_of, unary_of, step_of, assignment_of,
 use Rattle.wap_grammar.specs.Lexemes.{is_sign, is_name, is_comma, is_equals, start_of}
 use Rattle.wap_grammar.specs.Values.{id_of, literal_of, called}
 use Rattle.wap_grammar.specs.Statements.{done_first}
-use Rattle.wap_grammar.specs.inside.TokenReading.{Reading, span_of, after, told, closed, id_at, items_at}
-use Rattle.wap_grammar.specs.inside.Expressions.{
+use Rattle.wap_grammar.specs.reading.TokenReading.{Reading, span_of, after, told, closed, id_at}
+use Rattle.wap_grammar.specs.reading.TokenReading.{items_at}
+use Rattle.wap_grammar.specs.reading.Expressions.{
   Reader,
   chained,
   callee_after,
@@ -50,7 +51,7 @@ use Rattle.wap_grammar.specs.inside.Expressions.{
   looser_at,
   part_at,
 }
-use Rattle.wap_grammar.specs.inside.Statements.{
+use Rattle.wap_grammar.specs.reading.Statements.{
   Statements,
   next_listed,
   listed_at,

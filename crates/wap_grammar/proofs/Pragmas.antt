@@ -18,11 +18,11 @@ use Rattle.wap_grammar.specs.Spellings.{token, name, sign, Several}
 use Rattle.wap_grammar.specs.Programs.{text, from_to, IsAccess, domain, path, both}
 use Rattle.wap_grammar.specs.Programs.{IsProperty, plain, schemed, IsUse, url, access}
 use Rattle.wap_grammar.specs.Programs.{name_meta, http_equiv, user_agent}
-use Rattle.wap_grammar.specs.inside.TokenReading.{Reading, span_of, after, syntax, told}
-use Rattle.wap_grammar.specs.inside.TokenReading.{expect_at, closed, id_at, items_at}
-use Rattle.wap_grammar.specs.inside.Programs.{text_at, signed_at, access_by, access_at}
-use Rattle.wap_grammar.specs.inside.Programs.{scheme_at, property_at, agent_of, note_of}
-use Rattle.wap_grammar.specs.inside.Programs.{url_at, who_at, meta_at, use_at, next_use}
+use Rattle.wap_grammar.specs.reading.TokenReading.{Reading, span_of, after, syntax, told}
+use Rattle.wap_grammar.specs.reading.TokenReading.{expect_at, closed, id_at, items_at}
+use Rattle.wap_grammar.specs.reading.Programs.{text_at, signed_at, access_by, access_at}
+use Rattle.wap_grammar.specs.reading.Programs.{scheme_at, property_at, agent_of, note_of}
+use Rattle.wap_grammar.specs.reading.Programs.{url_at, who_at, meta_at, use_at, next_use}
 use Rattle.wap_grammar.proofs.Firsts.{value_same, told_ok, sign_first, closed_ok, expect_ok, id_ok}
 use Rattle.wap_grammar.proofs.Items.{Reads, reads_items}
 use Rattle.wap_grammar.proofs.CommaLists.{Anything, closing_ok, closing_again}

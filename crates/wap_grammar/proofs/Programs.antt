@@ -17,16 +17,17 @@ use Rattle.wap_grammar.specs.declared.word.Sign.TheVariants as signs
 use Rattle.wap_grammar.specs.Values.{id_of, literal_of}
 use Rattle.wap_grammar.specs.Spellings.{token, name, sign}
 use Rattle.wap_grammar.specs.Programs.{IsProgram}
-use Rattle.wap_grammar.specs.inside.TokenReading.{expect_at, id_at, items_at}
-use Rattle.wap_grammar.specs.inside.Expressions.{callee_after, callee_at, variable_at}
-use Rattle.wap_grammar.specs.inside.Expressions.{named_at, primary_at, unary_at, next_operand}
-use Rattle.wap_grammar.specs.inside.Expressions.{chain_at, conditional_at, assignment_at}
-use Rattle.wap_grammar.specs.inside.Expressions.{part_at, expression_at}
-use Rattle.wap_grammar.specs.inside.Statements.{optional_at, condition_at, next_statement, block_at}
-use Rattle.wap_grammar.specs.inside.Statements.{arm_at, else_at, if_at}
-use Rattle.wap_grammar.specs.inside.Statements.{started_at, statement_by, statement_at}
-use Rattle.wap_grammar.specs.inside.Programs.{next_use, parameters_at, head_at}
-use Rattle.wap_grammar.specs.inside.Programs.{function_at, next_function, program_at}
+use Rattle.wap_grammar.specs.reading.TokenReading.{expect_at, id_at, items_at}
+use Rattle.wap_grammar.specs.reading.Expressions.{callee_after, callee_at, variable_at}
+use Rattle.wap_grammar.specs.reading.Expressions.{named_at, primary_at, unary_at, next_operand}
+use Rattle.wap_grammar.specs.reading.Expressions.{chain_at, conditional_at, assignment_at}
+use Rattle.wap_grammar.specs.reading.Expressions.{part_at, expression_at}
+use Rattle.wap_grammar.specs.reading.Statements.{optional_at, condition_at, next_statement}
+use Rattle.wap_grammar.specs.reading.Statements.{block_at}
+use Rattle.wap_grammar.specs.reading.Statements.{arm_at, else_at, if_at}
+use Rattle.wap_grammar.specs.reading.Statements.{started_at, statement_by, statement_at}
+use Rattle.wap_grammar.specs.reading.Programs.{next_use, parameters_at, head_at}
+use Rattle.wap_grammar.specs.reading.Programs.{function_at, next_function, program_at}
 use Rattle.wap_grammar.proofs.Whole.{program_ok}
 
 src : List ℕ

@@ -15,11 +15,11 @@ use Rattle.wap_grammar.specs.declared.word.Sign.TheVariants as signs
 use Rattle.wap_grammar.specs.Lexemes.{word_of, is_sign, is_text, is_comma}
 use Rattle.wap_grammar.specs.Values.{text_of}
 use Rattle.wap_grammar.specs.Programs.{from_to}
-use Rattle.wap_grammar.specs.inside.TokenReading.{Reading, span_of, after, syntax, told}
-use Rattle.wap_grammar.specs.inside.TokenReading.{closed, id_at, items_at}
-use Rattle.wap_grammar.specs.inside.Expressions.{Reader}
-use Rattle.wap_grammar.specs.inside.Statements.{Statements, next_listed, listed_at, block_at}
-use Rattle.wap_grammar.specs.inside.Programs.{
+use Rattle.wap_grammar.specs.reading.TokenReading.{Reading, span_of, after, syntax, told}
+use Rattle.wap_grammar.specs.reading.TokenReading.{closed, id_at, items_at}
+use Rattle.wap_grammar.specs.reading.Expressions.{Reader}
+use Rattle.wap_grammar.specs.reading.Statements.{Statements, next_listed, listed_at, block_at}
+use Rattle.wap_grammar.specs.reading.Programs.{
   text_at,
   signed_at,
   access_by,

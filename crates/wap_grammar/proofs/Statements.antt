@@ -21,11 +21,12 @@ use Rattle.wap_grammar.specs.Expressions.{Expressions, IsExpression}
 use Rattle.wap_grammar.specs.Statements as stated
 use Rattle.wap_grammar.specs.Statements.{IsOptional, IsCondition, IsElse}
 use Rattle.wap_grammar.specs.Statements.{IsStatementOf, IsStatement}
-use Rattle.wap_grammar.specs.inside.TokenReading.{Reading, span_of, after, nested, told, expect_at, closed}
-use Rattle.wap_grammar.specs.inside.Expressions.{Reader, expression_at}
-use Rattle.wap_grammar.specs.inside.Statements.{Statements, optional_at, initial_at, condition_at}
-use Rattle.wap_grammar.specs.inside.Statements.{block_at, arm_at, else_at, if_at, while_at, for_at}
-use Rattle.wap_grammar.specs.inside.Statements.{started_at, statement_by, statement_at}
+use Rattle.wap_grammar.specs.reading.TokenReading.{Reading, span_of, after, nested, told, expect_at}
+use Rattle.wap_grammar.specs.reading.TokenReading.{closed}
+use Rattle.wap_grammar.specs.reading.Expressions.{Reader, expression_at}
+use Rattle.wap_grammar.specs.reading.Statements.{Statements, optional_at, initial_at, condition_at}
+use Rattle.wap_grammar.specs.reading.Statements.{block_at, arm_at, else_at, if_at, while_at, for_at}
+use Rattle.wap_grammar.specs.reading.Statements.{started_at, statement_by, statement_at}
 use Rattle.wap_grammar.proofs.Firsts.{value_same, told_ok, closed_ok, closed_at}
 use Rattle.wap_grammar.proofs.Firsts.{expect_ok, starts, no_start}
 use Rattle.wap_grammar.proofs.Items.{Reads}

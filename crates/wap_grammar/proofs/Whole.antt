@@ -18,12 +18,12 @@ use Rattle.wap_grammar.specs.Statements.{IsStatement}
 use Rattle.wap_grammar.specs.Programs.{IsUse, IsHead, own, external, IsParameter, parameter}
 use Rattle.wap_grammar.specs.Programs.{AreParameters, none, some, IsTail, without, semicolon}
 use Rattle.wap_grammar.specs.Programs.{IsFunction, function, IsProgramOf, IsProgram, program}
-use Rattle.wap_grammar.specs.inside.TokenReading.{Reading, span_of, after, told, expect_at}
-use Rattle.wap_grammar.specs.inside.TokenReading.{closed, id_at, items_at}
-use Rattle.wap_grammar.specs.inside.Statements.{Statements, listed_at, block_at, statement_at}
-use Rattle.wap_grammar.specs.inside.Programs.{next_use, parameters_at, tail_at, head_at}
-use Rattle.wap_grammar.specs.inside.Programs.{function_of, function_at, next_function}
-use Rattle.wap_grammar.specs.inside.Programs.{program_by, program_at}
+use Rattle.wap_grammar.specs.reading.TokenReading.{Reading, span_of, after, told, expect_at}
+use Rattle.wap_grammar.specs.reading.TokenReading.{closed, id_at, items_at}
+use Rattle.wap_grammar.specs.reading.Statements.{Statements, listed_at, block_at, statement_at}
+use Rattle.wap_grammar.specs.reading.Programs.{next_use, parameters_at, tail_at, head_at}
+use Rattle.wap_grammar.specs.reading.Programs.{function_of, function_at, next_function}
+use Rattle.wap_grammar.specs.reading.Programs.{program_by, program_at}
 use Rattle.wap_grammar.proofs.Firsts.{value_same, told_ok, sign_first, expect_ok, id_ok, Ends}
 use Rattle.wap_grammar.proofs.Items.{Reads, reads_items}
 use Rattle.wap_grammar.proofs.CommaLists.{closing_ok, closing_again, reads_listed}

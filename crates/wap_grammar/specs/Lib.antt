@@ -8,6 +8,6 @@ pub mod Statements
 pub mod Refusal
 pub mod Programs
 pub mod Depth
-pub mod inside
+pub mod reading
 pub mod program
 pub mod formers

@@ -31,7 +31,7 @@ use Rattle.wap_deckcheck.proofs.Completeness.{no_faults_where_good}
 use Rattle.wap_unit.specs.declared.unit.Unit.{Unit}
 use Rattle.wap_unit.specs.Units.{IsUnit}
 use Rattle.wap_unit.specs.declared.fault.UnitFault.{UnitFault}
-use Rattle.wap_unit.specs.inside.UnitReading.{unit_at}
+use Rattle.wap_unit.specs.reading.UnitReading.{unit_at}
 use Rattle.wap_unit.proofs.UnitLaws.{unit_takes, unit_again, unit_stops, unit_fails}
 use Rattle.wap_verify.specs.declared.fault.VerifyFault.{VerifyFault}
 use Rattle.wap_verify.specs.Sound.{IsVerified}

@@ -19,7 +19,7 @@ use Rattle.wap_deckcheck.specs.declared.fault.DeckFault.{DeckFault}
 use Rattle.wap_unit.specs.declared.unit.Unit.{Unit}
 use Rattle.wap_unit.specs.Units.{IsUnit}
 use Rattle.wap_unit.specs.declared.fault.UnitFault.{UnitFault}
-use Rattle.wap_unit.specs.inside.UnitReading.{unit_at}
+use Rattle.wap_unit.specs.reading.UnitReading.{unit_at}
 use Rattle.wap_verify.specs.Sound.{IsVerified}
 use Rattle.wap_verify.specs.runnable.Runnable.{may_run, is_of_depths}
 use Rattle.wap_grammar.specs.declared.program.program.Program.{Program}

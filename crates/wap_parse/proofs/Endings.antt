@@ -5,7 +5,7 @@ use Rattle.wap_grammar.specs.declared.program.program.Function.{Function}
 use Rattle.wap_grammar.specs.declared.fault.ParseFault.TheVariants as fault
 use Rattle.wap_grammar.specs.declared.lexeme.Lexeme.{Lexeme}
 use Rattle.wap_grammar.specs.Refusal.{place_of}
-use Rattle.wap_grammar.specs.inside.Programs.{program_by}
+use Rattle.wap_grammar.specs.reading.Programs.{program_by}
 
 module _ (src : List ℕ) (us : List Use) where
   pub no_function : (fs : List Function) (rest : List Lexeme) → fs ≡ [] →

@@ -7,10 +7,10 @@ use Rattle.wap_grammar.specs.declared.program.statement.Stmt.TheVariants as stmt
 use Rattle.wap_grammar.specs.declared.fault.ParseFault.{ParseFault}
 use Rattle.wap_grammar.specs.declared.lexeme.Lexeme.{Lexeme}
 use Rattle.wap_grammar.specs.declared.word.Sign.TheVariants as sign
-use Rattle.wap_grammar.specs.inside.TokenReading.{Reading, told, expect_at}
-use Rattle.wap_grammar.specs.inside.Expressions.{Reader}
-use Rattle.wap_grammar.specs.inside.Statements.{Statements, optional_at, initial_at}
-use Rattle.wap_grammar.specs.inside.Statements.{condition_at, arm_at, while_at, for_at}
+use Rattle.wap_grammar.specs.reading.TokenReading.{Reading, told, expect_at}
+use Rattle.wap_grammar.specs.reading.Expressions.{Reader}
+use Rattle.wap_grammar.specs.reading.Statements.{Statements, optional_at, initial_at}
+use Rattle.wap_grammar.specs.reading.Statements.{condition_at, arm_at, while_at, for_at}
 use Rattle.wap_parse.specs.inside.Headers.{limits_at, turns_at, header_at}
 
 -- what is done first, the condition, and what is done after each turn

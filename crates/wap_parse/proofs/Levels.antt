@@ -1,8 +1,8 @@
 -- Statements by the levels that are left for them.
 use Rattle.std.proofs.Common.{◌≡◌, ℕ, zero, suc, ◌-◌, ◌<◌, List, ap, arith}
 use Rattle.wap_grammar.specs.declared.lexeme.Lexeme.{Lexeme}
-use Rattle.wap_grammar.specs.inside.Expressions.{expression_at}
-use Rattle.wap_grammar.specs.inside.Statements.{statement_by, statement_at}
+use Rattle.wap_grammar.specs.reading.Expressions.{expression_at}
+use Rattle.wap_grammar.specs.reading.Statements.{statement_by, statement_at}
 
 pub deeper_statement : (src : List ℕ) (levels : ℕ) (lexemes : List Lexeme) → 0 < levels →
     statement_at src levels lexemes

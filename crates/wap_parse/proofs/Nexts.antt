@@ -6,8 +6,8 @@ use Rattle.wap_grammar.specs.declared.fault.ParseFault.{ParseFault}
 use Rattle.wap_grammar.specs.declared.lexeme.Lexeme.{Lexeme}
 use Rattle.wap_grammar.specs.declared.word.Sign.TheVariants as sign
 use Rattle.wap_grammar.specs.Lexemes.{word_of, is_sign}
-use Rattle.wap_grammar.specs.inside.TokenReading.{told}
-use Rattle.wap_grammar.specs.inside.Statements.{Statements, next_statement}
+use Rattle.wap_grammar.specs.reading.TokenReading.{told}
+use Rattle.wap_grammar.specs.reading.Statements.{Statements, next_statement}
 
 module _ (statement : Statements) (rest : List Lexeme) (held : Bool)
     (is : held ≡ is_sign sign.CloseBlock (word_of rest)) where

@@ -7,10 +7,10 @@ use Rattle.wap_grammar.specs.declared.program.statement.Stmt.{Stmt}
 use Rattle.wap_grammar.specs.declared.fault.ParseFault.{ParseFault}
 use Rattle.wap_grammar.specs.declared.lexeme.Lexeme.{Lexeme}
 use Rattle.wap_grammar.specs.declared.word.Sign.TheVariants as sign
-use Rattle.wap_grammar.specs.inside.TokenReading.{Reading, expect_at, id_at}
-use Rattle.wap_grammar.specs.inside.Statements.{Statements, block_at}
-use Rattle.wap_grammar.specs.inside.Programs.{parameters_at, tail_at, head_at}
-use Rattle.wap_grammar.specs.inside.Programs.{function_of, function_at}
+use Rattle.wap_grammar.specs.reading.TokenReading.{Reading, expect_at, id_at}
+use Rattle.wap_grammar.specs.reading.Statements.{Statements, block_at}
+use Rattle.wap_grammar.specs.reading.Programs.{parameters_at, tail_at, head_at}
+use Rattle.wap_grammar.specs.reading.Programs.{function_of, function_at}
 use Rattle.wap_parse.specs.inside.Signatures.{signature_at}
 
 module _ (block : List Lexeme → Reading (List Stmt)) where

@@ -6,10 +6,10 @@ ghost use Rattle.wap_grammar.specs.declared.program.statement.Stmt.TheVariants a
 ghost use Rattle.wap_grammar.specs.declared.fault.ParseFault.TheVariants as faults;
 ghost use Rattle.wap_grammar.specs.declared.word.Sign.TheVariants as signs;
 ghost use Rattle.wap_grammar.specs.Statements.{done_first};
-ghost use Rattle.wap_grammar.specs.inside.TokenReading.{span_of, after, closed, told};
-ghost use Rattle.wap_grammar.specs.inside.Expressions.{expression_at};
-ghost use Rattle.wap_grammar.specs.inside.Statements.{closed_at, optional_at};
-ghost use Rattle.wap_grammar.specs.inside.Statements.{initial_at, condition_at};
+ghost use Rattle.wap_grammar.specs.reading.TokenReading.{span_of, after, closed, told};
+ghost use Rattle.wap_grammar.specs.reading.Expressions.{expression_at};
+ghost use Rattle.wap_grammar.specs.reading.Statements.{closed_at, optional_at};
+ghost use Rattle.wap_grammar.specs.reading.Statements.{initial_at, condition_at};
 ghost use Rattle.wap_parse.specs.inside.Headers.{limits_at, turns_at, header_at};
 
 use crate::expressions::{
@@ -20,7 +20,7 @@ use wap_grammar::program::{Boxed, Expr, Stmt};
 use wap_grammar::{COMMA, Lexeme, ParseFault, Sign};
 
 /// An expression, and a sign after it.
-#[tactic(auto, unfolding(wap_grammar::specs::inside::Statements::closed_at))]
+#[tactic(auto, unfolding(wap_grammar::specs::reading::Statements::closed_at))]
 #[inline(always)]
 fn read_closed<'a>(
     alloc: Global,
@@ -37,7 +37,7 @@ fn read_closed<'a>(
 }
 
 /// An expression or none, and the sign after it.
-#[tactic(auto, unfolding(wap_grammar::specs::inside::Statements::optional_at, wap_grammar::specs::inside::Statements::closed_at))]
+#[tactic(auto, unfolding(wap_grammar::specs::reading::Statements::optional_at, wap_grammar::specs::reading::Statements::closed_at))]
 #[inline(always)]
 fn read_optional<'a>(
     alloc: Global,
@@ -57,7 +57,7 @@ fn read_optional<'a>(
 }
 
 /// What is done first in `for`, and the `;` after it.
-#[tactic(auto, unfolding(wap_grammar::specs::inside::Statements::initial_at))]
+#[tactic(auto, unfolding(wap_grammar::specs::reading::Statements::initial_at))]
 fn read_initial<'a>(
     alloc: Global,
     src: &[u8],
@@ -138,7 +138,7 @@ fn read_turns<'a>(
 }
 
 /// A condition in parentheses.
-#[tactic(auto, unfolding(wap_grammar::specs::inside::Statements::condition_at, wap_grammar::specs::inside::Statements::closed_at))]
+#[tactic(auto, unfolding(wap_grammar::specs::reading::Statements::condition_at, wap_grammar::specs::reading::Statements::closed_at))]
 #[inline(always)]
 pub(crate) fn read_condition<'a>(
     alloc: Global,

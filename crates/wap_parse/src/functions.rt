@@ -2,10 +2,10 @@
 ghost use Rattle.std.specs.Prelude.{◌≡◌, ◌∷◌};
 ghost use Rattle.wap_base.specs.Outcome.{Meets};
 ghost use Rattle.wap_grammar.specs.declared.fault.ParseFault.TheVariants as faults;
-ghost use Rattle.wap_grammar.specs.inside.TokenReading.{told, id_at, items_at};
-ghost use Rattle.wap_grammar.specs.inside.Statements.{next_listed, listed_at, statement_at};
-ghost use Rattle.wap_grammar.specs.inside.Programs.{parameters_at, tail_at, head_at, function_of};
-ghost use Rattle.wap_grammar.specs.inside.Programs.{function_at, next_function};
+ghost use Rattle.wap_grammar.specs.reading.TokenReading.{told, id_at, items_at};
+ghost use Rattle.wap_grammar.specs.reading.Statements.{next_listed, listed_at, statement_at};
+ghost use Rattle.wap_grammar.specs.reading.Programs.{parameters_at, tail_at, head_at, function_of};
+ghost use Rattle.wap_grammar.specs.reading.Programs.{function_at, next_function};
 ghost use Rattle.wap_parse.specs.inside.Signatures.{signature_at};
 
 use crate::expressions::{after, close, expect, is_comma, is_sign, list_of_one, read_id};
@@ -39,7 +39,7 @@ pub(crate) fn read_functions<'a>(
 }
 
 /// The next function, or none at the end.
-#[tactic(auto, unfolding(wap_grammar::specs::inside::Programs::next_function))]
+#[tactic(auto, unfolding(wap_grammar::specs::reading::Programs::next_function))]
 fn next_function<'a>(
     alloc: Global,
     src: &[u8],
@@ -111,7 +111,7 @@ fn read_signature<'a>(
 }
 
 /// The words before a function's name: whether other units may call it.
-#[tactic(auto, unfolding(wap_grammar::specs::inside::Programs::head_at))]
+#[tactic(auto, unfolding(wap_grammar::specs::reading::Programs::head_at))]
 fn read_head<'a>(src: &[u8], lexemes: &'a [Lexeme]) -> Result<(bool, &'a [Lexeme]), ParseFault>
     ensures { Meets faults.NoMemory (λ read. (read.0, read.1.now)) result
         (head_at src.now lexemes.now) }
@@ -135,7 +135,7 @@ fn after_tail(lexemes: &[Lexeme]) -> &[Lexeme]
 }
 
 /// Parameters, and the parenthesis after them.
-#[tactic(auto, unfolding(wap_grammar::specs::inside::Programs::parameters_at))]
+#[tactic(auto, unfolding(wap_grammar::specs::reading::Programs::parameters_at))]
 fn read_parameters<'a>(
     alloc: Global,
     src: &[u8],
@@ -152,7 +152,7 @@ fn read_parameters<'a>(
 }
 
 /// Names, one at least, with commas between them.
-#[tactic(auto, unfolding(wap_grammar::specs::inside::Statements::listed_at))]
+#[tactic(auto, unfolding(wap_grammar::specs::reading::Statements::listed_at))]
 fn read_names<'a>(
     alloc: Global,
     src: &[u8],
@@ -189,7 +189,7 @@ fn read_other_names<'a>(
 }
 
 /// The next name, or none.
-#[tactic(auto, unfolding(wap_grammar::specs::inside::Statements::next_listed))]
+#[tactic(auto, unfolding(wap_grammar::specs::reading::Statements::next_listed))]
 fn next_name<'a>(
     alloc: Global,
     src: &[u8],

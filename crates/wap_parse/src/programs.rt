@@ -8,8 +8,8 @@ ghost use Rattle.wap_grammar.specs.Lexemes.{lexemes_of};
 ghost use Rattle.wap_grammar.specs.Programs.{IsProgram, Spells};
 ghost use Rattle.wap_grammar.specs.Refusal.{IsPast};
 ghost use Rattle.wap_grammar.specs.Depth.{IsFirstBelow};
-ghost use Rattle.wap_grammar.specs.inside.Programs.{program_by, program_at};
-ghost use Rattle.wap_grammar.specs.inside.Statements.{statement_at};
+ghost use Rattle.wap_grammar.specs.reading.Programs.{program_by, program_at};
+ghost use Rattle.wap_grammar.specs.reading.Statements.{statement_at};
 
 use crate::expressions::{lexemes_of, read_uses, syntax_fault};
 use crate::functions::read_functions;
@@ -48,7 +48,7 @@ pub fn parse(alloc: Global, src: &[u8], tokens: &[Token]) -> Result<Program, Par
 }
 
 /// A program whose statements span so many levels at most.
-#[tactic(auto, unfolding(wap_grammar::specs::inside::Programs::program_at))]
+#[tactic(auto, unfolding(wap_grammar::specs::reading::Programs::program_at))]
 fn read_program(
     alloc: Global,
     src: &[u8],

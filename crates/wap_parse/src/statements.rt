@@ -2,11 +2,11 @@
 ghost use Rattle.wap_base.specs.Outcome.{Meets};
 ghost use Rattle.wap_grammar.specs.declared.program.statement.Stmt.TheVariants as stmt;
 ghost use Rattle.wap_grammar.specs.declared.fault.ParseFault.TheVariants as faults;
-ghost use Rattle.wap_grammar.specs.inside.TokenReading.{told, items_at};
-ghost use Rattle.wap_grammar.specs.inside.Expressions.{expression_at};
-ghost use Rattle.wap_grammar.specs.inside.Statements.{next_statement, block_at, arm_at, else_at};
-ghost use Rattle.wap_grammar.specs.inside.Statements.{if_at, while_at, for_at, statement_by};
-ghost use Rattle.wap_grammar.specs.inside.Statements.{statement_at};
+ghost use Rattle.wap_grammar.specs.reading.TokenReading.{told, items_at};
+ghost use Rattle.wap_grammar.specs.reading.Expressions.{expression_at};
+ghost use Rattle.wap_grammar.specs.reading.Statements.{next_statement, block_at, arm_at, else_at};
+ghost use Rattle.wap_grammar.specs.reading.Statements.{if_at, while_at, for_at, statement_by};
+ghost use Rattle.wap_grammar.specs.reading.Statements.{statement_at};
 
 use crate::clauses::{
     Header, read_break, read_condition, read_continue, read_evaluation, read_header, read_return,
@@ -21,7 +21,7 @@ use wap_grammar::{Lexeme, ParseFault, Sign, Start};
 
 /// A statement with so many levels left for it and its parts.
 #[cycle(statements)]
-#[tactic(auto, unfolding(wap_grammar::specs::inside::Statements::statement_at))]
+#[tactic(auto, unfolding(wap_grammar::specs::reading::Statements::statement_at))]
 fn read_statement<'a>(
     alloc: Global,
     src: &[u8],
@@ -39,7 +39,7 @@ fn read_statement<'a>(
 
 /// A statement with so many levels left for its parts.
 #[cycle(statements)]
-#[tactic(auto, unfolding(wap_grammar::specs::inside::Statements::statement_by, wap_grammar::specs::inside::Statements::started_at, wap_grammar::specs::inside::Statements::closed_at))]
+#[tactic(auto, unfolding(wap_grammar::specs::reading::Statements::statement_by, wap_grammar::specs::reading::Statements::started_at, wap_grammar::specs::reading::Statements::closed_at))]
 #[inline(always)]
 fn read_parts<'a>(
     alloc: Global,
@@ -71,7 +71,7 @@ fn read_parts<'a>(
 
 /// What stands after `if`.
 #[cycle(statements)]
-#[tactic(auto, unfolding(wap_grammar::specs::inside::Statements::if_at))]
+#[tactic(auto, unfolding(wap_grammar::specs::reading::Statements::if_at))]
 fn read_if<'a>(
     alloc: Global,
     src: &[u8],
@@ -105,7 +105,7 @@ fn read_alternative<'a>(
 
 /// A condition, and what is done where it holds.
 #[cycle(statements)]
-#[tactic(auto, unfolding(wap_grammar::specs::inside::Statements::arm_at))]
+#[tactic(auto, unfolding(wap_grammar::specs::reading::Statements::arm_at))]
 fn read_arm<'a>(
     alloc: Global,
     src: &[u8],
@@ -122,7 +122,7 @@ fn read_arm<'a>(
 
 /// What is done after `else`, if that stands first.
 #[cycle(statements)]
-#[tactic(auto, unfolding(wap_grammar::specs::inside::Statements::else_at))]
+#[tactic(auto, unfolding(wap_grammar::specs::reading::Statements::else_at))]
 fn read_else<'a>(
     alloc: Global,
     src: &[u8],
@@ -142,7 +142,7 @@ fn read_else<'a>(
 
 /// Statements after a `{`, and the `}` after them.
 #[cycle(statements)]
-#[tactic(auto, unfolding(wap_grammar::specs::inside::Statements::block_at))]
+#[tactic(auto, unfolding(wap_grammar::specs::reading::Statements::block_at))]
 #[inline(always)]
 pub(crate) fn read_block<'a>(
     alloc: Global,

@@ -4,7 +4,7 @@ use Rattle.std.proofs.Common.{Err, refl, sym, ap, subst, ◌∙◌, append_assoc
 use Rattle.wap_base.specs.Outcome.{◌>>=◌, Meets}
 use Rattle.wap_unit.specs.declared.fault.UnitFault.{UnitFault}
 use Rattle.wap_unit.specs.declared.fault.UnitFault.TheVariants.{NoMemory}
-use Rattle.wap_unit.specs.inside.ByteReading.{Reader, many}
+use Rattle.wap_unit.specs.reading.ByteReading.{Reader, many}
 
 -- what comes of reading
 abbrev Read : Type 0 → Type 0

@@ -18,9 +18,9 @@ use Rattle.wap_unit.specs.declared.fault.UnitFault.TheVariants as fault
 use Rattle.wap_unit.specs.Sequences.{Then, IsByte, IsRow}
 use Rattle.wap_unit.specs.Refusal.{Refusal, Never, LacksByte, LacksBytes, RefusesNumber}
 use Rattle.wap_unit.specs.Refusal.{RefusesInTurn, RefusesUnless, RefusesRow, IsTaken}
-use Rattle.wap_unit.specs.inside.ByteReading.{Reader, byte_at, taken_at, numbered, number_at}
-use Rattle.wap_unit.specs.inside.ByteReading.{in_turn, given, judged, failing, passing, told}
-use Rattle.wap_unit.specs.inside.ByteReading.{many}
+use Rattle.wap_unit.specs.reading.ByteReading.{Reader, byte_at, taken_at, numbered, number_at}
+use Rattle.wap_unit.specs.reading.ByteReading.{in_turn, given, judged, failing, passing, told}
+use Rattle.wap_unit.specs.reading.ByteReading.{many}
 
 -- read reads a prefix that is such, and gives up exactly where it is refused
 pub record Reads {A : Type 0} (read : Reader A) (Is : List ℕ → A → Type 0)

@@ -4,7 +4,7 @@ use Rattle.std.specs.Str.{IsUtf8, chars}
 use Rattle.std.proofs.lemmas.Str.{is_utf8-from_IsUtf8}
 use Rattle.wap_base.proofs.CharsetLaws.{is_utf8-no}
 use Rattle.wap_unit.specs.declared.fault.UnitFault.TheVariants as fault
-use Rattle.wap_unit.specs.inside.UnitReading.{utf8_text}
+use Rattle.wap_unit.specs.reading.UnitReading.{utf8_text}
 
 pub text_found : (at : ℕ) (content text : List ℕ) → IsUtf8 content → text ≡ chars content
     → utf8_text at content ≡ Ok text

@@ -47,7 +47,7 @@ use Rattle.wap_unit.specs.Refusal.{
   RefusesFunctions,
   RefusesBody,
 }
-use Rattle.wap_unit.specs.inside.UnitReading.{
+use Rattle.wap_unit.specs.reading.UnitReading.{
   sized_at,
   utf8_text,
   coded_text,
@@ -69,7 +69,7 @@ use Rattle.wap_unit.specs.inside.UnitReading.{
   functions_at,
   body_at,
 }
-use Rattle.wap_unit.specs.inside.ByteReading.{in_turn, judged}
+use Rattle.wap_unit.specs.reading.ByteReading.{in_turn, judged}
 use Rattle.wap_unit.proofs.Readers.{Reads, reads_byte, reads_taken, reads_number, reads_in_turn}
 use Rattle.wap_unit.proofs.Readers.{reads_given, reads_judged, reads_failing, reads_passing}
 use Rattle.wap_unit.proofs.Readers.{reads_told, reads_as, reads_here, reads_many}

@@ -18,8 +18,8 @@ use Rattle.wap_unit.specs.declared.reading.TheConstants.{GREATEST_VERSION}
 use Rattle.wap_unit.specs.Units.{IsHead, IsUnit}
 use Rattle.wap_unit.specs.Refusal.{IsRefused, no_version, other_version}
 use Rattle.wap_unit.specs.Refusal.{no_size, other_size, inside, behind}
-use Rattle.wap_unit.specs.inside.ByteReading.{byte_at, number_at}
-use Rattle.wap_unit.specs.inside.UnitReading.{body_at, ended, sized_body, unit_by, unit_at}
+use Rattle.wap_unit.specs.reading.ByteReading.{byte_at, number_at}
+use Rattle.wap_unit.specs.reading.UnitReading.{body_at, ended, sized_body, unit_by, unit_at}
 use Rattle.wap_unit.proofs.Readers.{reads_byte, reads_number}
 use Rattle.wap_unit.proofs.UnitItems.{IsBodyOf, reads_body}
 

@@ -7,4 +7,5 @@ pub mod Units
 pub mod Refusal
 pub mod Spelling
 pub mod Kinds
+pub mod reading
 pub mod inside

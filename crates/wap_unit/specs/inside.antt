@@ -1,3 +1,1 @@
-pub mod ByteReading
-pub mod UnitReading
 pub mod Fitting

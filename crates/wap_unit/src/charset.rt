@@ -1,7 +1,7 @@
 //! Texts in a character set.
 ghost use Rattle.wap_base.specs.Outcome.{Meets};
 ghost use Rattle.wap_unit.specs.declared.fault.UnitFault.TheVariants.{NoMemory};
-ghost use Rattle.wap_unit.specs.inside.UnitReading.{utf8_text, coded_text};
+ghost use Rattle.wap_unit.specs.reading.UnitReading.{utf8_text, coded_text};
 
 use crate::UnitFault;
 use std::alloc::Global;
@@ -9,7 +9,7 @@ use std::str;
 use wap_base::{Bytes, Charset, Text};
 
 /// The characters of bytes that have to be UTF-8, as part of the item at this place.
-#[tactic(auto, unfolding(crate::specs::inside::UnitReading::utf8_text))]
+#[tactic(auto, unfolding(crate::specs::reading::UnitReading::utf8_text))]
 pub(crate) fn utf8_text(alloc: Global, at: usize, content: &[u8]) -> Result<Text, UnitFault>
     ensures { Meets NoMemory (λ text. text) result (utf8_text at content.now) }
 {
@@ -20,7 +20,7 @@ pub(crate) fn utf8_text(alloc: Global, at: usize, content: &[u8]) -> Result<Text
 }
 
 /// Bytes that have to be a text in a character set, as part of the item at this place.
-#[tactic(auto, unfolding(crate::specs::inside::UnitReading::coded_text))]
+#[tactic(auto, unfolding(crate::specs::reading::UnitReading::coded_text))]
 pub(crate) fn coded_text(
     alloc: Global,
     set: Charset,

@@ -1,9 +1,9 @@
 //! The pool of constants.
 ghost use Rattle.wap_base.specs.Outcome.{Meets};
 ghost use Rattle.wap_unit.specs.declared.fault.UnitFault.TheVariants.{NoMemory};
-ghost use Rattle.wap_unit.specs.inside.ByteReading.{many};
-ghost use Rattle.wap_unit.specs.inside.UnitReading.{coded_at, utf8_at, value_at};
-ghost use Rattle.wap_unit.specs.inside.UnitReading.{constant_at, constants_at};
+ghost use Rattle.wap_unit.specs.reading.ByteReading.{many};
+ghost use Rattle.wap_unit.specs.reading.UnitReading.{coded_at, utf8_at, value_at};
+ghost use Rattle.wap_unit.specs.reading.UnitReading.{constant_at, constants_at};
 
 use crate::charset::{coded_text, utf8_text};
 use crate::front::{byte, number, place, take_bytes, take_sized};
@@ -13,7 +13,7 @@ use std::alloc::Global;
 use wap_base::{Charset, Rows};
 
 /// The number of the character set, and the constants.
-#[tactic(auto, unfolding(crate::specs::inside::UnitReading::constants_at))]
+#[tactic(auto, unfolding(crate::specs::reading::UnitReading::constants_at))]
 pub(crate) fn read_constants(
     alloc: Global,
     end: usize,
@@ -50,7 +50,7 @@ fn read_pool(
 }
 
 /// One constant.
-#[tactic(auto, unfolding(crate::specs::inside::UnitReading::constant_at))]
+#[tactic(auto, unfolding(crate::specs::reading::UnitReading::constant_at))]
 fn read_constant(
     alloc: Global,
     set: Option<Charset>,
@@ -68,7 +68,7 @@ fn read_constant(
 }
 
 /// The value of a constant of this kind, which is at this place.
-#[tactic(auto, unfolding(crate::specs::inside::UnitReading::value_at))]
+#[tactic(auto, unfolding(crate::specs::reading::UnitReading::value_at))]
 fn read_value(
     alloc: Global,
     set: Option<Charset>,
@@ -107,7 +107,7 @@ fn read_value(
 }
 
 /// A string in UTF-8, after the number of its bytes.
-#[tactic(auto, unfolding(crate::specs::inside::UnitReading::utf8_at))]
+#[tactic(auto, unfolding(crate::specs::reading::UnitReading::utf8_at))]
 fn read_utf8(
     alloc: Global,
     at: usize,
@@ -122,7 +122,7 @@ fn read_utf8(
 }
 
 /// A string in the unit's character set, after the number of its bytes.
-#[tactic(auto, unfolding(crate::specs::inside::UnitReading::coded_at))]
+#[tactic(auto, unfolding(crate::specs::reading::UnitReading::coded_at))]
 fn read_coded(
     alloc: Global,
     at: usize,

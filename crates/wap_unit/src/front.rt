@@ -2,8 +2,8 @@
 ghost use Rattle.std.specs.Prelude.{◌≡◌, ◌-◌, length, IfOk};
 ghost use Rattle.wap_base.specs.Outcome.{Meets};
 ghost use Rattle.wap_unit.specs.declared.fault.UnitFault.TheVariants.{NoMemory};
-ghost use Rattle.wap_unit.specs.inside.ByteReading.{byte_at, taken_at, number_at};
-ghost use Rattle.wap_unit.specs.inside.UnitReading.{sized_at};
+ghost use Rattle.wap_unit.specs.reading.ByteReading.{byte_at, taken_at, number_at};
+ghost use Rattle.wap_unit.specs.reading.UnitReading.{sized_at};
 
 use crate::UnitFault;
 use wap_base::{ReadFault, read_mb};
@@ -38,7 +38,7 @@ pub(crate) fn take_bytes(size: usize, end: usize, bytes: &[u8]) -> Result<(&[u8]
 }
 
 /// A number of several bytes.
-#[tactic(auto, unfolding(crate::specs::inside::ByteReading::number_at))]
+#[tactic(auto, unfolding(crate::specs::reading::ByteReading::number_at))]
 pub(crate) fn number(end: usize, bytes: &[u8]) -> Result<(u32, &[u8]), UnitFault>
     ensures { Meets NoMemory (λ read. (read.0, read.1.now)) result (number_at end bytes.now) }
 {
@@ -52,7 +52,7 @@ pub(crate) fn number(end: usize, bytes: &[u8]) -> Result<(u32, &[u8]), UnitFault
 }
 
 /// Bytes after their number.
-#[tactic(auto, unfolding(crate::specs::inside::UnitReading::sized_at))]
+#[tactic(auto, unfolding(crate::specs::reading::UnitReading::sized_at))]
 pub(crate) fn take_sized(end: usize, bytes: &[u8]) -> Result<(&[u8], &[u8]), UnitFault>
     ensures { Meets NoMemory (λ read. (read.0.now, read.1.now)) result (sized_at end bytes.now) }
 {

@@ -1,9 +1,9 @@
 //! Functions and their names.
 ghost use Rattle.wap_base.specs.Outcome.{Meets};
 ghost use Rattle.wap_unit.specs.declared.fault.UnitFault.TheVariants.{NoMemory};
-ghost use Rattle.wap_unit.specs.inside.ByteReading.{many};
-ghost use Rattle.wap_unit.specs.inside.UnitReading.{name_text_at, name_at, function_at};
-ghost use Rattle.wap_unit.specs.inside.UnitReading.{named_functions_at, functions_at};
+ghost use Rattle.wap_unit.specs.reading.ByteReading.{many};
+ghost use Rattle.wap_unit.specs.reading.UnitReading.{name_text_at, name_at, function_at};
+ghost use Rattle.wap_unit.specs.reading.UnitReading.{named_functions_at, functions_at};
 
 use crate::charset::utf8_text;
 use crate::front::{byte, place, take_bytes, take_sized};
@@ -12,7 +12,7 @@ use std::alloc::Global;
 use wap_base::{Bytes, Rows, Text};
 
 /// The names, and the functions.
-#[tactic(auto, unfolding(crate::specs::inside::UnitReading::functions_at))]
+#[tactic(auto, unfolding(crate::specs::reading::UnitReading::functions_at))]
 pub(crate) fn read_functions(
     alloc: Global,
     end: usize,
@@ -30,7 +30,7 @@ pub(crate) fn read_functions(
 }
 
 /// The names, and so many functions.
-#[tactic(auto, unfolding(crate::specs::inside::UnitReading::named_functions_at))]
+#[tactic(auto, unfolding(crate::specs::reading::UnitReading::named_functions_at))]
 fn read_named_functions(
     alloc: Global,
     count: u8,
@@ -68,7 +68,7 @@ fn read_names(
 }
 
 /// The name of one of so many functions, with the function's index.
-#[tactic(auto, unfolding(crate::specs::inside::UnitReading::name_at))]
+#[tactic(auto, unfolding(crate::specs::reading::UnitReading::name_at))]
 fn read_name(
     alloc: Global,
     functions: u8,
@@ -88,7 +88,7 @@ fn read_name(
 }
 
 /// The text of a name that is at this place, after one byte for its length.
-#[tactic(auto, unfolding(crate::specs::inside::UnitReading::name_text_at))]
+#[tactic(auto, unfolding(crate::specs::reading::UnitReading::name_text_at))]
 fn read_name_text(
     alloc: Global,
     at: usize,
@@ -123,7 +123,7 @@ fn read_bodies(
 }
 
 /// One function.
-#[tactic(auto, unfolding(crate::specs::inside::UnitReading::function_at))]
+#[tactic(auto, unfolding(crate::specs::reading::UnitReading::function_at))]
 fn read_function(alloc: Global, end: usize, bytes: &[u8]) -> Result<(Code, &[u8]), UnitFault>
     ensures { Meets NoMemory (λ read. (read.0, read.1.now)) result (function_at end bytes.now) }
 {

@@ -1,8 +1,8 @@
 //! Pragmas.
 ghost use Rattle.wap_base.specs.Outcome.{Meets};
 ghost use Rattle.wap_unit.specs.declared.fault.UnitFault.TheVariants.{NoMemory};
-ghost use Rattle.wap_unit.specs.inside.ByteReading.{many};
-ghost use Rattle.wap_unit.specs.inside.UnitReading.{pair_at, indexes_at, pragma_at, pragmas_at};
+ghost use Rattle.wap_unit.specs.reading.ByteReading.{many};
+ghost use Rattle.wap_unit.specs.reading.UnitReading.{pair_at, indexes_at, pragma_at, pragmas_at};
 
 use crate::front::{byte, number, place};
 use crate::kind::{PragmaKind, pragma_kind};
@@ -11,7 +11,7 @@ use std::alloc::Global;
 use wap_base::Rows;
 
 /// The pragmas, after their number.
-#[tactic(auto, unfolding(crate::specs::inside::UnitReading::pragmas_at))]
+#[tactic(auto, unfolding(crate::specs::reading::UnitReading::pragmas_at))]
 pub(crate) fn read_pragmas(
     alloc: Global,
     end: usize,
@@ -44,7 +44,7 @@ fn read_row(
 }
 
 /// One pragma.
-#[tactic(auto, unfolding(crate::specs::inside::UnitReading::pragma_at))]
+#[tactic(auto, unfolding(crate::specs::reading::UnitReading::pragma_at))]
 fn read_pragma(end: usize, bytes: &[u8]) -> Result<(Pragma, &[u8]), UnitFault>
     ensures { Meets NoMemory (λ read. (read.0, read.1.now)) result (pragma_at end bytes.now) }
 {
@@ -57,7 +57,7 @@ fn read_pragma(end: usize, bytes: &[u8]) -> Result<(Pragma, &[u8]), UnitFault>
 }
 
 /// The indexes of a pragma of this kind.
-#[tactic(auto, unfolding(crate::specs::inside::UnitReading::indexes_at))]
+#[tactic(auto, unfolding(crate::specs::reading::UnitReading::indexes_at))]
 fn read_indexes(kind: PragmaKind, end: usize, bytes: &[u8]) -> Result<(Pragma, &[u8]), UnitFault>
     ensures { Meets NoMemory (λ read. (read.0, read.1.now)) result (indexes_at kind end bytes.now) }
 {
@@ -83,7 +83,7 @@ fn read_indexes(kind: PragmaKind, end: usize, bytes: &[u8]) -> Result<(Pragma, &
 }
 
 /// Two numbers.
-#[tactic(auto, unfolding(crate::specs::inside::UnitReading::pair_at))]
+#[tactic(auto, unfolding(crate::specs::reading::UnitReading::pair_at))]
 fn pair(end: usize, bytes: &[u8]) -> Result<((u32, u32), &[u8]), UnitFault>
     ensures { Meets NoMemory (λ read. (read.0, read.1.now)) result (pair_at end bytes.now) }
 {

@@ -6,7 +6,7 @@ ghost use Rattle.wap_unit.specs.declared.fault.UnitFault.{UnitFault};
 ghost use Rattle.wap_unit.specs.declared.fault.UnitFault.TheVariants.{NoMemory};
 ghost use Rattle.wap_unit.specs.Units.{IsUnit};
 ghost use Rattle.wap_unit.specs.Refusal.{IsRefused};
-ghost use Rattle.wap_unit.specs.inside.UnitReading.{body_at, unit_at};
+ghost use Rattle.wap_unit.specs.reading.UnitReading.{body_at, unit_at};
 
 use crate::constants::read_constants;
 use crate::front::{byte, number, place};
@@ -34,7 +34,7 @@ pub fn decode(alloc: Global, bytes: &[u8]) -> Result<Unit, UnitFault>
     read_unit(alloc, bytes)
 }
 
-#[tactic(auto, unfolding(crate::specs::inside::UnitReading::unit_at, crate::specs::inside::UnitReading::unit_by))]
+#[tactic(auto, unfolding(crate::specs::reading::UnitReading::unit_at, crate::specs::reading::UnitReading::unit_by))]
 fn read_unit(alloc: Global, bytes: &[u8]) -> Result<Unit, UnitFault>
     ensures { Meets NoMemory (λ u. u) result (unit_at bytes.now) }
 {
@@ -57,7 +57,7 @@ fn read_unit(alloc: Global, bytes: &[u8]) -> Result<Unit, UnitFault>
 }
 
 /// What follows the number of the bytes that follow.
-#[tactic(auto, unfolding(crate::specs::inside::UnitReading::body_at))]
+#[tactic(auto, unfolding(crate::specs::reading::UnitReading::body_at))]
 fn read_body(
     alloc: Global,
     version: u8,

@@ -20,9 +20,9 @@ use Rattle.wap_verify.specs.Paths.{Stand, HasWay, Leads, IsPath, Reaches}
 use Rattle.wap_verify.specs.Sound.{Runs, leads_within, has_target, is_aimed}
 use Rattle.wap_verify.specs.Sound.{IsSplit, IsSound, IsRoom}
 use Rattle.wap_verify.specs.Faults.{IsFunctionFault, underflow, depths}
-use Rattle.wap_verify.specs.inside.Work.{GoesOn, is_place, State, depth_of, noted, arrived, Agrees}
-use Rattle.wap_verify.specs.inside.Work.{followed, AgreesWith, unseen, Among, Sane}
-use Rattle.wap_verify.specs.inside.Work.{Arrived, Settled, Grows, Works, Visits}
+use Rattle.wap_verify.specs.inside.Work.{GoesOn, is_place, Agrees, AgreesWith, Among, Sane, Arrived}
+use Rattle.wap_verify.specs.inside.Work.{Settled, Grows, Works, Visits}
+use Rattle.wap_verify.specs.Depths.{State, depth_of, noted, arrived, followed, unseen}
 use Rattle.wap_verify.specs.inside.Kept.{IsConflictOn}
 
 -- ---- lists

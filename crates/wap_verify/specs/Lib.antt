@@ -4,5 +4,6 @@ pub mod Sound
 pub mod Faults
 pub mod Kept
 pub mod Ready
+pub mod Depths
 pub mod inside
 pub mod runnable

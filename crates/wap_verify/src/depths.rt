@@ -4,8 +4,8 @@ ghost use Rattle.std.specs.Prelude.{None, IfSome, IfOk, IfErr, OnOk};
 ghost use Rattle.wap_verify.specs.declared.fault.VerifyFault.TheVariants.{NoMemory};
 ghost use Rattle.wap_verify.specs.Sound.{IsSplit, IsSound, IsRoom};
 ghost use Rattle.wap_verify.specs.Faults.{IsFunctionFault};
-ghost use Rattle.wap_verify.specs.inside.Work.{depth_of, arrived, Agrees, followed};
-ghost use Rattle.wap_verify.specs.inside.Work.{AgreesWith, unseen, Sane, Works, Visits};
+ghost use Rattle.wap_verify.specs.inside.Work.{Agrees, AgreesWith, Sane, Works, Visits};
+ghost use Rattle.wap_verify.specs.Depths.{depth_of, arrived, followed, unseen};
 ghost use Rattle.wap_verify.specs.inside.Kept.{state, IsConflict, IsConflictOn};
 
 use crate::VerifyFault;

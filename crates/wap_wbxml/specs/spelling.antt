@@ -3,4 +3,5 @@ pub mod Names
 pub mod Spelling
 pub mod Spellable
 pub mod Left
+pub mod Written
 pub mod inside

@@ -17,8 +17,8 @@ use Rattle.wap_grammar.specs.declared.fault.ParseFault.TheVariants as parse
 use Rattle.wap_grammar.specs.declared.precedence.TheConstants.{LEVEL_LIMIT}
 use Rattle.wap_grammar.specs.Lexemes.{lexemes_of}
 use Rattle.wap_grammar.specs.Programs.{IsProgram}
-use Rattle.wap_grammar.specs.inside.Statements.{statement_at}
-use Rattle.wap_grammar.specs.inside.Programs.{program_at}
+use Rattle.wap_grammar.specs.reading.Statements.{statement_at}
+use Rattle.wap_grammar.specs.reading.Programs.{program_at}
 use Rattle.wap_grammar.proofs.Whole.{program_ok, program_again}
 use Rattle.wap_grammar.proofs.Below.{program_none, program_past, first_spelled}
 use Rattle.wap_grammar.proofs.Below.{program_unfailing}

@@ -15,8 +15,8 @@ use Rattle.wap_deck.proofs.DocumentsLemmas.Items.{words_of-Text, words_of-Node}
 use Rattle.wap_tokens.specs.markup.Decks.{literal, piece_part, value_after, before, joined, Mark}
 use Rattle.wap_tokens.specs.markup.Decks.{part}
 use Rattle.wap_tokens.specs.markup.Decks.{node, text_before, part_before, mark_before, items_of}
-use Rattle.wap_deck.specs.documents.inside.Adding.{part_added, any_added, after_last}
-use Rattle.wap_deck.specs.documents.inside.Adding.{part_after, mark_after, marks_after}
+use Rattle.wap_deck.specs.documents.Adding.{part_added, any_added, after_last, part_after}
+use Rattle.wap_deck.specs.documents.Adding.{mark_after, marks_after}
 
 -- ---- parts
 

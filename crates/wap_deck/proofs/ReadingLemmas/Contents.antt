@@ -21,7 +21,7 @@ use Rattle.wap_wbxml.specs.Places.{Input}
 use Rattle.wap_wbxml.specs.reading.ByteReading.{Reading, told, some}
 use Rattle.wap_wbxml.specs.reading.Fronts.{lead_at}
 use Rattle.wap_wbxml.specs.reading.BodyReading.{leaf_at, instruction_at, kid_from, next_kid, element_at}
-use Rattle.wap_deck.specs.documents.inside.Adding.{marks_after}
+use Rattle.wap_deck.specs.documents.Adding.{marks_after}
 use Rattle.wap_deck.proofs.DocumentsLemmas.Joining.{marks_after_append}
 use Rattle.wap_deck.specs.reading.inside.Gathering.{read_as, gathered, with_next}
 use Rattle.wap_deck.specs.reading.inside.DocumentParts.{element_added, kid_added, kids_added}

@@ -24,7 +24,7 @@ use Rattle.wap_wbxml.specs.Places.{Input}
 use Rattle.wap_wbxml.specs.reading.ByteReading.{Reading, told}
 use Rattle.wap_wbxml.specs.reading.BodyReading.{tag_at, when, attributes_at, kids_at}
 use Rattle.wap_wbxml.specs.reading.BodyReading.{element_by, element_at}
-use Rattle.wap_deck.specs.documents.inside.Adding.{marks_after}
+use Rattle.wap_deck.specs.documents.Adding.{marks_after}
 use Rattle.wap_deck.proofs.DocumentsLemmas.Joining.{added_to_none}
 use Rattle.wap_deck.specs.reading.inside.Gathering.{read_as}
 use Rattle.wap_deck.specs.reading.inside.DocumentParts.{element_added, kids_added, node_of}

@@ -21,7 +21,7 @@ use Rattle.wap_wbxml.specs.declared.spelling.output.Output.{Output}
 use Rattle.wap_wbxml.specs.spelling.Writings.{Writing, plain, ◌⨾◌, each, ended, on_tag_page}
 use Rattle.wap_wbxml.specs.spelling.Spelling.{bit, bits, attr_spelling, kid_spelling}
 use Rattle.wap_wbxml.specs.spelling.Spelling.{element_spelling}
-use Rattle.wap_wbxml.specs.spelling.inside.Written.{written}
+use Rattle.wap_wbxml.specs.spelling.Written.{written}
 use Rattle.wap_wbxml.proofs.SpellingLemmas.Appending.{in_turn, each_none}
 use Rattle.wap_deck.specs.writing.inside.WrittenTexts.{part_spelling, content_bit, has_any}
 use Rattle.wap_deck.proofs.WritingLemmas.Lists.{each_one, each_flat}

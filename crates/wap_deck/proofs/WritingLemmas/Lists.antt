@@ -4,7 +4,7 @@ use Rattle.std.specs.List.{flat_map}
 use Rattle.wap_tokens.specs.declared.markup.codes.TheConstants.{END}
 use Rattle.wap_wbxml.specs.declared.spelling.output.Output.{Output}
 use Rattle.wap_wbxml.specs.spelling.Writings.{Writing, plain, ◌⨾◌, each, ended}
-use Rattle.wap_wbxml.specs.spelling.inside.Written.{written}
+use Rattle.wap_wbxml.specs.spelling.Written.{written}
 use Rattle.wap_wbxml.proofs.SpellingLemmas.Appending.{written_then, written_none}
 
 module _ {A : Type 0} (write : A → Writing) where

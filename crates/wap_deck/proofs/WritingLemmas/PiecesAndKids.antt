@@ -14,7 +14,7 @@ use Rattle.wap_wbxml.specs.declared.spelling.output.Output.{Output}
 use Rattle.wap_wbxml.specs.spelling.Writings.{Writing, ◌⨾◌, each}
 use Rattle.wap_wbxml.specs.spelling.Names.{KidLevel}
 use Rattle.wap_wbxml.specs.spelling.Spelling.{piece_spelling, opened_spelling, kid_spelling}
-use Rattle.wap_wbxml.specs.spelling.inside.Written.{written}
+use Rattle.wap_wbxml.specs.spelling.Written.{written}
 use Rattle.wap_deck.specs.writing.inside.WrittenTexts.{run_spelling, part_spelling}
 use Rattle.wap_deck.proofs.WritingLemmas.Lists.{each_one, each_flat}
 

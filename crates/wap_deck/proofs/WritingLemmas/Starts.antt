@@ -15,7 +15,7 @@ use Rattle.wap_wbxml.specs.declared.spelling.output.Output.{Output}
 use Rattle.wap_wbxml.specs.spelling.Writings.{plain, ◌⨾◌, each, on_attribute_page}
 use Rattle.wap_wbxml.specs.spelling.Names.{place_of}
 use Rattle.wap_wbxml.specs.spelling.Spelling.{piece_spelling, attr_spelling}
-use Rattle.wap_wbxml.specs.spelling.inside.Written.{written}
+use Rattle.wap_wbxml.specs.spelling.Written.{written}
 use Rattle.wap_wbxml.proofs.SpellingLemmas.Appending.{in_turn, written_none}
 use Rattle.wap_deck.specs.writing.inside.WrittenTexts.{part_spelling}
 use Rattle.wap_deck.proofs.WritingLemmas.PiecesAndKids.{parts_pieces}

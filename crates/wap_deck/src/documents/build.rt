@@ -2,7 +2,7 @@
 ghost use Rattle.std.specs.Prelude.{◌≡◌, [], ◌∷◌, ◌++◌, IfOk, OnOk};
 ghost use Rattle.wap_base.specs.declared.name.Part.{Part};
 ghost use Rattle.wap_tokens.specs.markup.Decks.{tag_in, part_marks};
-ghost use Rattle.wap_deck.specs.documents.inside.Adding.{part_added, part_after, marks_after};
+ghost use Rattle.wap_deck.specs.documents.Adding.{part_added, part_after, marks_after};
 
 use crate::documents::pieces::add_part;
 use crate::documents::room::rows_for;

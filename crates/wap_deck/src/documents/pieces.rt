@@ -3,7 +3,7 @@ ghost use Rattle.std.specs.Prelude.{◌≡◌, [], ◌∷◌, ◌++◌, IfOk, On
 ghost use Rattle.wap_tokens.specs.markup.Decks.{literal, character, reference, before};
 ghost use Rattle.wap_tokens.specs.markup.Decks.{piece_part, value_after};
 ghost use Rattle.wap_tokens.specs.declared.markup.document.Piece.TheVariants.{Code};
-ghost use Rattle.wap_deck.specs.documents.inside.Adding.{part_added, any_added};
+ghost use Rattle.wap_deck.specs.documents.Adding.{part_added, any_added};
 ghost use Rattle.std.specs.Str.{chars};
 
 use crate::documents::room::rows_for;

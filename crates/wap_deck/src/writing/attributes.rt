@@ -4,7 +4,7 @@ ghost use Rattle.wap_tokens.specs.markup.Tables.{code_of_start};
 ghost use Rattle.wap_tokens.specs.markup.Writing.{attr_of};
 ghost use Rattle.wap_wbxml.specs.spelling.Writings.{ended};
 ghost use Rattle.wap_wbxml.specs.spelling.Spelling.{attr_spelling};
-ghost use Rattle.wap_wbxml.specs.spelling.inside.Written.{written};
+ghost use Rattle.wap_wbxml.specs.spelling.Written.{written};
 
 use crate::documents::whole_code;
 use crate::writing::texts::write_parts;

@@ -3,7 +3,7 @@ ghost use Rattle.std.specs.Prelude.{◌≡◌, ◌+◌, suc, OnOk};
 ghost use Rattle.wap_tokens.specs.markup.Writing.{item_kids, items_kids, node_kids, element_of};
 ghost use Rattle.wap_wbxml.specs.spelling.Writings.{each, ended};
 ghost use Rattle.wap_wbxml.specs.spelling.Spelling.{bit, kid_spelling, element_spelling};
-ghost use Rattle.wap_wbxml.specs.spelling.inside.Written.{written};
+ghost use Rattle.wap_wbxml.specs.spelling.Written.{written};
 ghost use Rattle.wap_deck.specs.writing.inside.WrittenTexts.{content_bit, has_any};
 
 use crate::writing::attributes::write_attributes;

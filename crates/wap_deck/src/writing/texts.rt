@@ -3,7 +3,7 @@ ghost use Rattle.std.specs.Prelude.{◌≡◌, OnOk};
 ghost use Rattle.std.specs.List.{flat_map};
 ghost use Rattle.wap_tokens.specs.markup.Writing.{runs_of, part_kids};
 ghost use Rattle.wap_wbxml.specs.spelling.Writings.{each};
-ghost use Rattle.wap_wbxml.specs.spelling.inside.Written.{written};
+ghost use Rattle.wap_wbxml.specs.spelling.Written.{written};
 ghost use Rattle.wap_deck.specs.writing.inside.WrittenTexts.{run_spelling, part_spelling, has_any};
 
 use crate::documents::{is_string, runs_of};

@@ -18,8 +18,8 @@ use Rattle.wap_lex.proofs.Sources.{read_ok, read_again}
 use Rattle.wap_grammar.specs.declared.fault.ParseFault.{ParseFault}
 use Rattle.wap_grammar.specs.declared.precedence.TheConstants.{LEVEL_LIMIT}
 use Rattle.wap_grammar.specs.Lexemes.{lexemes_of}
-use Rattle.wap_grammar.specs.inside.Statements.{statement_at}
-use Rattle.wap_grammar.specs.inside.Programs.{program_at}
+use Rattle.wap_grammar.specs.reading.Statements.{statement_at}
+use Rattle.wap_grammar.specs.reading.Programs.{program_at}
 use Rattle.wap_grammar.proofs.Whole.{program_ok, program_again}
 use Rattle.wap_grammar.specs.declared.program.program.Program.{Program}
 use Rattle.wap_grammar.specs.declared.program.program.Function.{Function}

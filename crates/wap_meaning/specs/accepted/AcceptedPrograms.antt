@@ -10,8 +10,8 @@ use Rattle.wap_lex.specs.declared.fault.LexFault.TheVariants.{NotText}
 use Rattle.wap_lex.specs.Calculation.{pieces_at}
 use Rattle.wap_grammar.specs.declared.precedence.TheConstants.{LEVEL_LIMIT}
 use Rattle.wap_grammar.specs.Lexemes.{lexemes_of}
-use Rattle.wap_grammar.specs.inside.Statements.{statement_at}
-use Rattle.wap_grammar.specs.inside.Programs.{program_at}
+use Rattle.wap_grammar.specs.reading.Statements.{statement_at}
+use Rattle.wap_grammar.specs.reading.Programs.{program_at}
 use Rattle.wap_grammar.specs.declared.program.program.Program.{Program}
 use Rattle.wap_grammar.specs.declared.program.program.Function.{Function}
 use Rattle.wap_scope.specs.Faults.{faults, first_fault}

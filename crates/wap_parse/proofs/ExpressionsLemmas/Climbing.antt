@@ -15,9 +15,9 @@ use Rattle.wap_grammar.specs.declared.precedence.TheConstants.{CONDITIONAL, ASSI
 use Rattle.wap_grammar.specs.declared.word.Word.{Word}
 use Rattle.wap_grammar.specs.declared.word.Word.TheVariants as word
 use Rattle.wap_grammar.specs.Lexemes.{word_of, precedence, operator_of}
-use Rattle.wap_grammar.specs.inside.TokenReading.{Reading, told, items_at}
-use Rattle.wap_grammar.specs.inside.Expressions.{Reader, chained, unary_at, operand_by}
-use Rattle.wap_grammar.specs.inside.Expressions.{next_operand, chain_at, part_at}
+use Rattle.wap_grammar.specs.reading.TokenReading.{Reading, told, items_at}
+use Rattle.wap_grammar.specs.reading.Expressions.{Reader, chained, unary_at, operand_by}
+use Rattle.wap_grammar.specs.reading.Expressions.{next_operand, chain_at, part_at}
 use Rattle.wap_grammar.proofs.Items.{items_none}
 use Rattle.wap_parse.specs.expressions.inside.Climbing.{looser_of, grown_at, climbed_at}
 use Rattle.wap_parse.proofs.ExpressionsLemmas.Levels.{at_chain}

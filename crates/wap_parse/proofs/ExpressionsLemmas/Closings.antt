@@ -4,7 +4,7 @@ use Rattle.wap_base.specs.Outcome.{◌>>=◌}
 use Rattle.wap_grammar.specs.declared.fault.ParseFault.{ParseFault}
 use Rattle.wap_grammar.specs.declared.lexeme.Lexeme.{Lexeme}
 use Rattle.wap_grammar.specs.declared.word.Sign.{Sign}
-use Rattle.wap_grammar.specs.inside.TokenReading.{told, closed, expect_at}
+use Rattle.wap_grammar.specs.reading.TokenReading.{told, closed, expect_at}
 
 told_first : {A B : Type 0} (make : A → B) (value : A) (read : Result (List Lexeme) ParseFault) →
     told make (read >>= λ rest. Ok (value, rest)) ≡ (read >>= λ rest. Ok (make value, rest))

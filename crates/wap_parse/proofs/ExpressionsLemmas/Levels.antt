@@ -5,8 +5,8 @@ use Rattle.std.specs.Prelude.{nat_eq}
 use Rattle.std.proofs.lemmas.Bool.{ne_eqb, eq-eqb}
 use Rattle.wap_grammar.specs.declared.lexeme.Lexeme.{Lexeme}
 use Rattle.wap_grammar.specs.declared.precedence.TheConstants.{UNARY, CONDITIONAL, ASSIGNMENT}
-use Rattle.wap_grammar.specs.inside.Expressions.{Reader, conditional_at, assignment_at, chain_at}
-use Rattle.wap_grammar.specs.inside.Expressions.{looser_at, part_at, expression_at}
+use Rattle.wap_grammar.specs.reading.Expressions.{Reader, conditional_at, assignment_at, chain_at}
+use Rattle.wap_grammar.specs.reading.Expressions.{looser_at, part_at, expression_at}
 
 pub deeper : (src : List ℕ) (levels level : ℕ) (lexemes : List Lexeme) → 0 < levels →
     expression_at src levels level lexemes

@@ -7,7 +7,7 @@ use Rattle.wap_base.specs.Outcome.{◌>>=◌, Meets}
 use Rattle.wap_grammar.specs.declared.fault.ParseFault.{ParseFault}
 use Rattle.wap_grammar.specs.declared.fault.ParseFault.TheVariants as faults
 use Rattle.wap_grammar.specs.declared.lexeme.Lexeme.{Lexeme}
-use Rattle.wap_grammar.specs.inside.TokenReading.{Reading, Next, told, one_more, run_at, items_at}
+use Rattle.wap_grammar.specs.reading.TokenReading.{Reading, Next, told, one_more, run_at, items_at}
 
 -- what was read before, and what is still read
 abbrev pub with_front : {A : Type 0} → List A → Reading (List A) → Reading (List A)

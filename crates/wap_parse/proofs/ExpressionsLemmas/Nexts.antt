@@ -9,10 +9,10 @@ use Rattle.wap_grammar.specs.declared.lexeme.Lexeme.{Lexeme}
 use Rattle.wap_grammar.specs.declared.precedence.TheConstants.{ASSIGNMENT}
 use Rattle.wap_grammar.specs.declared.word.Sign.TheVariants as sign
 use Rattle.wap_grammar.specs.Lexemes.{word_of, operator_of, is_sign, is_comma}
-use Rattle.wap_grammar.specs.inside.TokenReading.{Reading, span_of, after, told}
-use Rattle.wap_grammar.specs.inside.Expressions.{Reader, next_operand, next_argument}
-use Rattle.wap_grammar.specs.inside.Statements.{next_listed}
-use Rattle.wap_grammar.specs.inside.Programs.{next_use, use_at}
+use Rattle.wap_grammar.specs.reading.TokenReading.{Reading, span_of, after, told}
+use Rattle.wap_grammar.specs.reading.Expressions.{Reader, next_operand, next_argument}
+use Rattle.wap_grammar.specs.reading.Statements.{next_listed}
+use Rattle.wap_grammar.specs.reading.Programs.{next_use, use_at}
 
 -- an item after the first token where a test holds, and none where it doesn't
 abbrev pub next_if : {A : Type 0} → Bool → (List Lexeme → Reading A) → List Lexeme →

@@ -18,8 +18,8 @@ use Rattle.wap_grammar.specs.declared.word.Sign.TheVariants as signs
 use Rattle.wap_grammar.specs.Lexemes.{word_of, is_sign, sign_of}
 use Rattle.wap_grammar.specs.Values.{literal_of}
 use Rattle.wap_grammar.specs.Spellings.{token, sign, AreListed, listed}
-use Rattle.wap_grammar.specs.inside.TokenReading.{span_of, after, syntax, told, closed}
-use Rattle.wap_grammar.specs.inside.Statements.{listed_at}
+use Rattle.wap_grammar.specs.reading.TokenReading.{span_of, after, syntax, told, closed}
+use Rattle.wap_grammar.specs.reading.Statements.{listed_at}
 use Rattle.wap_grammar.proofs.Firsts.{value_same, told_ok, sign_first, Ends}
 use Rattle.wap_grammar.proofs.Items.{Reads}
 use Rattle.wap_grammar.proofs.CommaLists.{closing_ok, closing_again, reads_listed}

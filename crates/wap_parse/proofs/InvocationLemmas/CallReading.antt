@@ -16,7 +16,7 @@ use Rattle.wap_grammar.specs.declared.word.Sign.TheVariants as signs
 use Rattle.wap_grammar.specs.Lexemes.{lexemes_of}
 use Rattle.wap_grammar.specs.Values.{id_of}
 use Rattle.wap_grammar.specs.Spellings.{name, sign}
-use Rattle.wap_grammar.specs.inside.TokenReading.{Reading, span_of, expect_at, id_at}
+use Rattle.wap_grammar.specs.reading.TokenReading.{Reading, span_of, expect_at, id_at}
 use Rattle.wap_grammar.proofs.Firsts.{expect_ok, id_ok}
 use Rattle.wap_parse.specs.declared.invocation.invocation.Invocation.{Invocation}
 use Rattle.wap_parse.specs.invocation.Calls.{AreArguments, SpellsCall, call, is_spaced, IsCall}

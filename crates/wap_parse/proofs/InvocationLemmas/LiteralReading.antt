@@ -12,9 +12,9 @@ use Rattle.wap_grammar.specs.declared.word.Word.TheVariants as word
 use Rattle.wap_grammar.specs.Lexemes.{word_of}
 use Rattle.wap_grammar.specs.Values.{literal_of}
 use Rattle.wap_grammar.specs.Spellings.{token}
-use Rattle.wap_grammar.specs.inside.TokenReading.{Reading, syntax, told, id_at}
-use Rattle.wap_grammar.specs.inside.Expressions.{primary_by, primary_at, unary_at, part_at}
-use Rattle.wap_grammar.specs.inside.Expressions.{expression_at, named_at, callee_at}
+use Rattle.wap_grammar.specs.reading.TokenReading.{Reading, syntax, told, id_at}
+use Rattle.wap_grammar.specs.reading.Expressions.{primary_by, primary_at, unary_at, part_at}
+use Rattle.wap_grammar.specs.reading.Expressions.{expression_at, named_at, callee_at}
 use Rattle.wap_grammar.proofs.Firsts.{value_same}
 use Rattle.wap_parse.specs.invocation.Calculation.{literal_by, literal_at}
 use Rattle.wap_parse.specs.invocation.inside.Literals.{is_literal}

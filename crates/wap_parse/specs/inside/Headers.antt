@@ -5,9 +5,9 @@ use Rattle.wap_grammar.specs.declared.program.expression.Expr.{Expr}
 use Rattle.wap_grammar.specs.declared.program.statement.Stmt.{Stmt}
 use Rattle.wap_grammar.specs.declared.lexeme.Lexeme.{Lexeme}
 use Rattle.wap_grammar.specs.declared.word.Sign.TheVariants as sign
-use Rattle.wap_grammar.specs.inside.TokenReading.{Reading, told, expect_at}
-use Rattle.wap_grammar.specs.inside.Expressions.{Reader}
-use Rattle.wap_grammar.specs.inside.Statements.{optional_at, initial_at}
+use Rattle.wap_grammar.specs.reading.TokenReading.{Reading, told, expect_at}
+use Rattle.wap_grammar.specs.reading.Expressions.{Reader}
+use Rattle.wap_grammar.specs.reading.Statements.{optional_at, initial_at}
 
 -- the condition, and what is done after each turn
 unfoldable pub limits_at : List ℕ → Reader → List Lexeme → Reading (Option Expr × Option Expr)

@@ -4,8 +4,8 @@ use Rattle.wap_base.specs.Outcome.{◌>>=◌}
 use Rattle.wap_grammar.specs.declared.program.program.Id.{Id}
 use Rattle.wap_grammar.specs.declared.lexeme.Lexeme.{Lexeme}
 use Rattle.wap_grammar.specs.declared.word.Sign.TheVariants as sign
-use Rattle.wap_grammar.specs.inside.TokenReading.{Reading, expect_at, id_at}
-use Rattle.wap_grammar.specs.inside.Programs.{parameters_at, head_at}
+use Rattle.wap_grammar.specs.reading.TokenReading.{Reading, expect_at, id_at}
+use Rattle.wap_grammar.specs.reading.Programs.{parameters_at, head_at}
 
 -- whether other units may call it, its name and its parameters, up to the `{`
 unfoldable pub signature_at : List ℕ → List Lexeme → Reading (Bool × (Id × List Id))

@@ -19,9 +19,9 @@ use Rattle.wap_grammar.specs.declared.word.Word.TheVariants as word
 use Rattle.wap_grammar.specs.declared.word.Sign.TheVariants.{Open, Close}
 use Rattle.wap_grammar.specs.Lexemes.{word_of, lexemes_of, sign_of, is_sign}
 use Rattle.wap_grammar.specs.Values.{literal_of}
-use Rattle.wap_grammar.specs.inside.TokenReading.{Reading, span_of, after, syntax, told, expect_at}
-use Rattle.wap_grammar.specs.inside.TokenReading.{closed, id_at}
-use Rattle.wap_grammar.specs.inside.Statements.{listed_at}
+use Rattle.wap_grammar.specs.reading.TokenReading.{Reading, span_of, after, syntax, told, expect_at}
+use Rattle.wap_grammar.specs.reading.TokenReading.{closed, id_at}
+use Rattle.wap_grammar.specs.reading.Statements.{listed_at}
 use Rattle.wap_parse.specs.declared.invocation.invocation.Invocation.{Invocation}
 use Rattle.wap_parse.specs.invocation.Calls.{value_of, is_spaced}
 

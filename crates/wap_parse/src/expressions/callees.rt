@@ -3,9 +3,9 @@ ghost use Rattle.std.specs.Prelude.{◌≡◌};
 ghost use Rattle.wap_base.specs.Outcome.{Meets};
 ghost use Rattle.wap_grammar.specs.declared.fault.ParseFault.TheVariants.{NoMemory};
 ghost use Rattle.wap_grammar.specs.Values.{called};
-ghost use Rattle.wap_grammar.specs.inside.TokenReading.{told, id_at};
-ghost use Rattle.wap_grammar.specs.inside.Expressions.{callee_after, callee_at};
-ghost use Rattle.wap_grammar.specs.inside.Expressions.{variable_at, prefixed};
+ghost use Rattle.wap_grammar.specs.reading.TokenReading.{told, id_at};
+ghost use Rattle.wap_grammar.specs.reading.Expressions.{callee_after, callee_at};
+ghost use Rattle.wap_grammar.specs.reading.Expressions.{variable_at, prefixed};
 
 use crate::expressions::steps::{read_id, syntax_fault};
 use crate::expressions::words::{after, is_sign, step_of, word_of};
@@ -16,7 +16,7 @@ use wap_grammar::{Callee, Lexeme, ParseFault, Sign};
 
 /// What a call names.
 #[inline(always)]
-#[tactic(auto, unfolding(wap_grammar::specs::inside::Expressions::callee_at))]
+#[tactic(auto, unfolding(wap_grammar::specs::reading::Expressions::callee_at))]
 pub(crate) fn read_callee<'a>(
     alloc: Global,
     src: &[u8],
@@ -30,7 +30,7 @@ pub(crate) fn read_callee<'a>(
 
 /// What a call names, after its first name.
 #[inline(always)]
-#[tactic(auto, unfolding(wap_grammar::specs::inside::Expressions::callee_after))]
+#[tactic(auto, unfolding(wap_grammar::specs::reading::Expressions::callee_after))]
 fn read_callee_after<'a>(
     alloc: Global,
     src: &[u8],
@@ -53,7 +53,7 @@ fn read_callee_after<'a>(
 
 /// The variable that a name is, and the `++` or `--` after it.
 #[inline(always)]
-#[tactic(auto, unfolding(wap_grammar::specs::inside::Expressions::variable_at))]
+#[tactic(auto, unfolding(wap_grammar::specs::reading::Expressions::variable_at))]
 pub(crate) fn read_variable<'a>(
     src: &[u8],
     callee: Callee,

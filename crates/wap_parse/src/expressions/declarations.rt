@@ -2,10 +2,10 @@
 ghost use Rattle.std.specs.Prelude.{◌∷◌};
 ghost use Rattle.wap_base.specs.Outcome.{Meets};
 ghost use Rattle.wap_grammar.specs.declared.fault.ParseFault.TheVariants as faults;
-ghost use Rattle.wap_grammar.specs.inside.TokenReading.{told, items_at};
-ghost use Rattle.wap_grammar.specs.inside.Expressions.{expression_at};
-ghost use Rattle.wap_grammar.specs.inside.Statements.{next_listed, listed_at, declaration_after};
-ghost use Rattle.wap_grammar.specs.inside.Statements.{declaration_at, variables_at};
+ghost use Rattle.wap_grammar.specs.reading.TokenReading.{told, items_at};
+ghost use Rattle.wap_grammar.specs.reading.Expressions.{expression_at};
+ghost use Rattle.wap_grammar.specs.reading.Statements.{next_listed, listed_at, declaration_after};
+ghost use Rattle.wap_grammar.specs.reading.Statements.{declaration_at, variables_at};
 
 use crate::expressions::expressions::read_expression;
 use crate::expressions::making::list_of_one;
@@ -18,7 +18,7 @@ use wap_grammar::{ASSIGNMENT, Lexeme, ParseFault, Sign};
 
 /// What `var` declares, after the word, and the tokens after its `;`. A string whose bytes stand
 /// for no text is answered as `NoMemory`.
-#[tactic(auto, unfolding(wap_grammar::specs::inside::Statements::variables_at))]
+#[tactic(auto, unfolding(wap_grammar::specs::reading::Statements::variables_at))]
 pub fn read_variables<'a>(
     alloc: Global,
     src: &[u8],
@@ -34,7 +34,7 @@ pub fn read_variables<'a>(
 }
 
 /// Declarations, one at least, with commas between them.
-#[tactic(auto, unfolding(wap_grammar::specs::inside::Statements::listed_at))]
+#[tactic(auto, unfolding(wap_grammar::specs::reading::Statements::listed_at))]
 fn read_declarations<'a>(
     alloc: Global,
     src: &[u8],
@@ -75,7 +75,7 @@ fn read_other_declarations<'a>(
 }
 
 /// A variable, and what it begins with if that is said.
-#[tactic(auto, unfolding(wap_grammar::specs::inside::Statements::declaration_at))]
+#[tactic(auto, unfolding(wap_grammar::specs::reading::Statements::declaration_at))]
 fn read_declaration<'a>(
     alloc: Global,
     src: &[u8],
@@ -90,7 +90,7 @@ fn read_declaration<'a>(
 }
 
 /// A declaration after its name.
-#[tactic(auto, unfolding(wap_grammar::specs::inside::Statements::declaration_after))]
+#[tactic(auto, unfolding(wap_grammar::specs::reading::Statements::declaration_after))]
 fn read_declared<'a>(
     alloc: Global,
     src: &[u8],

@@ -2,11 +2,11 @@
 ghost use Rattle.std.specs.Prelude.{◌<◌, ◌∷◌};
 ghost use Rattle.wap_base.specs.Outcome.{Meets};
 ghost use Rattle.wap_grammar.specs.declared.fault.ParseFault.TheVariants as faults;
-ghost use Rattle.wap_grammar.specs.inside.TokenReading.{told, items_at};
-ghost use Rattle.wap_grammar.specs.inside.Expressions.{next_argument, arguments_at, named_at};
-ghost use Rattle.wap_grammar.specs.inside.Expressions.{primary_at, unary_at, next_operand};
-ghost use Rattle.wap_grammar.specs.inside.Expressions.{branches_at};
-ghost use Rattle.wap_grammar.specs.inside.Expressions.{part_at, expression_at};
+ghost use Rattle.wap_grammar.specs.reading.TokenReading.{told, items_at};
+ghost use Rattle.wap_grammar.specs.reading.Expressions.{next_argument, arguments_at, named_at};
+ghost use Rattle.wap_grammar.specs.reading.Expressions.{primary_at, unary_at, next_operand};
+ghost use Rattle.wap_grammar.specs.reading.Expressions.{branches_at};
+ghost use Rattle.wap_grammar.specs.reading.Expressions.{part_at, expression_at};
 ghost use Rattle.wap_parse.specs.expressions.inside.Climbing.{climbed_at, climbed_after};
 ghost use Rattle.wap_parse.specs.expressions.inside.Climbing.{chained_after};
 
@@ -27,7 +27,7 @@ use wap_value::BinOp;
 /// An expression of a level of precedence, with so many levels left for it and its parts, and the
 /// tokens after it. A string whose bytes stand for no text is answered as `NoMemory`.
 #[cycle(expressions)]
-#[tactic(auto, unfolding(wap_grammar::specs::inside::Expressions::expression_at))]
+#[tactic(auto, unfolding(wap_grammar::specs::reading::Expressions::expression_at))]
 pub fn read_expression<'a>(
     alloc: Global,
     src: &[u8],
@@ -92,7 +92,7 @@ fn read_tight<'a>(
 
 /// A condition with its branches, or an expression of the next tighter level.
 #[cycle(expressions)]
-#[tactic(auto, using(crate::proofs::ExpressionsLemmas::Levels::at_choice), unfolding(wap_grammar::specs::inside::Expressions::conditional_at))]
+#[tactic(auto, using(crate::proofs::ExpressionsLemmas::Levels::at_choice), unfolding(wap_grammar::specs::reading::Expressions::conditional_at))]
 fn read_choice<'a>(
     alloc: Global,
     src: &[u8],
@@ -111,7 +111,7 @@ fn read_choice<'a>(
 
 /// An assignment to a variable, or an expression of the next tighter level.
 #[cycle(expressions)]
-#[tactic(auto, using(crate::proofs::ExpressionsLemmas::Levels::at_value), unfolding(wap_grammar::specs::inside::Expressions::assignment_at))]
+#[tactic(auto, using(crate::proofs::ExpressionsLemmas::Levels::at_value), unfolding(wap_grammar::specs::reading::Expressions::assignment_at))]
 fn read_value<'a>(
     alloc: Global,
     src: &[u8],
@@ -251,7 +251,7 @@ fn read_operands<'a>(
 
 /// The branches of a condition, after the `?`.
 #[cycle(expressions)]
-#[tactic(auto, unfolding(wap_grammar::specs::inside::Expressions::branches_at))]
+#[tactic(auto, unfolding(wap_grammar::specs::reading::Expressions::branches_at))]
 fn read_branches<'a>(
     alloc: Global,
     src: &[u8],
@@ -288,7 +288,7 @@ fn read_boxed<'a>(
 /// A unary operator and its operand, `++` or `--` and a variable, or what has no operator before
 /// it.
 #[cycle(expressions)]
-#[tactic(auto, unfolding(wap_grammar::specs::inside::Expressions::unary_at))]
+#[tactic(auto, unfolding(wap_grammar::specs::reading::Expressions::unary_at))]
 fn read_unary<'a>(
     alloc: Global,
     src: &[u8],
@@ -312,7 +312,7 @@ fn read_unary<'a>(
 /// A literal, an expression in parentheses, a call or a variable.
 #[cycle(expressions)]
 #[inline(always)]
-#[tactic(auto, unfolding(wap_grammar::specs::inside::Expressions::primary_at))]
+#[tactic(auto, unfolding(wap_grammar::specs::reading::Expressions::primary_at))]
 fn read_primary<'a>(
     alloc: Global,
     src: &[u8],
@@ -336,7 +336,7 @@ fn read_primary<'a>(
 /// A call or a variable.
 #[cycle(expressions)]
 #[inline(always)]
-#[tactic(auto, unfolding(wap_grammar::specs::inside::Expressions::named_at))]
+#[tactic(auto, unfolding(wap_grammar::specs::reading::Expressions::named_at))]
 fn read_named<'a>(
     alloc: Global,
     src: &[u8],
@@ -356,7 +356,7 @@ fn read_named<'a>(
 
 /// Arguments, and the parenthesis after them.
 #[cycle(expressions)]
-#[tactic(auto, unfolding(wap_grammar::specs::inside::Expressions::arguments_at))]
+#[tactic(auto, unfolding(wap_grammar::specs::reading::Expressions::arguments_at))]
 fn read_arguments<'a>(
     alloc: Global,
     src: &[u8],

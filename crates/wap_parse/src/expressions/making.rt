@@ -1,6 +1,6 @@
 //! Expressions and lists made of their parts.
 ghost use Rattle.std.specs.Prelude.{◌≡◌, [], ◌∷◌, IfOk};
-ghost use Rattle.wap_grammar.specs.inside.Expressions.{chained};
+ghost use Rattle.wap_grammar.specs.reading.Expressions.{chained};
 
 use std::alloc::Global;
 use wap_base::{NoMemory, Rows};

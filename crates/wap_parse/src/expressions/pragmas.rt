@@ -3,9 +3,9 @@ ghost use Rattle.std.specs.Prelude.{◌≡◌};
 ghost use Rattle.wap_base.specs.Outcome.{Meets};
 ghost use Rattle.wap_grammar.specs.declared.fault.ParseFault.TheVariants as faults;
 ghost use Rattle.wap_grammar.specs.Programs.{from_to};
-ghost use Rattle.wap_grammar.specs.inside.TokenReading.{told, items_at};
-ghost use Rattle.wap_grammar.specs.inside.Programs.{agent_of, note_of, url_at, who_at};
-ghost use Rattle.wap_grammar.specs.inside.Programs.{meta_at, use_at, next_use};
+ghost use Rattle.wap_grammar.specs.reading.TokenReading.{told, items_at};
+ghost use Rattle.wap_grammar.specs.reading.Programs.{agent_of, note_of, url_at, who_at};
+ghost use Rattle.wap_grammar.specs.reading.Programs.{meta_at, use_at, next_use};
 ghost use Rattle.wap_parse.specs.expressions.inside.Properties.{ended_at};
 
 use crate::expressions::steps::{close, expect, read_id};
@@ -40,7 +40,7 @@ pub fn read_uses<'a>(
 }
 
 /// A pragma after its `use`, whose place is given.
-#[tactic(auto, unfolding(wap_grammar::specs::inside::Programs::use_at))]
+#[tactic(auto, unfolding(wap_grammar::specs::reading::Programs::use_at))]
 fn read_use<'a>(
     alloc: Global,
     src: &[u8],
@@ -61,7 +61,7 @@ fn read_use<'a>(
 }
 
 /// A name for the unit of a URL.
-#[tactic(auto, using(crate::proofs::ExpressionsLemmas::Closings::told_closed), unfolding(wap_grammar::specs::inside::Programs::url_at))]
+#[tactic(auto, using(crate::proofs::ExpressionsLemmas::Closings::told_closed), unfolding(wap_grammar::specs::reading::Programs::url_at))]
 fn read_url<'a>(
     alloc: Global,
     src: &[u8],
@@ -76,7 +76,7 @@ fn read_url<'a>(
 }
 
 /// Who may call the unit. The pragma stands from its first word, which is given, to its `;`.
-#[tactic(auto, unfolding(wap_grammar::specs::inside::Programs::who_at))]
+#[tactic(auto, unfolding(wap_grammar::specs::reading::Programs::who_at))]
 fn read_who<'a>(
     alloc: Global,
     src: &[u8],
@@ -103,7 +103,7 @@ fn from_to(first: Span, last: Span) -> Span
 }
 
 /// A property of the unit.
-#[tactic(auto, unfolding(wap_grammar::specs::inside::Programs::meta_at))]
+#[tactic(auto, unfolding(wap_grammar::specs::reading::Programs::meta_at))]
 fn read_meta<'a>(
     alloc: Global,
     src: &[u8],

@@ -4,7 +4,7 @@ ghost use Rattle.wap_base.specs.Outcome.{Meets};
 ghost use Rattle.wap_grammar.specs.declared.fault.ParseFault.TheVariants.{Syntax, Nested, NoMemory};
 ghost use Rattle.wap_grammar.specs.Values.{id_of};
 ghost use Rattle.wap_grammar.specs.Refusal.{place_of};
-ghost use Rattle.wap_grammar.specs.inside.TokenReading.{Reading, told, expect_at, closed, id_at};
+ghost use Rattle.wap_grammar.specs.reading.TokenReading.{Reading, told, expect_at, closed, id_at};
 
 use crate::expressions::lexemes::text_in;
 use crate::expressions::words::{after, is_name, is_sign, span_of};
@@ -42,7 +42,7 @@ pub fn nesting_fault(src: &[u8], lexemes: &[Lexeme]) -> ParseFault
 }
 
 /// The tokens after a sign.
-#[tactic(auto, unfolding(wap_grammar::specs::inside::TokenReading::expect_at))]
+#[tactic(auto, unfolding(wap_grammar::specs::reading::TokenReading::expect_at))]
 pub fn expect<'a>(src: &[u8], sign: Sign, lexemes: &'a [Lexeme]) -> Result<&'a [Lexeme], ParseFault>
     ensures { Meets NoMemory (λ rest. rest.now) result (expect_at src.now sign lexemes.now) }
 {
@@ -92,7 +92,7 @@ pub(crate) fn id_of(alloc: Global, src: &[u8], span: Span) -> Result<Id, ParseFa
 
 /// A name, and the tokens after it.
 #[inline(always)]
-#[tactic(auto, unfolding(wap_grammar::specs::inside::TokenReading::id_at))]
+#[tactic(auto, unfolding(wap_grammar::specs::reading::TokenReading::id_at))]
 pub fn read_id<'a>(
     alloc: Global,
     src: &[u8],

@@ -2,8 +2,8 @@
 ghost use Rattle.std.specs.Prelude.{◌≡◌};
 ghost use Rattle.wap_base.specs.Outcome.{Meets};
 ghost use Rattle.wap_grammar.specs.declared.fault.ParseFault.TheVariants as faults;
-ghost use Rattle.wap_grammar.specs.inside.Programs.{text_at, signed_at, access_by};
-ghost use Rattle.wap_grammar.specs.inside.Programs.{access_at, scheme_at, property_at};
+ghost use Rattle.wap_grammar.specs.reading.Programs.{text_at, signed_at, access_by};
+ghost use Rattle.wap_grammar.specs.reading.Programs.{access_at, scheme_at, property_at};
 ghost use Rattle.wap_parse.specs.expressions.inside.Properties.{ended_at};
 
 use crate::expressions::lexemes::text_in;
@@ -15,7 +15,7 @@ use wap_base::Text;
 use wap_grammar::{Lexeme, ParseFault, Sign};
 
 /// A string.
-#[tactic(auto, unfolding(wap_grammar::specs::inside::Programs::text_at))]
+#[tactic(auto, unfolding(wap_grammar::specs::reading::Programs::text_at))]
 pub(crate) fn read_text<'a>(
     alloc: Global,
     src: &[u8],
@@ -32,7 +32,7 @@ pub(crate) fn read_text<'a>(
 }
 
 /// A string after a sign, where the sign stands.
-#[tactic(auto, unfolding(wap_grammar::specs::inside::Programs::signed_at))]
+#[tactic(auto, unfolding(wap_grammar::specs::reading::Programs::signed_at))]
 fn read_signed<'a>(
     alloc: Global,
     src: &[u8],
@@ -50,7 +50,7 @@ fn read_signed<'a>(
 }
 
 /// A domain and a path, one of them at least.
-#[tactic(auto, unfolding(wap_grammar::specs::inside::Programs::access_at))]
+#[tactic(auto, unfolding(wap_grammar::specs::reading::Programs::access_at))]
 pub(crate) fn read_access<'a>(
     alloc: Global,
     src: &[u8],
@@ -83,7 +83,7 @@ fn one_of<'a>(
 }
 
 /// A scheme or none.
-#[tactic(auto, unfolding(wap_grammar::specs::inside::Programs::scheme_at))]
+#[tactic(auto, unfolding(wap_grammar::specs::reading::Programs::scheme_at))]
 fn read_scheme<'a>(
     alloc: Global,
     src: &[u8],
@@ -100,7 +100,7 @@ fn read_scheme<'a>(
 }
 
 /// A property: its name, what it is, and a scheme or none.
-#[tactic(auto, unfolding(wap_grammar::specs::inside::Programs::property_at))]
+#[tactic(auto, unfolding(wap_grammar::specs::reading::Programs::property_at))]
 fn read_property<'a>(
     alloc: Global,
     src: &[u8],

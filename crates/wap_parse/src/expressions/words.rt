@@ -3,7 +3,7 @@ ghost use Rattle.std.specs.Prelude.{◌≡◌, ◌<◌, ◌≤◌, IfSome};
 ghost use Rattle.wap_grammar.specs.Lexemes.{word_of, precedence, sign_of, unary_of, step_of};
 ghost use Rattle.wap_grammar.specs.Lexemes.{assignment_of, operator_of, is_sign, is_name};
 ghost use Rattle.wap_grammar.specs.Lexemes.{is_text, is_comma, is_equals};
-ghost use Rattle.wap_grammar.specs.inside.TokenReading.{span_of, after};
+ghost use Rattle.wap_grammar.specs.reading.TokenReading.{span_of, after};
 ghost use Rattle.wap_parse.specs.expressions.inside.Climbing.{looser_of};
 
 use wap_grammar::program::Span;

@@ -2,8 +2,8 @@
 ghost use Rattle.std.specs.Prelude.{◌≡◌, ◌∷◌};
 ghost use Rattle.wap_base.specs.Outcome.{Meets};
 ghost use Rattle.wap_grammar.specs.declared.fault.ParseFault.TheVariants as faults;
-ghost use Rattle.wap_grammar.specs.inside.TokenReading.{told, items_at};
-ghost use Rattle.wap_grammar.specs.inside.Statements.{next_listed, listed_at};
+ghost use Rattle.wap_grammar.specs.reading.TokenReading.{told, items_at};
+ghost use Rattle.wap_grammar.specs.reading.Statements.{next_listed, listed_at};
 ghost use Rattle.wap_parse.specs.invocation.Calculation.{is_next, signed_at, sign_in};
 ghost use Rattle.wap_parse.specs.invocation.Calculation.{argument_at, arguments_at};
 
@@ -92,7 +92,7 @@ pub(crate) fn read_arguments<'a>(
 }
 
 /// Arguments, one at least, with commas between them.
-#[tactic(auto, unfolding(wap_grammar::specs::inside::Statements::listed_at))]
+#[tactic(auto, unfolding(wap_grammar::specs::reading::Statements::listed_at))]
 fn read_listed<'a>(
     alloc: Global,
     src: &[u8],
@@ -130,7 +130,7 @@ fn read_other_arguments<'a>(
 }
 
 /// The next argument, or none.
-#[tactic(auto, unfolding(wap_grammar::specs::inside::Statements::next_listed))]
+#[tactic(auto, unfolding(wap_grammar::specs::reading::Statements::next_listed))]
 fn next_argument<'a>(
     alloc: Global,
     src: &[u8],

@@ -17,8 +17,8 @@ use Rattle.wap_verify.specs.declared.fault.VerifyFault.TheVariants as fault
 use Rattle.wap_verify.specs.CodePlaces.{way_on}
 use Rattle.wap_verify.specs.Paths.{Stand}
 use Rattle.wap_verify.specs.Sound.{IsSplit, IsSound}
-use Rattle.wap_verify.specs.inside.Work.{State, depth_of, followed, AgreesWith}
-use Rattle.wap_verify.specs.inside.Work.{effort, Works, Visits}
+use Rattle.wap_verify.specs.inside.Work.{AgreesWith, Works, Visits}
+use Rattle.wap_verify.specs.Depths.{State, depth_of, followed, effort}
 use Rattle.wap_verify.specs.inside.Kept.{IsConflictOn}
 use Rattle.wap_verify.proofs.Working.{stands_reached, kept_within, Here, too_few, can_on}
 use Rattle.wap_verify.proofs.Working.{can_jump, sane_on, conflict_fault, visited}

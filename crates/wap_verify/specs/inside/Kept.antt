@@ -4,7 +4,7 @@ use Rattle.wap_verify.specs.declared.depths.Work.{Work}
 use Rattle.wap_verify.specs.declared.step.Way.{Way}
 use Rattle.wap_verify.specs.declared.fault.VerifyFault.{VerifyFault}
 use Rattle.wap_verify.specs.declared.fault.VerifyFault.TheVariants.{Depths}
-use Rattle.wap_verify.specs.inside.Work.{State, depth_of}
+use Rattle.wap_verify.specs.Depths.{State, depth_of}
 
 abbrev pub state : Work → State
 state work = record { depths = work.depths.items; pending = work.pending.items; room = work.room }

@@ -1,7 +1,7 @@
 -- What the verifier keeps while it works on a function.
-use Rattle.std.specs.Prelude.{⊤, ◌≡◌, ℕ, ◌+◌, ◌-◌, ◌<◌, ◌≤◌, ◌==◌, ◌||◌, ◌&&◌, ◌⊎◌, max, not, Bool}
-use Rattle.std.specs.Prelude.{true, false, List, [], ◌∷◌, ◌++◌, length, slice_get, slice_set}
-use Rattle.std.specs.Prelude.{slice_index_or, Option, Some, None, IfSome, Ok}
+use Rattle.std.specs.Prelude.{⊤, ◌≡◌, ℕ, ◌+◌, ◌-◌, ◌<◌, ◌≤◌, ◌==◌, ◌||◌, ◌&&◌, ◌⊎◌, not, Bool, true}
+use Rattle.std.specs.Prelude.{false, List, [], ◌∷◌, length, slice_index_or, Option, Some, None}
+use Rattle.std.specs.Prelude.{IfSome, Ok}
 use Rattle.std.specs.List.{list_any, list_all}
 use Rattle.wap_unit.specs.declared.unit.Unit.{Unit}
 use Rattle.wap_unit.specs.declared.unit.Code.{Code}
@@ -10,6 +10,7 @@ use Rattle.wap_verify.specs.declared.step.Way.{Way}
 use Rattle.wap_verify.specs.CodePlaces.{way_on, step_at}
 use Rattle.wap_verify.specs.Paths.{Stand, HasWay, Reaches}
 use Rattle.wap_verify.specs.Sound.{Runs, is_aimed}
+use Rattle.wap_verify.specs.Depths.{State, depth_of, unseen}
 
 -- a step leads on, within the code, and gives one value at most
 pub record GoesOn (at end : ℕ) (step : Step) : Type 0 where
@@ -52,50 +53,13 @@ pub record Aimed (unit : Unit) (index : ℕ) (function : Code) (places : List �
 -- ---- the third pass: one number of values for each place, and the places whose ways aren't
 -- followed yet
 
-pub record State : Type 0 where
-  pub depths : List (Option ℕ)
-  pub pending : List Stand
-  pub room : ℕ
-
-abbrev pub depth_of : State → ℕ → Option (Option ℕ)
-depth_of state at = slice_get state.depths at
-
--- when a way ends at a place with so many values
-abbrev pub noted : State → ℕ → ℕ → Option (Option ℕ) → State
-noted state to values None =
-    record { depths = state.depths; pending = state.pending; room = max state.room values }
-noted state to values (Some (Some other)) =
-    record { depths = state.depths; pending = state.pending; room = max state.room values }
-noted state to values (Some None) =
-    record {
-      depths = slice_set state.depths to (Some values);
-      pending = state.pending ++ (to, values) ∷ [];
-      room = max state.room values;
-    }
-
-abbrev pub arrived : State → ℕ → ℕ → State
-arrived state to values = noted state to values (depth_of state to)
-
 -- the number that is kept there is no other
 abbrev pub Agrees : State → ℕ → ℕ → Type 0
 Agrees state to values = (other : ℕ) → depth_of state to ≡ Some (Some other) → other ≡ values
 
-abbrev pub followed : State → ℕ → Option Way → State
-followed state left None = state
-followed state left (Some way) = arrived state way.to (left + way.gives)
-
 abbrev pub AgreesWith : State → ℕ → Option Way → Type 0
 AgreesWith state left None = ⊤
 AgreesWith state left (Some way) = Agrees state way.to (left + way.gives)
-
--- how many places have no number yet
-abbrev pub unseen : List (Option ℕ) → ℕ
-unseen [] = 0
-unseen (None ∷ depths) = 1 + unseen depths
-unseen (Some values ∷ depths) = unseen depths
-
-abbrev pub effort : State → ℕ
-effort state = unseen state.depths + unseen state.depths + length state.pending
 
 abbrev pub Among : {A : Type 0} → A → List A → Type 0
 Among x [] = ⊥

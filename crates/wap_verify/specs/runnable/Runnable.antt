@@ -14,7 +14,7 @@ use Rattle.wap_verify.specs.declared.fault.VerifyFault.TheVariants as fault
 use Rattle.wap_verify.specs.CodePlaces.{way_on, step_at}
 use Rattle.wap_verify.specs.Paths.{Stand}
 use Rattle.wap_verify.specs.Sound.{is_aimed, stray_pragma}
-use Rattle.wap_verify.specs.inside.Work.{State, depth_of, followed, effort}
+use Rattle.wap_verify.specs.Depths.{State, depth_of, followed, effort}
 
 -- ---- whole instructions, and the targets of jumps
 

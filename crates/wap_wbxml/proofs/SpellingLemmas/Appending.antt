@@ -8,7 +8,7 @@ use Rattle.wap_tokens.specs.declared.markup.codes.TheConstants.{END}
 use Rattle.wap_wbxml.specs.declared.spelling.output.Output.{Output}
 use Rattle.wap_wbxml.specs.declared.spelling.output.Pages.{Pages}
 use Rattle.wap_wbxml.specs.spelling.Writings.{Writing, plain, ◌⨾◌, each, ended}
-use Rattle.wap_wbxml.specs.spelling.inside.Written.{written}
+use Rattle.wap_wbxml.specs.spelling.Written.{written}
 
 -- what is written after some bytes
 with_bytes : Pages → List ℕ → Output

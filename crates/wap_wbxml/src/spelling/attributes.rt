@@ -5,7 +5,7 @@ ghost use Rattle.wap_wbxml.specs.spelling.Writings.{plain, each, ended};
 ghost use Rattle.wap_wbxml.specs.spelling.Spelling.{start_spelling, piece_spelling};
 ghost use Rattle.wap_wbxml.specs.spelling.Spelling.{attr_spelling, instruction_spelling};
 ghost use Rattle.wap_wbxml.specs.spelling.Spellable.{HasNoZero, FitsPiece, FitsAttr};
-ghost use Rattle.wap_wbxml.specs.spelling.inside.Written.{written};
+ghost use Rattle.wap_wbxml.specs.spelling.Written.{written};
 
 use crate::spelling::output::Output;
 use crate::spelling::table::Table;

@@ -5,7 +5,7 @@ ghost use Rattle.wap_wbxml.specs.spelling.Writings.{plain, ended};
 ghost use Rattle.wap_wbxml.specs.spelling.Spelling.{bits, tag_spelling, kid_spelling};
 ghost use Rattle.wap_wbxml.specs.spelling.Spelling.{element_spelling};
 ghost use Rattle.wap_wbxml.specs.spelling.Spellable.{HasNoZero, FitsTag, FitsKid, FitsElement};
-ghost use Rattle.wap_wbxml.specs.spelling.inside.Written.{written};
+ghost use Rattle.wap_wbxml.specs.spelling.Written.{written};
 
 use crate::spelling::attributes::{write_attributes, write_instruction};
 use crate::spelling::output::Output;

@@ -6,7 +6,7 @@ ghost use Rattle.wap_wbxml.specs.spelling.Writings.{plain, on_tag_page, on_attri
 ghost use Rattle.wap_wbxml.specs.spelling.Names.{string};
 ghost use Rattle.wap_wbxml.specs.spelling.Left.{Begins};
 ghost use Rattle.wap_wbxml.specs.spelling.Spelling.{sized, variable};
-ghost use Rattle.wap_wbxml.specs.spelling.inside.Written.{written};
+ghost use Rattle.wap_wbxml.specs.spelling.Written.{written};
 
 use wap_base::{Bytes, Conv, NoMemory, Text, write_mb};
 use wap_tokens::markup::{ENTITY, EXT_0, EXT_I_0, EXT_I_1, EXT_I_2, OPAQUE, STR_I, SWITCH_PAGE};

@@ -26,7 +26,7 @@ use Rattle.wap_wbxml.specs.Places.{Input, place}
 use Rattle.wap_wbxml.specs.reading.ByteReading.{Reading, told}
 use Rattle.wap_wbxml.specs.reading.BodyReading.{when, attributes_at, kids_at, element_at}
 use Rattle.wap_wbxml.specs.reading.Whole.{outers_at, root_at}
-use Rattle.wap_deck.specs.documents.inside.Adding.{any_added, marks_after}
+use Rattle.wap_deck.specs.documents.Adding.{any_added, marks_after}
 use Rattle.wap_deck.specs.reading.inside.Gathering.{read_as}
 
 -- a value and what a piece gives after it

@@ -1,6 +1,6 @@
 use Rattle.wap_grammar.specs.declared.word.Sign.TheVariants as sign
-use Rattle.wap_grammar.specs.inside.Expressions.{expression_at}
-use Rattle.wap_grammar.specs.inside.Statements.{optional_at}
+use Rattle.wap_grammar.specs.reading.Expressions.{expression_at}
+use Rattle.wap_grammar.specs.reading.Statements.{optional_at}
 use Rattle.wap_parse.specs.inside.Headers.{limits_at}
 use Rattle.wap_parse.proofs.clauses.read_limits.Goals as goal
 

@@ -1,4 +1,4 @@
-use Rattle.wap_grammar.specs.inside.Expressions.{expression_at}
+use Rattle.wap_grammar.specs.reading.Expressions.{expression_at}
 use Rattle.wap_parse.specs.inside.Headers.{limits_at, turns_at}
 use Rattle.wap_parse.proofs.clauses.read_turns.Goals as goal
 

@@ -1,8 +1,8 @@
 use Rattle.std.proofs.Common.{length, Option, Ok, ap, ◌∙◌}
 use Rattle.wap_grammar.specs.declared.program.program.Function.{Function}
-use Rattle.wap_grammar.specs.inside.TokenReading.{items_at}
-use Rattle.wap_grammar.specs.inside.Statements.{statement_at}
-use Rattle.wap_grammar.specs.inside.Programs.{next_function}
+use Rattle.wap_grammar.specs.reading.TokenReading.{items_at}
+use Rattle.wap_grammar.specs.reading.Statements.{statement_at}
+use Rattle.wap_grammar.specs.reading.Programs.{next_function}
 use Rattle.wap_parse.proofs.ExpressionsLemmas.Loops.{begins, another}
 use Rattle.wap_parse.proofs.functions.read_functions.Goals as goal
 

@@ -1,7 +1,7 @@
 use Rattle.std.proofs.Common.{length}
-use Rattle.wap_grammar.specs.inside.TokenReading.{items_at}
-use Rattle.wap_grammar.specs.inside.Statements.{statement_at}
-use Rattle.wap_grammar.specs.inside.Programs.{next_function}
+use Rattle.wap_grammar.specs.reading.TokenReading.{items_at}
+use Rattle.wap_grammar.specs.reading.Statements.{statement_at}
+use Rattle.wap_grammar.specs.reading.Programs.{next_function}
 use Rattle.wap_parse.proofs.ExpressionsLemmas.Loops.{Continues}
 use Rattle.wap_parse.proofs.functions.read_functions.Given as goal
 

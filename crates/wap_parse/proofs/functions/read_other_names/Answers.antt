@@ -1,7 +1,7 @@
 use Rattle.std.proofs.Common.{length, ◌∷◌, Option, Ok, ap, ◌∙◌}
 use Rattle.wap_grammar.specs.declared.program.program.Id.{Id}
-use Rattle.wap_grammar.specs.inside.TokenReading.{told, id_at, items_at}
-use Rattle.wap_grammar.specs.inside.Statements.{next_listed}
+use Rattle.wap_grammar.specs.reading.TokenReading.{told, id_at, items_at}
+use Rattle.wap_grammar.specs.reading.Statements.{next_listed}
 use Rattle.wap_parse.proofs.ExpressionsLemmas.Loops.{begins_with, another}
 use Rattle.wap_parse.proofs.functions.read_other_names.Goals as goal
 

@@ -1,6 +1,6 @@
 use Rattle.std.proofs.Common.{◌∷◌, length}
-use Rattle.wap_grammar.specs.inside.TokenReading.{told, id_at, items_at}
-use Rattle.wap_grammar.specs.inside.Statements.{next_listed}
+use Rattle.wap_grammar.specs.reading.TokenReading.{told, id_at, items_at}
+use Rattle.wap_grammar.specs.reading.Statements.{next_listed}
 use Rattle.wap_parse.proofs.ExpressionsLemmas.Loops.{Continues}
 use Rattle.wap_parse.proofs.functions.read_other_names.Given as goal
 

@@ -1,7 +1,7 @@
 use Rattle.std.proofs.Common.{length, Err, ap, ◌∙◌, arith}
 use Rattle.std.proofs.lemmas.Result.{err_from_is_err_and}
-use Rattle.wap_grammar.specs.inside.TokenReading.{items_at}
-use Rattle.wap_grammar.specs.inside.Statements.{next_statement, arm_at, statement_at}
+use Rattle.wap_grammar.specs.reading.TokenReading.{items_at}
+use Rattle.wap_grammar.specs.reading.Statements.{next_statement, arm_at, statement_at}
 use Rattle.wap_parse.proofs.ExpressionsLemmas.Loops.{begins, another, no_other, at_fault, at_exit}
 use Rattle.wap_parse.proofs.Nexts.{statement_found, statement_fault, no_statement}
 use Rattle.wap_parse.proofs.Levels.{deeper_statement}

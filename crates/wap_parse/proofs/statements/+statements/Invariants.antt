@@ -1,6 +1,6 @@
 use Rattle.std.proofs.Common.{◌+◌, ◌*◌, length}
-use Rattle.wap_grammar.specs.inside.TokenReading.{items_at}
-use Rattle.wap_grammar.specs.inside.Statements.{next_statement, statement_at}
+use Rattle.wap_grammar.specs.reading.TokenReading.{items_at}
+use Rattle.wap_grammar.specs.reading.Statements.{next_statement, statement_at}
 use Rattle.wap_parse.proofs.ExpressionsLemmas.Loops.{Continues}
 use Rattle.wap_parse.proofs.statements.+statements.Given as goal
 

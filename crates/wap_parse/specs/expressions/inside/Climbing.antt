@@ -8,8 +8,8 @@ use Rattle.wap_grammar.specs.declared.lexeme.Lexeme.{Lexeme}
 use Rattle.wap_grammar.specs.declared.word.Word.{Word}
 use Rattle.wap_grammar.specs.declared.word.Word.TheVariants as word
 use Rattle.wap_grammar.specs.Lexemes.{precedence}
-use Rattle.wap_grammar.specs.inside.TokenReading.{Reading, told, items_at}
-use Rattle.wap_grammar.specs.inside.Expressions.{Reader, chained, next_operand}
+use Rattle.wap_grammar.specs.reading.TokenReading.{Reading, told, items_at}
+use Rattle.wap_grammar.specs.reading.Expressions.{Reader, chained, next_operand}
 
 -- the level of the operator that a word is, if it is looser than one level and no looser than
 -- another

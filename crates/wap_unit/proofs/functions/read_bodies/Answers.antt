@@ -1,7 +1,7 @@
 use Rattle.std.proofs.Common.{Err, ap, ◌∙◌}
 use Rattle.std.proofs.lemmas.Result.{err_from_is_err_and}
-use Rattle.wap_unit.specs.inside.ByteReading.{many}
-use Rattle.wap_unit.specs.inside.UnitReading.{function_at}
+use Rattle.wap_unit.specs.reading.ByteReading.{many}
+use Rattle.wap_unit.specs.reading.UnitReading.{function_at}
 use Rattle.wap_unit.proofs.Loops.{one_more, at_fault, at_exit}
 use Rattle.wap_unit.proofs.functions.read_bodies.Goals as goal
 

@@ -1,5 +1,5 @@
-use Rattle.wap_unit.specs.inside.ByteReading.{many}
-use Rattle.wap_unit.specs.inside.UnitReading.{function_at}
+use Rattle.wap_unit.specs.reading.ByteReading.{many}
+use Rattle.wap_unit.specs.reading.UnitReading.{function_at}
 use Rattle.wap_unit.proofs.Loops.{Continues}
 use Rattle.wap_unit.proofs.functions.read_bodies.Given as goal
 

@@ -1,5 +1,5 @@
-use Rattle.wap_unit.specs.inside.ByteReading.{many}
-use Rattle.wap_unit.specs.inside.UnitReading.{name_at}
+use Rattle.wap_unit.specs.reading.ByteReading.{many}
+use Rattle.wap_unit.specs.reading.UnitReading.{name_at}
 use Rattle.wap_unit.proofs.Loops.{Continues}
 use Rattle.wap_unit.proofs.functions.read_names.Given as goal
 

@@ -1,4 +1,5 @@
-use Rattle.wap_verify.specs.inside.Work.{Works, effort}
+use Rattle.wap_verify.specs.inside.Work.{Works}
+use Rattle.wap_verify.specs.Depths.{effort}
 use Rattle.wap_verify.specs.inside.Kept.{state}
 use Rattle.wap_verify.proofs.depths.greatest_depth.Given as goal
 

@@ -1,7 +1,8 @@
 use Rattle.std.proofs.Common.{◌≡◌, ◌<◌, ℕ, List, [], ◌∷◌, ◌++◌, length, replicate, set}
 use Rattle.std.proofs.Common.{Option, Some, None, ap, subst, sym, ◌∙◌, arith}
 use Rattle.wap_verify.specs.Paths.{Stand}
-use Rattle.wap_verify.specs.inside.Work.{State, Works}
+use Rattle.wap_verify.specs.inside.Work.{Works}
+use Rattle.wap_verify.specs.Depths.{State}
 use Rattle.wap_verify.proofs.Working.{first_state, works_first}
 use Rattle.wap_verify.proofs.depths.start.Goals as goal
 

@@ -6,7 +6,8 @@ use Rattle.wap_verify.specs.declared.fault.VerifyFault.{VerifyFault}
 use Rattle.wap_verify.specs.declared.fault.VerifyFault.TheVariants.{NoMemory}
 use Rattle.wap_verify.specs.CodePlaces.{way_on}
 use Rattle.wap_verify.specs.Faults.{IsFunctionFault}
-use Rattle.wap_verify.specs.inside.Work.{State, followed, AgreesWith, Visits}
+use Rattle.wap_verify.specs.inside.Work.{AgreesWith, Visits}
+use Rattle.wap_verify.specs.Depths.{State, followed}
 use Rattle.wap_verify.specs.inside.Kept.{state, IsConflictOn}
 use Rattle.wap_verify.proofs.Walks.{exit}
 use Rattle.wap_verify.proofs.Working.{stands_reached, kept_within, Here, too_few, can_on}

@@ -2,7 +2,7 @@ use Rattle.std.proofs.Common.{List, ◌∙◌, sym, ap, ◌++◌, ◌∷◌, [],
 use Rattle.wap_base.specs.declared.name.Part.{Part}
 use Rattle.wap_tokens.specs.declared.markup.deck.Item.{Item}
 use Rattle.wap_tokens.specs.declared.markup.deck.Item.TheVariants as item
-use Rattle.wap_deck.specs.documents.inside.Adding.{part_added, part_after}
+use Rattle.wap_deck.specs.documents.Adding.{part_added, part_after}
 use Rattle.wap_deck.proofs.DocumentsLemmas.Joining.{part_after_text, part_after_node}
 use Rattle.wap_deck.proofs.documents.build.text_from.Goals as goal
 

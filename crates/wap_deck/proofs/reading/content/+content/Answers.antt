@@ -8,7 +8,7 @@ use Rattle.wap_tokens.specs.markup.Decks.{part_marks}
 use Rattle.wap_tokens.specs.markup.Grammar.{State, on_tag_page}
 use Rattle.wap_wbxml.specs.reading.ByteReading.{Reading, told, all_by}
 use Rattle.wap_wbxml.specs.reading.BodyReading.{as_short, next_kid, kids_at, element_at}
-use Rattle.wap_deck.specs.documents.inside.Adding.{marks_after}
+use Rattle.wap_deck.specs.documents.Adding.{marks_after}
 use Rattle.wap_deck.specs.reading.inside.Gathering.{read_as}
 use Rattle.wap_deck.specs.reading.inside.DocumentParts.{kid_added, kids_added}
 use Rattle.wap_deck.proofs.ReadingLemmas.Loops.{begins, one_more, stopped}

@@ -5,7 +5,7 @@ use Rattle.wap_tokens.specs.declared.markup.codes.TheConstants.{LITERAL}
 use Rattle.wap_tokens.specs.markup.Writing.{whole_code}
 use Rattle.wap_wbxml.specs.spelling.Names.{place_of}
 use Rattle.wap_wbxml.specs.spelling.Writings.{plain, each}
-use Rattle.wap_wbxml.specs.spelling.inside.Written.{written}
+use Rattle.wap_wbxml.specs.spelling.Written.{written}
 use Rattle.wap_deck.specs.writing.inside.WrittenTexts.{part_spelling}
 use Rattle.wap_deck.proofs.WritingLemmas.Starts.{by_own, by_whole, by_name}
 use Rattle.wap_deck.proofs.writing.attributes.write_attribute.Goals as goal

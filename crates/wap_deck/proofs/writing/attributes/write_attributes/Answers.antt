@@ -4,7 +4,7 @@ use Rattle.wap_tokens.specs.declared.markup.name.AttrName.{AttrName}
 use Rattle.wap_tokens.specs.markup.Writing.{attr_of}
 use Rattle.wap_wbxml.specs.spelling.Writings.{Writing}
 use Rattle.wap_wbxml.specs.spelling.Spelling.{attr_spelling}
-use Rattle.wap_wbxml.specs.spelling.inside.Written.{written}
+use Rattle.wap_wbxml.specs.spelling.Written.{written}
 use Rattle.wap_wbxml.proofs.SpellingLemmas.Appending.{each_none, each_step, ended_none, ended_some}
 use Rattle.wap_deck.proofs.WritingLemmas.Lists.{ended_map}
 use Rattle.wap_deck.proofs.writing.attributes.write_attributes.Goals as goal

@@ -2,7 +2,7 @@ use Rattle.std.proofs.Common.{◌≡◌, take}
 use Rattle.wap_tokens.specs.markup.Writing.{attr_of}
 use Rattle.wap_wbxml.specs.spelling.Writings.{each}
 use Rattle.wap_wbxml.specs.spelling.Spelling.{attr_spelling}
-use Rattle.wap_wbxml.specs.spelling.inside.Written.{written}
+use Rattle.wap_wbxml.specs.spelling.Written.{written}
 use Rattle.wap_deck.proofs.writing.attributes.write_attributes.Given as goal
 
 abbrev pub invariant-loop-attribute : goal.invariant-loop-attribute

@@ -7,7 +7,7 @@ use Rattle.wap_tokens.specs.declared.markup.deck.Item.{Item}
 use Rattle.wap_tokens.specs.markup.Writing.{attr_of, item_kids, items_kids, node_kids}
 use Rattle.wap_wbxml.specs.spelling.Writings.{plain, each, ended}
 use Rattle.wap_wbxml.specs.spelling.Spelling.{bit, attr_spelling, kid_spelling, element_spelling}
-use Rattle.wap_wbxml.specs.spelling.inside.Written.{written}
+use Rattle.wap_wbxml.specs.spelling.Written.{written}
 use Rattle.wap_wbxml.proofs.SpellingLemmas.Appending.{each_none, each_step}
 use Rattle.wap_deck.specs.writing.inside.WrittenTexts.{part_spelling, content_bit, has_any}
 use Rattle.wap_deck.proofs.WritingLemmas.Content.{code_small, bit_within, content_within, bits_are}

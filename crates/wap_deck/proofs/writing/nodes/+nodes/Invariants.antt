@@ -2,7 +2,7 @@ use Rattle.std.proofs.Common.{◌≡◌, take}
 use Rattle.wap_tokens.specs.markup.Writing.{item_kids, node_kids}
 use Rattle.wap_wbxml.specs.spelling.Writings.{each}
 use Rattle.wap_wbxml.specs.spelling.Spelling.{kid_spelling, element_spelling}
-use Rattle.wap_wbxml.specs.spelling.inside.Written.{written}
+use Rattle.wap_wbxml.specs.spelling.Written.{written}
 use Rattle.wap_deck.proofs.writing.nodes.+nodes.Given as goal
 
 abbrev pub invariant-write_items-loop-item : goal.invariant-write_items-loop-item

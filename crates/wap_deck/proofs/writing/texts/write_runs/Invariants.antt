@@ -1,6 +1,6 @@
 use Rattle.std.proofs.Common.{◌≡◌, take}
 use Rattle.wap_wbxml.specs.spelling.Writings.{each}
-use Rattle.wap_wbxml.specs.spelling.inside.Written.{written}
+use Rattle.wap_wbxml.specs.spelling.Written.{written}
 use Rattle.wap_deck.specs.writing.inside.WrittenTexts.{run_spelling}
 use Rattle.wap_deck.proofs.writing.texts.write_runs.Given as goal
 

@@ -3,9 +3,9 @@ use Rattle.std.proofs.lemmas.Result.{err_from_is_err_and}
 use Rattle.wap_grammar.specs.declared.program.expression.Expr.{Expr}
 use Rattle.wap_grammar.specs.declared.program.program.Id.{Id}
 use Rattle.wap_grammar.specs.Lexemes.{word_of, is_comma}
-use Rattle.wap_grammar.specs.inside.TokenReading.{Reading, after, told, items_at}
-use Rattle.wap_grammar.specs.inside.Expressions.{expression_at}
-use Rattle.wap_grammar.specs.inside.Statements.{next_listed, declaration_at}
+use Rattle.wap_grammar.specs.reading.TokenReading.{Reading, after, told, items_at}
+use Rattle.wap_grammar.specs.reading.Expressions.{expression_at}
+use Rattle.wap_grammar.specs.reading.Statements.{next_listed, declaration_at}
 use Rattle.wap_parse.proofs.ExpressionsLemmas.Loops.{begins_with, another, no_other, at_fault}
 use Rattle.wap_parse.proofs.ExpressionsLemmas.Loops.{at_exit}
 use Rattle.wap_parse.proofs.ExpressionsLemmas.Nexts.{listed_if, found, failed, missing}

@@ -1,7 +1,7 @@
 use Rattle.std.proofs.Common.{◌∷◌, length}
-use Rattle.wap_grammar.specs.inside.TokenReading.{told, items_at}
-use Rattle.wap_grammar.specs.inside.Expressions.{expression_at}
-use Rattle.wap_grammar.specs.inside.Statements.{next_listed, declaration_at}
+use Rattle.wap_grammar.specs.reading.TokenReading.{told, items_at}
+use Rattle.wap_grammar.specs.reading.Expressions.{expression_at}
+use Rattle.wap_grammar.specs.reading.Statements.{next_listed, declaration_at}
 use Rattle.wap_parse.proofs.ExpressionsLemmas.Loops.{Continues}
 use Rattle.wap_parse.proofs.expressions.declarations.read_other_declarations.Given as goal
 

@@ -3,9 +3,9 @@ use Rattle.std.proofs.lemmas.Result.{err_from_is_err_and}
 use Rattle.wap_grammar.specs.declared.program.expression.Expr.{Expr}
 use Rattle.wap_grammar.specs.declared.precedence.TheConstants.{ASSIGNMENT, COMMA}
 use Rattle.wap_grammar.specs.Lexemes.{word_of, operator_of, is_comma}
-use Rattle.wap_grammar.specs.inside.TokenReading.{Reading, after, told, items_at}
-use Rattle.wap_grammar.specs.inside.Expressions.{next_argument, next_operand}
-use Rattle.wap_grammar.specs.inside.Expressions.{part_at, expression_at}
+use Rattle.wap_grammar.specs.reading.TokenReading.{Reading, after, told, items_at}
+use Rattle.wap_grammar.specs.reading.Expressions.{next_argument, next_operand}
+use Rattle.wap_grammar.specs.reading.Expressions.{part_at, expression_at}
 use Rattle.wap_parse.proofs.ExpressionsLemmas.Loops.{begins, begins_with, another, no_other}
 use Rattle.wap_parse.proofs.ExpressionsLemmas.Loops.{at_fault, at_exit}
 use Rattle.wap_parse.proofs.ExpressionsLemmas.Nexts.{argument_if, found, failed, missing}

@@ -1,9 +1,9 @@
 use Rattle.std.proofs.Common.{◌+◌, ◌-◌, ◌*◌, ◌∷◌, length}
 use Rattle.wap_grammar.specs.declared.precedence.TheConstants.{CONDITIONAL}
 use Rattle.wap_grammar.specs.declared.precedence.TheConstants.{ASSIGNMENT, COMMA}
-use Rattle.wap_grammar.specs.inside.TokenReading.{told, items_at}
-use Rattle.wap_grammar.specs.inside.Expressions.{next_argument, next_operand}
-use Rattle.wap_grammar.specs.inside.Expressions.{part_at, expression_at}
+use Rattle.wap_grammar.specs.reading.TokenReading.{told, items_at}
+use Rattle.wap_grammar.specs.reading.Expressions.{next_argument, next_operand}
+use Rattle.wap_grammar.specs.reading.Expressions.{part_at, expression_at}
 use Rattle.wap_parse.proofs.ExpressionsLemmas.Loops.{Continues}
 use Rattle.wap_parse.proofs.expressions.expressions.+expressions.Given as goal
 

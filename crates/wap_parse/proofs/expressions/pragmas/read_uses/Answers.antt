@@ -3,8 +3,8 @@ use Rattle.std.proofs.lemmas.Result.{err_from_is_err_and}
 use Rattle.wap_grammar.specs.declared.program.program.Use.{Use}
 use Rattle.wap_grammar.specs.declared.word.Sign.TheVariants as sign
 use Rattle.wap_grammar.specs.Lexemes.{word_of, is_sign}
-use Rattle.wap_grammar.specs.inside.TokenReading.{Reading, span_of, after, items_at}
-use Rattle.wap_grammar.specs.inside.Programs.{next_use, use_at}
+use Rattle.wap_grammar.specs.reading.TokenReading.{Reading, span_of, after, items_at}
+use Rattle.wap_grammar.specs.reading.Programs.{next_use, use_at}
 use Rattle.wap_parse.proofs.ExpressionsLemmas.Loops.{begins, another, no_other, at_fault, at_exit}
 use Rattle.wap_parse.proofs.ExpressionsLemmas.Nexts.{use_if, found, failed, missing}
 use Rattle.wap_parse.proofs.expressions.pragmas.read_uses.Goals as goal

@@ -1,6 +1,6 @@
 use Rattle.std.proofs.Common.{length}
-use Rattle.wap_grammar.specs.inside.TokenReading.{items_at}
-use Rattle.wap_grammar.specs.inside.Programs.{next_use}
+use Rattle.wap_grammar.specs.reading.TokenReading.{items_at}
+use Rattle.wap_grammar.specs.reading.Programs.{next_use}
 use Rattle.wap_parse.proofs.ExpressionsLemmas.Loops.{Continues}
 use Rattle.wap_parse.proofs.expressions.pragmas.read_uses.Given as goal
 

@@ -1,7 +1,7 @@
 use Rattle.std.proofs.Common.{length, ◌∷◌, Option, Ok, ap, ◌∙◌}
 use Rattle.wap_value.specs.declared.value.Value.{Value}
-use Rattle.wap_grammar.specs.inside.TokenReading.{told, items_at}
-use Rattle.wap_grammar.specs.inside.Statements.{next_listed}
+use Rattle.wap_grammar.specs.reading.TokenReading.{told, items_at}
+use Rattle.wap_grammar.specs.reading.Statements.{next_listed}
 use Rattle.wap_parse.proofs.ExpressionsLemmas.Loops.{begins_with, another}
 use Rattle.wap_parse.specs.invocation.Calculation.{argument_at}
 use Rattle.wap_parse.proofs.invocation.arguments.read_other_arguments.Goals as goal

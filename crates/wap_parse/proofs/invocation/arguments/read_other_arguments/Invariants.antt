@@ -1,6 +1,6 @@
 use Rattle.std.proofs.Common.{◌∷◌, length}
-use Rattle.wap_grammar.specs.inside.TokenReading.{told, items_at}
-use Rattle.wap_grammar.specs.inside.Statements.{next_listed}
+use Rattle.wap_grammar.specs.reading.TokenReading.{told, items_at}
+use Rattle.wap_grammar.specs.reading.Statements.{next_listed}
 use Rattle.wap_parse.proofs.ExpressionsLemmas.Loops.{Continues}
 use Rattle.wap_parse.specs.invocation.Calculation.{argument_at}
 use Rattle.wap_parse.proofs.invocation.arguments.read_other_arguments.Given as goal

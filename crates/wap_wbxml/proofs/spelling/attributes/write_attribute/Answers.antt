@@ -2,7 +2,7 @@ use Rattle.std.proofs.Common.{List, ap, ◌∙◌}
 use Rattle.wap_tokens.specs.declared.markup.document.Piece.{Piece}
 use Rattle.wap_wbxml.specs.spelling.Writings.{plain, ◌⨾◌, each, on_attribute_page}
 use Rattle.wap_wbxml.specs.spelling.Spelling.{start_spelling, piece_spelling}
-use Rattle.wap_wbxml.specs.spelling.inside.Written.{written}
+use Rattle.wap_wbxml.specs.spelling.Written.{written}
 use Rattle.wap_wbxml.proofs.SpellingLemmas.Appending.{in_turn}
 use Rattle.wap_wbxml.proofs.spelling.attributes.write_attribute.Goals as goal
 

@@ -4,7 +4,7 @@ use Rattle.wap_tokens.specs.declared.markup.document.Kid.{Kid}
 use Rattle.wap_wbxml.specs.spelling.Writings.{Writing, plain, ◌⨾◌, ended, on_tag_page}
 use Rattle.wap_wbxml.specs.spelling.Spelling.{bits, tag_spelling, attr_spelling}
 use Rattle.wap_wbxml.specs.spelling.Spelling.{kid_spelling, element_spelling}
-use Rattle.wap_wbxml.specs.spelling.inside.Written.{written}
+use Rattle.wap_wbxml.specs.spelling.Written.{written}
 use Rattle.wap_wbxml.proofs.SpellingLemmas.Levels.{deeper}
 use Rattle.wap_wbxml.proofs.SpellingLemmas.Appending.{in_turn, each_none, each_step, ended_none}
 use Rattle.wap_wbxml.proofs.SpellingLemmas.Appending.{ended_some}

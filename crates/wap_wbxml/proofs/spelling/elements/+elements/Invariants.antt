@@ -1,7 +1,7 @@
 use Rattle.std.proofs.Common.{◌≡◌, take}
 use Rattle.wap_wbxml.specs.spelling.Writings.{each}
 use Rattle.wap_wbxml.specs.spelling.Spelling.{kid_spelling, element_spelling}
-use Rattle.wap_wbxml.specs.spelling.inside.Written.{written}
+use Rattle.wap_wbxml.specs.spelling.Written.{written}
 use Rattle.wap_wbxml.proofs.spelling.elements.+elements.Given as goal
 
 abbrev pub invariant-write_kids-loop-kid : goal.invariant-write_kids-loop-kid

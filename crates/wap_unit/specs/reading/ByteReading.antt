@@ -1,4 +1,5 @@
--- Reading from the left, step by step: what bytes begin with, and what follows it.
+-- Reading the bytes of a unit from the left, step by step: what they begin with, and what follows
+-- it. This project's own.
 use Rattle.std.specs.Prelude.{ℕ, zero, suc, ◌-◌, Bool, nat_lt, if◌then◌else◌, List, []}
 use Rattle.std.specs.Prelude.{◌∷◌, length, take, drop, Result, Ok, Err}
 use Rattle.wap_base.specs.Outcome.{◌>>=◌}

@@ -13,9 +13,9 @@ use Rattle.wap_grammar.specs.declared.start.Start.{Start}
 use Rattle.wap_grammar.specs.declared.start.Start.TheVariants as start
 use Rattle.wap_grammar.specs.Lexemes.{word_of, is_sign, is_comma, is_equals, start_of}
 use Rattle.wap_grammar.specs.Statements.{done_first}
-use Rattle.wap_grammar.specs.inside.TokenReading.{Reading, span_of, after, nested, told}
-use Rattle.wap_grammar.specs.inside.TokenReading.{expect_at, closed, id_at, Next, items_at}
-use Rattle.wap_grammar.specs.inside.Expressions.{Reader, expression_at}
+use Rattle.wap_grammar.specs.reading.TokenReading.{Reading, span_of, after, nested, told}
+use Rattle.wap_grammar.specs.reading.TokenReading.{expect_at, closed, id_at, Next, items_at}
+use Rattle.wap_grammar.specs.reading.Expressions.{Reader, expression_at}
 
 -- an item after a comma, or none
 unfoldable pub next_listed : {A : Type 0} → (List Lexeme → Reading A) → Next A

@@ -16,9 +16,9 @@ use Rattle.wap_grammar.specs.declared.word.Sign.TheVariants as sign
 use Rattle.wap_grammar.specs.Lexemes.{word_of, is_sign, is_text}
 use Rattle.wap_grammar.specs.Values.{text_of}
 use Rattle.wap_grammar.specs.Programs.{from_to}
-use Rattle.wap_grammar.specs.inside.TokenReading.{Reading, span_of, after, syntax, told}
-use Rattle.wap_grammar.specs.inside.TokenReading.{expect_at, closed, id_at, Next, items_at}
-use Rattle.wap_grammar.specs.inside.Statements.{Statements, listed_at, block_at}
+use Rattle.wap_grammar.specs.reading.TokenReading.{Reading, span_of, after, syntax, told}
+use Rattle.wap_grammar.specs.reading.TokenReading.{expect_at, closed, id_at, Next, items_at}
+use Rattle.wap_grammar.specs.reading.Statements.{Statements, listed_at, block_at}
 
 unfoldable pub text_at : List ℕ → List Lexeme → Reading (List ℕ)
 text_at src lexemes =

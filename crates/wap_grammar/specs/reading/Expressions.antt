@@ -17,8 +17,8 @@ use Rattle.wap_grammar.specs.declared.word.Sign.TheVariants as sign
 use Rattle.wap_grammar.specs.Lexemes.{unary_of, step_of, assignment_of, operator_of}
 use Rattle.wap_grammar.specs.Lexemes.{is_sign, is_name, is_comma}
 use Rattle.wap_grammar.specs.Values.{id_of, literal_of, called}
-use Rattle.wap_grammar.specs.inside.TokenReading.{Reading, word_of, span_of, after, syntax, nested}
-use Rattle.wap_grammar.specs.inside.TokenReading.{told, closed, id_at, Next, items_at}
+use Rattle.wap_grammar.specs.reading.TokenReading.{Reading, word_of, span_of, after, syntax, nested}
+use Rattle.wap_grammar.specs.reading.TokenReading.{told, closed, id_at, Next, items_at}
 
 -- expressions of a level of precedence, tightest first
 abbrev pub Reader : Type 0

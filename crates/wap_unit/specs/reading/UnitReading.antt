@@ -21,8 +21,8 @@ use Rattle.wap_unit.specs.declared.kind.ConstantKind.TheVariants as constant
 use Rattle.wap_unit.specs.declared.kind.PragmaKind.{PragmaKind}
 use Rattle.wap_unit.specs.declared.kind.PragmaKind.TheVariants as pragma
 use Rattle.wap_unit.specs.Kinds.{constant_kind, pragma_kind}
-use Rattle.wap_unit.specs.inside.ByteReading.{Reader, byte_at, taken_at, number_at, in_turn}
-use Rattle.wap_unit.specs.inside.ByteReading.{given, judged, failing, passing, told, many}
+use Rattle.wap_unit.specs.reading.ByteReading.{Reader, byte_at, taken_at, number_at, in_turn}
+use Rattle.wap_unit.specs.reading.ByteReading.{given, judged, failing, passing, told, many}
 
 -- bytes after their number
 unfoldable pub sized_at : Reader (List ℕ)

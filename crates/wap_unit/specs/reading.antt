@@ -1,0 +1,2 @@
+pub mod ByteReading
+pub mod UnitReading
