@@ -56,6 +56,7 @@ module _ {P Q : Type 0} (Are : P → Type 0) (site : P → Site) (AreToo : Q →
         (λ b. (p : P) → Are p → EndsAt begun (site p) (keys_of b).keys so.parts) bytes known
         (so.ends_in is)));
     saves = so.saves;
+    of_reason = so.of_reason;
     whole = λ is. if_some old.source.left
         (λ bytes. (q : Q) → AreToo q
         → IsWhole so.parts (opened_at begun (site_too q) (keys_of bytes).keys).world)
@@ -98,6 +99,7 @@ module _ {P : Type 0} (Are : P → Type 0) (site : P → Site) (old new : Outsid
       parts = so.parts;
       ends_in = so.ends_in;
       saves = so.saves;
+      of_reason = so.of_reason;
       whole = so.whole;
     }
 

@@ -55,7 +55,7 @@ takes_both start now last taken piece first second = record {
 
 -- ---- in how many reads
 
-some_none : (seen : SourceSeen) → TakesSome [] seen seen
+pub some_none : (seen : SourceSeen) → TakesSome [] seen seen
 some_none seen = record {
   takes = takes_none seen;
   reads = 0;

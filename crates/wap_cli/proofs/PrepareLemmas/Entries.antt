@@ -1,20 +1,25 @@
 -- What jobs came to is right for the pages of the store.
-use Rattle.std.proofs.Common.{◌≡◌, ℕ, List, [], ◌∷◌, map, Option, Some, None, Result, Ok}
+use Rattle.std.proofs.Common.{◌≡◌, ℕ, false, List, [], ◌∷◌, map, Option, Some, None, Result, Ok}
 use Rattle.std.proofs.Common.{refl, sym, ap, ap₂, subst, ◌∙◌, ◌+◌, ◌++◌, take, drop}
 use Rattle.std.proofs.Common.{length, append_assoc}
 use Rattle.std.specs.Prelude.{All, IfOk, IfSome}
 use Rattle.std.specs.List.{AllZip, AllByRecursion}
+use Rattle.std.specs.Option.{option_map_or}
 use Rattle.std.specs.Map.{keys_of}
 use Rattle.std.specs.List.Sorted.{IsPermutation}
 use Rattle.std.proofs.lemmas.List.{take-append-drop, length-append}
 use Rattle.std.proofs.lemmas.List.Elements.{recursion_from_All, All-from_recursion, All-append}
-use Rattle.wap_base.specs.Contents.{Contents, names_of, page_named}
+use Rattle.wap_base.specs.Contents.{Contents, names_of}
 use Rattle.wap_base.specs.Texts.{AreAscending}
 use Rattle.wap_base.specs.declared.fault.NoMemory.{NoMemory}
 use Rattle.wap_devices.specs.Stores.{StoreSeen, Lists}
+use Rattle.wap_pages.specs.declared.fault.PageFault.{PageFault}
 use Rattle.wap_cli.specs.prepare.Reports.{Entry, AreEntries, IsVerdict, IsEntry}
-use Rattle.wap_cli.specs.prepare.Fetching.{Job, IsAnswered}
+use Rattle.wap_cli.specs.Answers.{IsPageOf}
+use Rattle.wap_cli.specs.Memory.{is_of_memory}
+use Rattle.wap_cli.specs.prepare.Fetching.{page_of, Job, IsAnswered}
 use Rattle.wap_cli.specs.prepare.inside.Jobs.{IsRight}
+use Rattle.wap_cli.proofs.MemoryLemmas.Pages.{page_remembers}
 
 -- answers that all are there
 pub all_there : (jobs : List Job) (entries : List Entry) (answers : List (Result Entry NoMemory))
@@ -43,13 +48,28 @@ same_names (job ∷ jobs) (entry ∷ entries) right =
     ap₂ (λ (name : List ℕ) (names : List (List ℕ)). name ∷ names) right.0.name
     (same_names jobs entries right.1)
 
--- and are right where the answers of the store were
+-- no verdict is that memory ran out
+verdict_remembers : (name : List ℕ) (page : Option (List ℕ)) (fault : PageFault)
+    → IsVerdict name page (Some fault) → is_of_memory fault ≡ false
+verdict_remembers name None fault is =
+    subst (λ (verdict : Option PageFault). option_map_or is_of_memory verdict false ≡ false)
+    (sym is) refl
+verdict_remembers name (Some bytes) fault refuses = page_remembers name bytes fault refuses
+
+-- and are right for the answers of the store
 entry_right : (contents : Option Contents) (job : Job) (entry : Entry) → IsAnswered contents job
     → IsRight job entry → IsEntry contents entry
-entry_right None job entry answered right = tt
-entry_right (Some pages) job entry answered right =
-    subst (λ (name : List ℕ). IsVerdict name (page_named name pages) entry.1) (sym right.name)
-    (subst (λ (page : Option (List ℕ)). IsVerdict job.0 page entry.1) answered right.verdict)
+entry_right contents job entry answered right = record {
+  page = page_of job.1;
+  is = subst (λ (name : List ℕ). IsPageOf contents name (page_of job.1)) (sym right.name) answered;
+  verdict =
+      subst (λ (name : List ℕ). IsVerdict name (page_of job.1) entry.1) (sym right.name)
+      right.verdict;
+  of_reason = λ fault refused.
+      verdict_remembers job.0 (page_of job.1) fault
+      (subst (λ (verdict : Option PageFault). IsVerdict job.0 (page_of job.1) verdict) refused
+      right.verdict);
+}
 
 pub all_right : (contents : Option Contents) (jobs : List Job) (entries : List Entry)
     → All (IsAnswered contents) jobs → AllZip IsRight jobs entries

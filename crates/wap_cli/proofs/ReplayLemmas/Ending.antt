@@ -142,6 +142,7 @@ wanting begun source last store sink unread few counts end_once = record {
   keys = λ by differs e. absurd (no_end by e);
   too_many = λ e. absurd cc;
   given = λ e. absurd cc;
+  prompt = λ other. absurd (other refl);
   all_read = λ e. absurd cc;
   read_for_store = λ e. absurd cc;
   read_for_sink = λ e. absurd cc;
@@ -211,6 +212,7 @@ module _ {A : Type 0} (lists_in : A → List (List Key)) (begun : Begun) (source
             (read.ending_is (λ fails. some (sym same ∙ fails)));
         too_many = λ e. read.too_many (ended_is by ending.TooManyKeys e);
         given = λ e. read.given (ended_is by ending.ReadFault e);
+        prompt = λ other. read.prompt;
         all_read = λ e. absurd (is.done e);
         read_for_store = λ e. absurd (is.store e);
         read_for_sink = λ e. absurd (is.write e);
@@ -315,6 +317,7 @@ module _ {A : Type 0} (lists_in : A → List (List Key)) (begun : Begun) (lists 
         (sym (by_end by e)) (read.ending_is no_read);
     too_many = λ e. absurd (not_so TooManyKeys (λ none. none) e);
     given = λ e. absurd (not_so KeyReadFault (λ none. none) e);
+    prompt = λ other. read.prompt;
     all_read = λ e. all_there;
     read_for_store = λ e. all_there;
     read_for_sink = λ e. all_there;

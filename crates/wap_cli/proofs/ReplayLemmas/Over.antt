@@ -25,6 +25,7 @@ module _ (IsSite IsSiteToo : Site → Type 0) (same : (site : Site) → IsSiteTo
       unwritten = so.unwritten;
       keys = so.keys;
       too_many = so.too_many;
+      prompt = so.prompt;
       given = so.given;
       all_read = so.all_read;
       read_for_store = so.read_for_store;

@@ -43,6 +43,7 @@ nothing_imaged begun old = record {
   parts = parts_of (world_of begun);
   ends_in = λ is. absurd cc;
   saves = λ is. absurd cc;
+  of_reason = λ fault is. absurd cc;
   whole = λ is. absurd cc;
 }
 
@@ -209,6 +210,7 @@ forget_images begun old new status cache same so = record {
   parts = so.parts;
   ends_in = so.ends_in;
   saves = so.saves;
+  of_reason = so.of_reason;
   whole = so.whole;
 }
 

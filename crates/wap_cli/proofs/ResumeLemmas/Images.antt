@@ -1,5 +1,5 @@
 -- What is written of an image, and what the keys come to that go on from where it was saved.
-use Rattle.std.proofs.Common.{◌≡◌, ◌≢◌, ◌≤◌, ℕ, false, List, [], Option, Some, None, Ok, Err}
+use Rattle.std.proofs.Common.{◌≡◌, ◌≢◌, ◌≤◌, ℕ, true, false, List, [], Option, Some, None, Ok, Err}
 use Rattle.std.proofs.Common.{refl, sym, ap, subst, ◌∙◌, inl, inr, arith}
 use Rattle.std.specs.Prelude.{Result, IfSome, Bool, is_none, not, ◌&&◌, if◌then◌else◌}
 use Rattle.wap_base.specs.Count.{Rose}
@@ -7,7 +7,13 @@ use Rattle.wap_devices.specs.Sinks.{SinkSeen}
 use Rattle.wap_devices.specs.Transfer.{Appends, AppendsPrefix}
 use Rattle.wap_base.specs.declared.key.Key.{Key}
 use Rattle.wap_keys.specs.Lines.{keys_of}
+use Rattle.wap_image.specs.declared.context_parts.parts.ContextParts.{ContextParts}
 use Rattle.wap_image.specs.declared.context_parts.fault.SaveFault.{SaveFault}
+use Rattle.wap_image.specs.declared.context_parts.fault.SaveFault.TheVariants.{Drawn, Card}
+use Rattle.wap_image.specs.Items.{is_drawn}
+use Rattle.wap_image.specs.Rules.{are_short}
+use Rattle.wap_image.specs.Spelling.{spelling}
+use Rattle.wap_pages.specs.declared.fault.PageFault.{PageFault}
 use Rattle.wap_pages.specs.declared.fault.PageFault.TheVariants.{Save}
 use Rattle.wap_world.specs.World.{World}
 use Rattle.wap_world.specs.Steps.{joined}
@@ -24,6 +30,8 @@ use Rattle.wap_session.specs.handset.Holding.{played_with_from}
 use Rattle.wap_session.specs.handset.Feeding.{State, session_of, step_of}
 use Rattle.wap_session.specs.Feeding.{State as Session, context_at_rest}
 use Rattle.wap_context.specs.Browsers.{Browser}
+use Rattle.wap_cli.specs.Memory.{is_of_memory}
+use Rattle.wap_cli.specs.Statuses.{IsOrWants}
 use Rattle.wap_cli.specs.saving.Saving.{image_of}
 use Rattle.wap_cli.specs.declared.status.Status.{Status}
 use Rattle.wap_cli.specs.declared.status.Status.TheVariants.{Done, Refused, WriteFault, NoMemory}
@@ -32,8 +40,8 @@ use Rattle.wap_cli.specs.browse.Plays.{ArePagesOf, opened}
 use Rattle.wap_cli.specs.browse.Resting.{StandsAfter, Rests}
 use Rattle.wap_cli.proofs.BrowseLemmas.Optional.{if_some, some_fact}
 use Rattle.wap_cli.specs.browse.Headline.{BrowsesSeen}
-use Rattle.wap_cli.specs.resume.Saving.{WritesImage, played_in, EndsIn, ImagesSeen, IsWhole}
-use Rattle.wap_cli.specs.resume.Saving.{unshown}
+use Rattle.wap_cli.specs.resume.Saving.{EndsBy, WritesImage, played_in, EndsIn, ImagesSeen}
+use Rattle.wap_cli.specs.resume.Saving.{IsWhole, unshown}
 
 -- ---- an image
 
@@ -190,6 +198,34 @@ context_there state session context alone ready lent taken =
     session_is : {one other : Session} → Some one ≡ Some other → one ≡ other
     session_is is = cc
 
+-- no cause that there is no image is that memory ran out
+image_remembers : (parts : ContextParts) (budget : ℕ) (status : Status) (fault : PageFault)
+    → EndsBy (image_of parts budget) status → status ≡ Refused fault → is_of_memory fault ≡ false
+image_remembers parts budget status fault =
+    by (is_drawn parts.drawn) (are_short parts) (spelling parts budget)
+  where
+    same : {one other : PageFault} → Refused one ≡ Refused other → one ≡ other
+    same is = cc
+
+    by_cause : (why : SaveFault) → is_of_memory (Save why) ≡ false
+        → IsOrWants (Refused (Save why)) status → status ≡ Refused fault
+        → is_of_memory fault ≡ false
+    by_cause why so (inl is) e =
+        subst (λ (f : PageFault). is_of_memory f ≡ false) (same (sym is ∙ e)) so
+    by_cause why so (inr is) e = absurd (wanted (sym is ∙ e))
+      where
+        wanted : NoMemory ≡ Refused fault → ⊥
+        wanted e = cc
+
+    by : (drawn short : Bool) (bytes : List ℕ)
+        → EndsBy (if drawn then (if short then Ok bytes else Err Card) else Err Drawn) status
+        → status ≡ Refused fault → is_of_memory fault ≡ false
+    by true true bytes (inl is) e = absurd cc
+    by true true bytes (inr (inl is)) e = absurd cc
+    by true true bytes (inr (inr is)) e = absurd cc
+    by true false bytes ends e = by_cause Card refl ends e
+    by false short bytes ends e = by_cause Drawn refl ends e
+
 -- the keys didn't end outside a dialog
 pub images_undone : (begun : Begun) (old new : Outside) (status : Status) → status ≢ Done
     → BrowsesSeen (opened begun) (unshown old) (unshown new) status → new.sink ≡ old.sink
@@ -201,6 +237,7 @@ images_undone begun old new status undone plays same = record {
   parts = parts_of (world_of begun);
   ends_in = λ is. absurd (undone is);
   saves = λ is. absurd (undone is);
+  of_reason = λ fault is. absurd (plays.accepted fault is);
   whole = λ is. absurd (undone is);
 }
 
@@ -221,6 +258,8 @@ images_done begun old new state context end status done plays rests is writes wh
   ends_in = λ so. ends_in begun (unshown old) state rests;
   saves = λ so. subst (λ (browser : Browser). WritesImage
       (image_of (parts_of browser.world) begun.budget) old.sink new.sink status) is writes;
+  of_reason = λ fault.
+      image_remembers (parts_of context.world) begun.budget status fault writes.ends;
   whole = λ so. whole_in begun (unshown old) state rests
       (subst (λ (browser : Browser). IsWhole (parts_of browser.world) browser.world) is (whole so));
 }

@@ -1,11 +1,11 @@
 -- The report on the pages of a folder: the name of each with its kind and whether it is refused, in
 -- order, and how many there are. This project's own.
-use Rattle.std.specs.Prelude.{◌≡◌, ℕ, Bool, List, ◌++◌, Option, Some, None, is_none}
+use Rattle.std.specs.Prelude.{◌≡◌, ℕ, Bool, false, List, ◌++◌, Option, Some, None, is_none}
 use Rattle.std.specs.Prelude.{IfSome, All, length, filter, codes, decimal}
 use Rattle.std.specs.List.{flat_map}
 use Rattle.std.specs.List.Sorted.{IsPermutation}
 use Rattle.std.specs.Map.{keys_of}
-use Rattle.wap_base.specs.Contents.{Contents, names_of, page_named}
+use Rattle.wap_base.specs.Contents.{Contents, names_of}
 use Rattle.wap_base.specs.Texts.{AreAscending}
 use Rattle.wap_dis.specs.Listing.{shown}
 use Rattle.wap_pages.specs.declared.fault.PageFault.{PageFault}
@@ -14,6 +14,8 @@ use Rattle.wap_pages.specs.declared.kind.Kind.{Kind}
 use Rattle.wap_pages.specs.declared.kind.Kind.TheVariants as kind
 use Rattle.wap_pages.specs.Judged.{kind_of, Refuses}
 use Rattle.wap_pages.specs.Printing.{page_text}
+use Rattle.wap_cli.specs.Answers.{IsPageOf}
+use Rattle.wap_cli.specs.Memory.{is_of_memory}
 
 -- ---- what a page is judged
 
@@ -27,10 +29,13 @@ IsVerdict name None verdict = verdict ≡ Some Missing
 abbrev pub Entry : Type 0
 Entry = List ℕ × Option PageFault
 
--- an entry is right, where the pages are known
-abbrev pub IsEntry : Option Contents → Entry → Type 0
-IsEntry contents entry =
-    IfSome contents (λ pages. IsVerdict entry.0 (page_named entry.0 pages) entry.1)
+-- an entry is right for some page, which is that of the name where the pages are known; and out of
+-- memory is no reason to refuse
+pub record IsEntry (contents : Option Contents) (entry : Entry) : Type 0 where
+  pub page : Option (List ℕ)
+  pub is : IsPageOf contents entry.0 page
+  pub verdict : IsVerdict entry.0 page entry.1
+  pub of_reason : (fault : PageFault) → entry.1 ≡ Some fault → is_of_memory fault ≡ false
 
 -- the entries of all pages, in the order of the UTF-8 bytes of their names
 pub record AreEntries (contents : Option Contents) (entries : List Entry) : Type 0 where

@@ -12,6 +12,7 @@ use Rattle.wap_keys.specs.declared.ending.Ending.{Ending}
 use Rattle.wap_keys.specs.declared.ending.Ending.TheVariants as ending
 use Rattle.wap_keys.specs.Read.{TakesAtMost, AtMostOnce, Takes}
 use Rattle.wap_keys.specs.lists.Lists.{all_of, lists_at, lists_of}
+use Rattle.wap_keys.specs.lists.Read.{IsJustOver}
 use Rattle.wap_pages.specs.declared.fault.PageFault.{PageFault}
 use Rattle.wap_world.specs.Sites.{Site}
 use Rattle.wap_world.specs.Sessions.{Begun}
@@ -67,6 +68,8 @@ pub record Replays (IsSite : Site → Type 0) (begun : Begun) (old new : Outside
   -- KeyReadFault comes only where no line is refused of the bytes that were taken by then
   pub given : status ≡ KeyReadFault → (taken : List ℕ) × Takes taken old.source new.source
       × ((lists_at ending.ReadFault taken).ending ≡ ending.ReadFault)
+  -- no read begins once a line is refused, nor once one gave the end, or a byte too many
+  pub prompt : status ≢ NoMemory → IsJustOver old.source new.source
   -- these statuses come only where all keys were read to their end
   pub all_read : status ≡ Done → AllRead old.source new.source
   pub read_for_store : status ≡ StoreFault → AllRead old.source new.source

@@ -11,6 +11,7 @@ use Rattle.wap_world.specs.inboxes.Sessions.{session_with, played_with}
 use Rattle.wap_keys.specs.Lines.{keys_of}
 use Rattle.wap_image.specs.declared.context_parts.fault.SaveFault.{SaveFault}
 use Rattle.wap_image.specs.declared.context_parts.parts.ContextParts.{ContextParts}
+use Rattle.wap_pages.specs.declared.fault.PageFault.{PageFault}
 use Rattle.wap_pages.specs.declared.fault.PageFault.TheVariants.{Save}
 use Rattle.wap_world.specs.World.{World}
 use Rattle.wap_world.specs.Steps.{Step, joined}
@@ -19,6 +20,7 @@ use Rattle.wap_world.specs.Sessions.{Begun}
 use Rattle.wap_world.specs.scripting.UnitSites.{Pages}
 use Rattle.wap_context.specs.Sites.{site_of}
 use Rattle.wap_state.specs.Saved.{parts_of, saved_world, IsAtRest}
+use Rattle.wap_cli.specs.Memory.{is_of_memory}
 use Rattle.wap_cli.specs.saving.Saving.{image_of}
 use Rattle.wap_cli.specs.declared.status.Status.{Status}
 use Rattle.wap_cli.specs.declared.status.Status.TheVariants.{Done, Refused, WriteFault, NoMemory}
@@ -109,6 +111,8 @@ pub record Images {P : Type 0} (Are : P → Type 0) (site : P → Site) (begun :
   pub ends_in : end ≡ Done → IfSome old.source.left (λ bytes. (pages : P) → Are pages
       → EndsAt begun (site pages) (keys_of bytes).keys parts)
   pub saves : end ≡ Done → WritesImage (image_of parts begun.budget) old.sink new.sink status
+  -- out of memory is no reason to refuse
+  pub of_reason : (fault : PageFault) → status ≡ Refused fault → is_of_memory fault ≡ false
   -- and once they are written, these are all of that world
   pub whole : status ≡ Done → IfSome old.source.left (λ bytes. (pages : P) → Are pages
       → IsWhole parts (opened_at begun (site pages) (keys_of bytes).keys).world)

@@ -16,13 +16,13 @@ use Rattle.wap_keys.specs.declared.fault.KeyFault.{KeyFault}
 use Rattle.wap_keys.specs.declared.ending.Ending.{Ending}
 use Rattle.wap_keys.specs.declared.ending.Ending.TheVariants.{End, BadKey, TooManyKeys, ReadFault}
 use Rattle.wap_keys.specs.Lines.{lines_of}
-use Rattle.wap_keys.specs.Read.{Takes, AtMostOnce}
+use Rattle.wap_keys.specs.Read.{Takes, TakesSome, TakesAtOnce, AtMostOnce}
 use Rattle.wap_keys.specs.Prefixes.{is_unended}
-use Rattle.wap_keys.proofs.ReaderLaws.{takes_both, begun, ending_past, take_past}
+use Rattle.wap_keys.proofs.ReaderLaws.{takes_both, some_none, some_both, ending_past, take_past}
 use Rattle.wap_keys.proofs.ReaderLaws.{no_bytes, none_follows}
 use Rattle.wap_keys.specs.declared.lists.begun.Begun.{Begun}
 use Rattle.wap_keys.specs.lists.Lists.{Lists, all_of, lists_from, lists_at, lists_of}
-use Rattle.wap_keys.specs.lists.Read.{AreRead, ReadsLists}
+use Rattle.wap_keys.specs.lists.Read.{IsJustOver, AreRead, ReadsLists}
 use Rattle.wap_keys.specs.lists.inside.Taking.{Told, told, told_then, told_yet}
 use Rattle.wap_keys.specs.lists.inside.Taking.{IsBeginning, TakesAll, TakesPiece, IsFinished}
 use Rattle.wap_keys.specs.lists.inside.Pieces.{ReadsEnd, ReadsPast, FailsToRead}
@@ -31,7 +31,7 @@ use Rattle.wap_keys.proofs.ListsLemmas.Lines.{cut_line}
 -- these bytes were taken from a source, and are read but for a line that is begun
 pub record IsReading (start now : SourceSeen) (taken : List ℕ) (lists : Begun) (count : ℕ) : Type 0
   where
-    pub takes : Takes taken start now
+    pub some : TakesSome taken start now
     pub counted : length taken ≡ count
     pub few : count ≤ KEYS_LIMIT
     pub unended : is_unended lists.line.items ≡ true
@@ -39,8 +39,6 @@ pub record IsReading (start now : SourceSeen) (taken : List ℕ) (lists : Begun)
     pub number : lists.number ≤ count + 1
     pub tells : (ending : Ending) (rest : List ℕ)
         → told (lists_at ending (taken ++ rest)) ≡ told_yet lists ending rest
-    pub ends : now.ends ≡ start.ends
-    pub steady : now.faults ≡ start.faults
 
 -- ---- at first
 
@@ -62,7 +60,7 @@ none_unended line empty = ap is_unended empty
 pub reading_begins : (seen : SourceSeen) (lists : Begun) → IsBeginning lists
     → IsReading seen seen [] lists 0
 reading_begins seen lists beginning = record {
-  takes = (begun seen [] refl).takes;
+  some = some_none seen;
   counted = refl;
   few = omega arith;
   unended = none_unended lists.line.items beginning.line;
@@ -71,8 +69,6 @@ reading_begins seen lists beginning = record {
   tells = λ ending rest.
       told_by ending rest lists.whole.items lists.list lists.line.items lists.number
       beginning.whole beginning.list beginning.line beginning.number;
-  ends = refl;
-  steady = refl;
 }
 
 -- ---- all bytes
@@ -133,28 +129,58 @@ module _ (start now : SourceSeen) (taken : List ℕ) (lists : Begun) (count : �
   taken_few : length taken ≤ KEYS_LIMIT
   taken_few = omega (arith, reading.counted, reading.few)
 
+  -- ---- a read more
+
+  -- the line that is begun may go on, so it isn't refused
+  unrefused : (lists_at ReadFault taken).ending ≡ ReadFault
+  unrefused =
+      ap (λ (l : List ℕ). (lists_at ReadFault l).ending) (sym (append-nil taken))
+      ∙ ap (λ (t : Told). t.1) (reading.tells ReadFault [])
+      ∙ ap (λ (l : List ℕ). (lists_from ReadFault lists.number (lines_of l)).ending)
+      (append-nil lists.line.items)
+      ∙ ap (λ (all : Lists). all.ending)
+      (cut_line ReadFault lists.number lists.line.items refl reading.unended reading.short)
+
+  just_over : (last : SourceSeen) (piece : List ℕ) → TakesAtOnce piece now last
+      → IsJustOver start last
+  just_over last piece once = record {
+    earlier = taken;
+    between = now;
+    some = reading.some;
+    unrefused = unrefused;
+    piece = piece;
+    last = once;
+  }
+
+  takes_on : (last : SourceSeen) (piece : List ℕ) → TakesAtOnce piece now last
+      → Takes (taken ++ piece) start last
+  takes_on last piece once =
+      takes_both start now last taken piece reading.some.takes once.takes
+
   -- ---- a piece more
 
   module _ (last : SourceSeen) (piece : List ℕ) (more : ℕ) (many : length piece ≡ more)
-      (within : more ≤ KEYS_LIMIT - count) (takes : Takes piece now last)
+      (some : 0 < more) (within : more ≤ KEYS_LIMIT - count) (at_once : TakesAtOnce piece now last)
       (ends : last.ends ≡ now.ends) (steady : last.faults ≡ now.faults) where
     pub piece_takes : Takes (taken ++ piece) start last
-    piece_takes = takes_both start now last taken piece reading.takes takes
+    piece_takes = takes_on last piece at_once
 
     pub piece_few : length (taken ++ piece) ≤ KEYS_LIMIT
     piece_few =
         omega (arith, length-append taken piece, many, within, reading.counted, reading.few)
 
     pub piece_once : AtMostOnce start.ends last.ends
-    piece_once = inl (ends ∙ reading.ends)
+    piece_once = inl (ends ∙ reading.some.ends)
 
     pub piece_steady : last.faults ≡ start.faults
-    piece_steady = steady ∙ reading.steady
+    piece_steady = steady ∙ reading.some.faults
 
     pub reads_on : (new : Begun) → TakesAll piece lists new
         → IsReading start last (taken ++ piece) new (count + more)
     reads_on new all = record {
-      takes = piece_takes;
+      some =
+          some_both start now last taken piece reading.some at_once (omega (arith, many, some))
+          steady;
       counted = omega (arith, length-append taken piece, many, reading.counted);
       few = omega (arith, within, reading.few);
       unended = all.unended;
@@ -163,8 +189,6 @@ module _ (start now : SourceSeen) (taken : List ℕ) (lists : Begun) (count : �
       tells = λ ending rest.
           ap (λ (l : List ℕ). told (lists_at ending l)) (append_assoc taken piece rest)
           ∙ reading.tells ending (piece ++ rest) ∙ all.tells ending rest;
-      ends = ends ∙ reading.ends;
-      steady = piece_steady;
     }
 
     -- a line of it is no key line
@@ -185,6 +209,7 @@ module _ (start now : SourceSeen) (taken : List ℕ) (lists : Begun) (count : �
       none_left = λ e. absurd cc;
       none = λ differs. empty;
       too_many = λ e. absurd cc;
+      prompt = just_over last piece at_once;
       failed = λ e. absurd cc;
       given = λ e. absurd cc;
       steady = λ e. piece_steady;
@@ -195,16 +220,16 @@ module _ (start now : SourceSeen) (taken : List ℕ) (lists : Begun) (count : �
 
   module _ (last : SourceSeen) (ends : ReadsEnd now last) where
     pub end_takes : Takes (taken ++ []) start last
-    end_takes = takes_both start now last taken [] reading.takes ends.takes
+    end_takes = takes_on last [] ends.takes
 
     pub end_few : length (taken ++ []) ≤ KEYS_LIMIT + 1
     end_few = omega (arith, length-append taken [], taken_few)
 
     pub end_once : AtMostOnce start.ends last.ends
-    end_once = inr (ends.ends ∙ ap raised reading.ends)
+    end_once = inr (ends.ends ∙ ap raised reading.some.ends)
 
     pub end_steady : last.faults ≡ start.faults
-    end_steady = ends.steady ∙ reading.steady
+    end_steady = ends.steady ∙ reading.some.faults
 
     none_more : (rest : List ℕ) → last.left ≡ Some rest → rest ≡ []
     none_more rest is = subst (λ (left : Option (List ℕ)). IfSome left (λ bytes. bytes ≡ [])) is
@@ -236,6 +261,7 @@ module _ (start now : SourceSeen) (taken : List ℕ) (lists : Begun) (count : �
       none_left = λ e. ends.none;
       none = finished.none;
       too_many = λ e. absurd (finished.not_past e);
+      prompt = just_over last [] ends.takes;
       failed = λ e. absurd (finished.by_line e);
       given = λ e. absurd (finished.by_line e);
       steady = λ e. end_steady;
@@ -257,7 +283,7 @@ module _ (start now : SourceSeen) (taken : List ℕ) (lists : Begun) (count : �
 
   module _ (last : SourceSeen) (past : ReadsPast (KEYS_LIMIT - count) now last) where
     pub past_takes : Takes (taken ++ past.byte) start last
-    past_takes = takes_both start now last taken past.byte reading.takes past.takes
+    past_takes = takes_on last past.byte past.takes
 
     full : count ≡ KEYS_LIMIT
     full = omega (arith, past.full, reading.few)
@@ -266,10 +292,10 @@ module _ (start now : SourceSeen) (taken : List ℕ) (lists : Begun) (count : �
     past_many = omega (arith, length-append taken past.byte, past.one, full, reading.counted)
 
     pub past_once : AtMostOnce start.ends last.ends
-    past_once = inl (past.ends ∙ reading.ends)
+    past_once = inl (past.ends ∙ reading.some.ends)
 
     pub past_steady : last.faults ≡ start.faults
-    past_steady = past.steady ∙ reading.steady
+    past_steady = past.steady ∙ reading.some.faults
 
     some_more : (rest : List ℕ) (left : Option (List ℕ)) → TakesFrom (Some rest) left past.byte
         → 0 < length rest
@@ -288,7 +314,7 @@ module _ (start now : SourceSeen) (taken : List ℕ) (lists : Begun) (count : �
     at_limit rest is =
         let some = some_more rest last.left
         (subst (λ (left : Option (List ℕ)). TakesFrom left last.left past.byte) is
-        past.takes.left) in
+        past.takes.takes.left) in
         let over : ending_past (taken ++ rest) ≡ TooManyKeys =
         ap (λ (b : Bool). cond b TooManyKeys End) (lt-ltb KEYS_LIMIT (length (taken ++ rest))
         (omega (arith, length-append taken rest, some, full, reading.counted))) in
@@ -303,7 +329,7 @@ module _ (start now : SourceSeen) (taken : List ℕ) (lists : Begun) (count : �
     past_read found empty = record {
       ending_is = λ differs.
           by_taken (λ all. all.ending ≡ TooManyKeys) taken taken_few start.left now.left
-          reading.takes.left
+          reading.some.takes.left
           (λ rest is. ap (λ (t : Told). t.1) (at_limit rest is)
           ∙ ap (λ (l : List ℕ). (lists_from TooManyKeys lists.number (lines_of l)).ending)
           (append-nil lists.line.items)
@@ -313,6 +339,7 @@ module _ (start now : SourceSeen) (taken : List ℕ) (lists : Begun) (count : �
       none_left = λ e. absurd cc;
       none = λ differs. empty;
       too_many = λ e. (taken ++ past.byte, past_many, past_takes);
+      prompt = just_over last past.byte past.takes;
       failed = λ e. absurd cc;
       given = λ e. absurd cc;
       steady = λ e. past_steady;
@@ -323,25 +350,16 @@ module _ (start now : SourceSeen) (taken : List ℕ) (lists : Begun) (count : �
 
   module _ (last : SourceSeen) (fails : FailsToRead now last) where
     pub fault_takes : Takes (taken ++ []) start last
-    fault_takes = takes_both start now last taken [] reading.takes fails.takes
+    fault_takes = takes_on last [] fails.takes
 
     pub fault_few : length (taken ++ []) ≤ KEYS_LIMIT + 1
     fault_few = omega (arith, length-append taken [], taken_few)
 
     pub fault_once : AtMostOnce start.ends last.ends
-    fault_once = inl (fails.ends ∙ reading.ends)
+    fault_once = inl (fails.ends ∙ reading.some.ends)
 
     pub fault_counts : start.faults ≤ last.faults
-    fault_counts = omega (arith, fails.counts, reading.steady)
-
-    -- the line that is begun may go on, so it isn't refused
-    unrefused : (lists_at ReadFault (taken ++ [])).ending ≡ ReadFault
-    unrefused =
-        ap (λ (t : Told). t.1) (reading.tells ReadFault [])
-        ∙ ap (λ (l : List ℕ). (lists_from ReadFault lists.number (lines_of l)).ending)
-        (append-nil lists.line.items)
-        ∙ ap (λ (all : Lists). all.ending)
-        (cut_line ReadFault lists.number lists.line.items refl reading.unended reading.short)
+    fault_counts = omega (arith, fails.counts, reading.some.faults)
 
     pub fault_read : (found : List (List Key)) → found ≡ [] → AreRead start last found ReadFault
     fault_read found empty = record {
@@ -350,8 +368,14 @@ module _ (start now : SourceSeen) (taken : List ℕ) (lists : Begun) (count : �
       none_left = λ e. absurd cc;
       none = λ differs. empty;
       too_many = λ e. absurd cc;
-      given = λ e. (taken ++ [], fault_takes, unrefused);
-      failed = λ e. subst (λ (faults : ℕ). Rose faults last.faults) reading.steady fails.rose;
+      prompt = just_over last [] fails.takes;
+      given = λ e. (
+        taken ++ [],
+        fault_takes,
+        ap (λ (l : List ℕ). (lists_at ReadFault l).ending) (append-nil taken) ∙ unrefused,
+      );
+      failed = λ e.
+          subst (λ (faults : ℕ). Rose faults last.faults) reading.some.faults fails.rose;
       steady = λ differs. absurd (differs refl);
       of_line = λ line e. cc;
     }

@@ -10,8 +10,20 @@ use Rattle.wap_keys.specs.declared.limits.TheConstants.{KEYS_LIMIT}
 use Rattle.wap_keys.specs.declared.fault.KeyFault.TheVariants as key
 use Rattle.wap_keys.specs.declared.ending.Ending.{Ending}
 use Rattle.wap_keys.specs.declared.ending.Ending.TheVariants.{End, BadKey, TooManyKeys, ReadFault}
-use Rattle.wap_keys.specs.Read.{TakesAtMost, AtMostOnce, Takes}
+use Rattle.wap_keys.specs.Read.{TakesAtMost, AtMostOnce, Takes, TakesSome, TakesAtOnce}
 use Rattle.wap_keys.specs.lists.Lists.{all_of, lists_at, lists_of}
+
+-- the last read began where no line of the bytes before it is refused: it gave what ends the lists,
+-- be it bytes, the end, or a fault
+pub record IsJustOver (before after : SourceSeen) : Type 0 where
+  -- those bytes, and the source as it stood then
+  pub earlier : List ℕ
+  pub between : SourceSeen
+  pub some : TakesSome earlier before between
+  pub unrefused : (lists_at ReadFault earlier).ending ≡ ReadFault
+  -- what that read gave
+  pub piece : List ℕ
+  pub last : TakesAtOnce piece between after
 
 -- lists that were read, from a source before to the source after, and how they came to an end
 pub record AreRead (before after : SourceSeen) (lists : List (List Key)) (ending : Ending) : Type 0
@@ -27,6 +39,8 @@ pub record AreRead (before after : SourceSeen) (lists : List (List Key)) (ending
     -- of too many bytes one more is taken than counts
     pub too_many : ending ≡ TooManyKeys
         → (bytes : List ℕ) × (length bytes ≡ KEYS_LIMIT + 1) × Takes bytes before after
+    -- no read begins once a line is refused
+    pub prompt : IsJustOver before after
     -- the source failed where the ending says so, and only there
     pub failed : ending ≡ ReadFault → Rose before.faults after.faults
     -- and no line of the bytes that it had given by then is refused

@@ -4,13 +4,13 @@ use Rattle.wap_base.specs.Count.{raised, Rose}
 use Rattle.wap_devices.specs.Sources.{SourceSeen}
 use Rattle.wap_devices.specs.Transfer.{IsAtEnd}
 use Rattle.wap_keys.specs.declared.limits.TheConstants.{PIECE_LIMIT}
-use Rattle.wap_keys.specs.Read.{Takes}
+use Rattle.wap_keys.specs.Read.{TakesAtOnce}
 use Rattle.wap_keys.specs.declared.lists.reading.More.{More}
 use Rattle.wap_keys.specs.declared.lists.reading.More.TheVariants as more
 
 -- so many bytes were read into a buffer, and no more than may come yet
 pub record ReadsBytes (left count : ℕ) (buffer : List ℕ) (before after : SourceSeen) : Type 0 where
-  pub takes : Takes (take count buffer) before after
+  pub takes : TakesAtOnce (take count buffer) before after
   pub some : 0 < count
   pub few : count ≤ left
   pub within : count ≤ PIECE_LIMIT
@@ -19,7 +19,7 @@ pub record ReadsBytes (left count : ℕ) (buffer : List ℕ) (before after : Sou
 
 -- the source gave its end
 pub record ReadsEnd (before after : SourceSeen) : Type 0 where
-  pub takes : Takes [] before after
+  pub takes : TakesAtOnce [] before after
   pub none : IsAtEnd after.left
   pub ends : after.ends ≡ raised before.ends
   pub steady : after.faults ≡ before.faults
@@ -29,13 +29,13 @@ pub record ReadsPast (left : ℕ) (before after : SourceSeen) : Type 0 where
   pub full : left ≡ 0
   pub byte : List ℕ
   pub one : length byte ≡ 1
-  pub takes : Takes byte before after
+  pub takes : TakesAtOnce byte before after
   pub ends : after.ends ≡ before.ends
   pub steady : after.faults ≡ before.faults
 
 -- the source failed
 pub record FailsToRead (before after : SourceSeen) : Type 0 where
-  pub takes : Takes [] before after
+  pub takes : TakesAtOnce [] before after
   pub ends : after.ends ≡ before.ends
   pub counts : before.faults ≤ after.faults
   pub rose : Rose before.faults after.faults

@@ -5,7 +5,7 @@ use Rattle.wap_base.specs.declared.key.Key.{Key}
 use Rattle.wap_keys.specs.declared.limits.TheConstants.{KEYS_LIMIT}
 use Rattle.wap_keys.specs.declared.fault.KeyFault.{KeyFault}
 use Rattle.wap_keys.specs.declared.ending.Ending.TheVariants.{BadKey, TooManyKeys, ReadFault}
-use Rattle.wap_keys.specs.Read.{Takes}
+use Rattle.wap_keys.specs.Read.{TakesAtOnce}
 use Rattle.wap_keys.specs.declared.lists.reading.More.{More}
 use Rattle.wap_keys.specs.lists.inside.Taking.{TakesPiece}
 use Rattle.wap_keys.specs.lists.inside.Pieces.{ReadsPiece, ReadsBytes, ReadsEnd, ReadsPast}
@@ -47,17 +47,17 @@ returns-in_err-fault-in-Piece g c =
     let bytes : ReadsBytes left more buffer now last =
     subst (λ (m : More). ReadsPiece left buffer now last m) c.in-Piece.is c.read_piece.ensures in
     let piece = c.split_at.result.0.now in
-    let takes : Takes piece now last =
-    subst (λ (l : List ℕ). Takes l now last) (sym c.split_at.ensures.front) bytes.takes in
+    let takes : TakesAtOnce piece now last =
+    subst (λ (l : List ℕ). TakesAtOnce l now last) (sym c.split_at.ensures.front) bytes.takes in
     let many : length piece ≡ more = c.split_at.ensures.front_len in
-    let all_takes = piece_takes start now taken lists count reading last piece more many bytes.few
-    takes bytes.ends bytes.steady in
-    let few = piece_few start now taken lists count reading last piece more many bytes.few
-    takes bytes.ends bytes.steady in
-    let once = piece_once start now taken lists count reading last piece more many bytes.few
-    takes bytes.ends bytes.steady in
-    let steady = piece_steady start now taken lists count reading last piece more many bytes.few
-    takes bytes.ends bytes.steady in
+    let all_takes = piece_takes start now taken lists count reading last piece more many
+    bytes.some bytes.few takes bytes.ends bytes.steady in
+    let few = piece_few start now taken lists count reading last piece more many
+    bytes.some bytes.few takes bytes.ends bytes.steady in
+    let once = piece_once start now taken lists count reading last piece more many
+    bytes.some bytes.few takes bytes.ends bytes.steady in
+    let steady = piece_steady start now taken lists count reading last piece more many
+    bytes.some bytes.few takes bytes.ends bytes.steady in
     err_gives_up lists_in start last (taken ++ piece) all_takes (omega (arith, few)) once
     c.from_residual.result c.from_residual.ensures.0 steady
 
@@ -77,25 +77,25 @@ returns-in-Some g c =
     let bytes : ReadsBytes left more buffer now last =
     subst (λ (m : More). ReadsPiece left buffer now last m) c.in-Piece.is c.read_piece.ensures in
     let piece = c.split_at.result.0.now in
-    let takes : Takes piece now last =
-    subst (λ (l : List ℕ). Takes l now last) (sym c.split_at.ensures.front) bytes.takes in
+    let takes : TakesAtOnce piece now last =
+    subst (λ (l : List ℕ). TakesAtOnce l now last) (sym c.split_at.ensures.front) bytes.takes in
     let many : length piece ≡ more = c.split_at.ensures.front_len in
-    let all_takes = piece_takes start now taken lists count reading last piece more many bytes.few
-    takes bytes.ends bytes.steady in
-    let few = piece_few start now taken lists count reading last piece more many bytes.few
-    takes bytes.ends bytes.steady in
-    let once = piece_once start now taken lists count reading last piece more many bytes.few
-    takes bytes.ends bytes.steady in
-    let steady = piece_steady start now taken lists count reading last piece more many bytes.few
-    takes bytes.ends bytes.steady in
+    let all_takes = piece_takes start now taken lists count reading last piece more many
+    bytes.some bytes.few takes bytes.ends bytes.steady in
+    let few = piece_few start now taken lists count reading last piece more many
+    bytes.some bytes.few takes bytes.ends bytes.steady in
+    let once = piece_once start now taken lists count reading last piece more many
+    bytes.some bytes.few takes bytes.ends bytes.steady in
+    let steady = piece_steady start now taken lists count reading last piece more many
+    bytes.some bytes.few takes bytes.ends bytes.steady in
     let new = c.take_piece.new.self in
     let bad : TakesPiece piece lists new (Some c.in-Some.fault) =
     subst (λ (fault : Option KeyFault). TakesPiece piece lists new fault) c.in-Some.is
     c.in_ok-fault-in-Piece.ensures in
     gives lists_in start last (taken ++ piece) all_takes (omega (arith, few)) once c.new.result
     (BadKey new.number c.in-Some.fault) (omega (arith, steady))
-    (piece_bad start now taken lists count reading last piece more many bytes.few takes bytes.ends
-    bytes.steady new c.in-Some.fault bad c.new.result.items
+    (piece_bad start now taken lists count reading last piece more many
+    bytes.some bytes.few takes bytes.ends bytes.steady new c.in-Some.fault bad c.new.result.items
     c.new.ensures.items)
 
 pub loop-more-preserved : goal.loop-more-preserved
@@ -113,8 +113,8 @@ loop-more-preserved g c =
     let bytes : ReadsBytes left more buffer now last =
     subst (λ (m : More). ReadsPiece left buffer now last m) c.in-Piece.is c.read_piece.ensures in
     let piece = c.split_at.result.0.now in
-    let takes : Takes piece now last =
-    subst (λ (l : List ℕ). Takes l now last) (sym c.split_at.ensures.front) bytes.takes in
+    let takes : TakesAtOnce piece now last =
+    subst (λ (l : List ℕ). TakesAtOnce l now last) (sym c.split_at.ensures.front) bytes.takes in
     let many : length piece ≡ more = c.split_at.ensures.front_len in
     let new = c.take_piece.new.self in
     let all : TakesPiece piece lists new None =
@@ -123,8 +123,8 @@ loop-more-preserved g c =
     c.in_ok-fault-in-Piece.ensures in
     record {
       taken = taken ++ piece;
-      reading = reads_on start now taken lists count reading last piece more many bytes.few takes
-          bytes.ends bytes.steady new all;
+      reading = reads_on start now taken lists count reading last piece more many
+          bytes.some bytes.few takes bytes.ends bytes.steady new all;
     }
 
 pub returns-in-AtEnd : goal.returns-in-AtEnd
