@@ -9,7 +9,7 @@ use simdutf8::basic::from_utf8;
 use std::alloc::Global;
 
 /// A character set in which strings are read.
-#[derive(Clone, Copy, Debug, PartialEq, Eq)]
+#[derive(Clone, Copy)]
 pub enum Charset {
     /// US-ASCII.
     Ascii,

@@ -159,7 +159,7 @@ impl Ord for Name {
 }
 
 /// How a reference to a variable is written out (WAP-191, section 10.3.1).
-#[derive(Clone, Copy, Debug, PartialEq, Eq)]
+#[derive(Clone, Copy)]
 pub enum Conv {
     /// With escapes of URLs in place of characters that need them.
     Escape,
@@ -170,7 +170,7 @@ pub enum Conv {
 }
 
 /// A part of a value: text as it stands, or a reference to a variable.
-#[derive(Debug, Drop, PartialEq, Eq)]
+#[derive(Drop)]
 pub enum Part {
     /// A text as it stands.
     Lit(Text),

@@ -37,7 +37,7 @@ impl From<NoMemory> for DeckFault {
 }
 
 /// What is wrong at a path.
-#[derive(Clone, Copy, Debug, PartialEq, Eq)]
+#[derive(Clone, Copy)]
 pub enum Kind {
     Child,
     Attr,

@@ -1,7 +1,7 @@
 //! What statements begin with.
 
 /// What a statement begins with (WAP-193, section 6.5): a sign of its own, or else an expression.
-#[derive(Clone, Copy, Debug, PartialEq, Eq)]
+#[derive(Clone, Copy)]
 pub enum Start {
     Empty,
     Block,

@@ -2,7 +2,7 @@
 use wap_value::{BinOp, UnOp};
 
 /// What a token is to the grammar.
-#[derive(Clone, Copy, Debug, PartialEq, Eq)]
+#[derive(Clone, Copy)]
 pub enum Word {
     /// After the last token.
     End,
@@ -27,7 +27,7 @@ pub enum Word {
 }
 
 /// A bracket, a separator, or a word of statements, functions and pragmas.
-#[derive(Clone, Copy, Debug, PartialEq, Eq)]
+#[derive(Clone, Copy, PartialEq, Eq)]
 pub enum Sign {
     /// `?`
     Question,

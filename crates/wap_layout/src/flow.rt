@@ -3,7 +3,7 @@
 use wap_base::Text;
 
 /// A part of a card's content (WAP-191, section 11.8).
-#[derive(Debug, Drop)]
+#[derive(Drop)]
 pub enum Flow {
     /// Text, which goes on with the text after it.
     Words(Text),
@@ -20,7 +20,7 @@ pub enum Flow {
 }
 
 /// How a piece of a flow is laid out.
-#[derive(Clone, Copy, Debug, PartialEq, Eq)]
+#[derive(Clone, Copy)]
 pub enum Mode {
     /// On lines of the width.
     Wrapped,

@@ -96,7 +96,7 @@ fn add_ended(
 }
 
 /// The lines so far, and the text after them, which has not ended yet.
-#[derive(Debug, Drop)]
+#[derive(Drop)]
 pub struct Page {
     /// The lines that have ended.
     pub lines: Lines,

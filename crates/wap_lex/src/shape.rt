@@ -15,7 +15,7 @@ use crate::token::Kind;
 use crate::words::{is_reserved, word_len};
 
 /// The shape of a token, or of what stands between tokens.
-#[derive(Clone, Copy, Debug, PartialEq, Eq)]
+#[derive(Clone, Copy)]
 pub enum Shape {
     Blank,
     Comment,

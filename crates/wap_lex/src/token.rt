@@ -1,7 +1,7 @@
 //! Tokens.
 
 /// A token of a source.
-#[derive(Clone, Copy, Debug, PartialEq, Eq)]
+#[derive(Clone, Copy)]
 pub struct Token {
     /// What it is.
     pub kind: Kind,
@@ -12,7 +12,7 @@ pub struct Token {
 }
 
 /// What a token is.
-#[derive(Clone, Copy, Debug, PartialEq, Eq)]
+#[derive(Clone, Copy)]
 pub enum Kind {
     Name,
     /// A word that is no name.

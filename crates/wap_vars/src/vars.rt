@@ -16,7 +16,7 @@ use wap_base::{Name, NoMemory, Text, is_name};
 
 /// The variables of the browser (WAP-191, section 10.3). A contract sees the pairs of a name and
 /// its text, in ascending order of names.
-#[derive(Debug, Drop)]
+#[derive(Drop)]
 pub struct Vars {
     alloc: Global,
     texts: BTreeMap<Text, Text>,

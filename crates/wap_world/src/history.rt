@@ -2,7 +2,7 @@
 use wap_url::Url;
 
 /// A card that was entered.
-#[derive(Debug, Drop, PartialEq, Eq)]
+#[derive(Drop)]
 pub struct Entry {
     /// The URL of its deck, without a fragment.
     pub url: Url,

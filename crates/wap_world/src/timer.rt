@@ -1,7 +1,7 @@
 //! The timer of the current card (WAP-191, section 11.7).
 
 /// A card's timer.
-#[derive(Clone, Copy, Debug, PartialEq, Eq)]
+#[derive(Clone, Copy)]
 pub enum Timer {
     /// It hasn't started since the card was entered.
     NotStarted,

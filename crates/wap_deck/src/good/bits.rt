@@ -13,7 +13,7 @@ use wap_tokens::markup::{ENTITY, EXT_I_0, EXT_I_1, EXT_I_2, STR_I};
 
 /// A bit of a text: some of its characters, at least one, or a reference to a variable.
 /// Neighbouring characters belong to one literal.
-#[derive(Clone, Copy, Debug)]
+#[derive(Clone, Copy)]
 pub enum Bit<'a> {
     /// Characters that a string in place can hold: all but U+0000.
     Slice(&'a str),

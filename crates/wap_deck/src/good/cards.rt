@@ -28,7 +28,7 @@ fn node_with(child: Child<'_>, tag: Tag) -> Option<View<'_>>
 }
 
 /// Where a node begins: its place among the bytes, and that of the first note from it on.
-#[derive(Clone, Copy, Debug)]
+#[derive(Clone, Copy)]
 pub struct Place {
     pub begin: usize,
     pub note: usize,

@@ -17,7 +17,7 @@ use wap_tokens::markup::LEVEL_LIMIT;
 use wap_tokens::tag_of;
 
 /// Where a node begins and where it ends, by how many bytes are left there.
-#[derive(Clone, Copy, Debug)]
+#[derive(Clone, Copy)]
 pub struct Note {
     pub begin: u32,
     pub end: u32,
@@ -25,7 +25,7 @@ pub struct Note {
 }
 
 /// What is known of a node. Four bytes, so that they are handed on at once.
-#[derive(Clone, Copy, Debug)]
+#[derive(Clone, Copy)]
 pub struct Known {
     /// The marks of its attributes' names.
     pub names: u16,

@@ -6,7 +6,7 @@ use std::marker::Model;
 use wap_base::NoMemory;
 
 /// A value in a place of its own. A contract sees the value, also where a type holds itself.
-#[derive(Debug, Drop)]
+#[derive(Drop)]
 pub struct Boxed<T> {
     inner: Box<T>,
 }

@@ -5,7 +5,7 @@ use wap_base::{Rows, Text};
 use wap_value::{BinOp, UnOp};
 
 /// An expression.
-#[derive(Debug, Drop, PartialEq, Eq)]
+#[derive(Drop)]
 pub enum Expr {
     Lit(Literal),
     Var(Id),
@@ -27,7 +27,7 @@ pub enum Expr {
 }
 
 /// A literal.
-#[derive(Debug, Drop, PartialEq, Eq)]
+#[derive(Drop)]
 pub enum Literal {
     Int(i32),
     /// A number with a point or an exponent, whose value no script sees.

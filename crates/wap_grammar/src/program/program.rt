@@ -3,7 +3,7 @@ use crate::program::statement::Stmt;
 use wap_base::{Rows, Text};
 
 /// A program of one unit.
-#[derive(Debug, Drop, PartialEq, Eq)]
+#[derive(Drop)]
 pub struct Program {
     /// The pragmas, which stand before the functions.
     pub uses: Rows<Use>,
@@ -12,7 +12,7 @@ pub struct Program {
 }
 
 /// A pragma.
-#[derive(Debug, Drop, PartialEq, Eq)]
+#[derive(Drop)]
 pub enum Use {
     /// A name for the unit of a URL, whose functions it makes known.
     Url(Id, Text),
@@ -25,7 +25,7 @@ pub enum Use {
 }
 
 /// A function of a unit.
-#[derive(Debug, Drop, PartialEq, Eq)]
+#[derive(Drop)]
 pub struct Function {
     /// How it is called.
     pub name: Id,
@@ -38,7 +38,7 @@ pub struct Function {
 }
 
 /// A name, and where it stands.
-#[derive(Debug, Drop, PartialEq, Eq)]
+#[derive(Drop)]
 pub struct Id {
     /// The name as it is written.
     pub name: Text,

@@ -5,7 +5,7 @@ use crate::program::program::{Id, Span};
 use wap_base::Rows;
 
 /// A statement.
-#[derive(Debug, Drop, PartialEq, Eq)]
+#[derive(Drop)]
 pub enum Stmt {
     /// `;`
     Empty,

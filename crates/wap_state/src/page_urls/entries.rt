@@ -11,7 +11,7 @@ use wap_url::Url;
 
 /// A card that was entered, by the URL of its deck, which has no fragment. A contract sees the
 /// entry.
-#[derive(Debug, Drop)]
+#[derive(Drop)]
 pub struct PageEntry {
     url: PageUrl,
     card: usize,

@@ -13,7 +13,7 @@ use wap_world::Refusal;
 
 /// The URL of a page: of http and with a host, and its text is read as this URL again. A contract
 /// sees the URL.
-#[derive(Debug, Drop)]
+#[derive(Drop)]
 pub struct PageUrl {
     url: Url,
 }

@@ -3,7 +3,7 @@ use crate::markup::name::{AttrName, Tag};
 use wap_base::{Part, Rows};
 
 /// A deck of cards.
-#[derive(Debug, Drop, PartialEq, Eq)]
+#[derive(Drop)]
 pub struct Deck {
     /// The `wml` element.
     pub root: Node,
@@ -11,7 +11,7 @@ pub struct Deck {
 
 /// An element of a deck: its attributes in the order of the document, and its content.
 #[cycle(node)]
-#[derive(Debug, Drop, PartialEq, Eq)]
+#[derive(Drop)]
 pub struct Node {
     /// Which element it is.
     pub tag: Tag,
@@ -23,7 +23,7 @@ pub struct Node {
 
 /// A part of a node's content.
 #[cycle(node)]
-#[derive(Debug, Drop, PartialEq, Eq)]
+#[derive(Drop)]
 pub enum Item {
     /// A text, by its literals and its references to variables.
     Text(Rows<Part>),

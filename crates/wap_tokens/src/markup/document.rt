@@ -7,7 +7,7 @@ use wap_base::{Bytes, Conv, Rows, Text};
 pub const LEVEL_LIMIT: u32 = 64;
 
 /// A document.
-#[derive(Debug, Drop, PartialEq, Eq)]
+#[derive(Drop)]
 pub struct Document {
     /// The version byte: the major number minus one, and the minor number, in four bits each.
     pub version: u8,
@@ -20,7 +20,7 @@ pub struct Document {
 }
 
 /// The name of a tag or of an attribute.
-#[derive(Debug, Drop, PartialEq, Eq)]
+#[derive(Drop)]
 pub enum Token {
     /// A code of the page on which it stands, without the bits that say what follows.
     Code(u8),
@@ -30,7 +30,7 @@ pub enum Token {
 
 /// An element, its tag on a page of codes.
 #[cycle(tree)]
-#[derive(Debug, Drop, PartialEq, Eq)]
+#[derive(Drop)]
 pub struct Element {
     /// The page of codes on which its tag stands.
     pub page: u8,
@@ -43,7 +43,7 @@ pub struct Element {
 }
 
 /// An attribute, or a processing instruction, its start on a page of codes.
-#[derive(Debug, Drop, PartialEq, Eq)]
+#[derive(Drop)]
 pub struct Attr {
     /// The page of codes on which its start stands.
     pub page: u8,
@@ -54,7 +54,7 @@ pub struct Attr {
 }
 
 /// A part of an attribute's value.
-#[derive(Debug, Drop, PartialEq, Eq)]
+#[derive(Drop)]
 pub enum Piece {
     /// A page, and a code of it.
     Code(u8, u8),
@@ -72,7 +72,7 @@ pub enum Piece {
 
 /// A part of an element's content.
 #[cycle(tree)]
-#[derive(Debug, Drop, PartialEq, Eq)]
+#[derive(Drop)]
 pub enum Kid {
     /// An element in the content.
     Element(Element),

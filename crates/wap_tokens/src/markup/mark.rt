@@ -2,7 +2,7 @@
 use wap_base::{Bytes, Conv, Text};
 
 /// The byte that says what an item is, and the page of codes on which it stands.
-#[derive(Clone, Copy, Debug, PartialEq, Eq)]
+#[derive(Clone, Copy)]
 pub struct Lead {
     /// Whether a switch to the page stands before the byte.
     pub switched: bool,
@@ -13,7 +13,7 @@ pub struct Lead {
 }
 
 /// What a string stands for.
-#[derive(Clone, Copy, Debug, PartialEq, Eq)]
+#[derive(Clone, Copy)]
 pub enum Role {
     /// Itself: it is a part of a text or of a value.
     Shown,
@@ -22,7 +22,7 @@ pub enum Role {
 }
 
 /// What a byte says that means the same in content and in the value of an attribute.
-#[derive(Clone, Copy, Debug, PartialEq, Eq)]
+#[derive(Clone, Copy)]
 pub enum LeafMark {
     /// A string stands after it.
     Inline(Role),
@@ -37,7 +37,7 @@ pub enum LeafMark {
 }
 
 /// What a byte says in content.
-#[derive(Clone, Copy, Debug, PartialEq, Eq)]
+#[derive(Clone, Copy)]
 pub enum ContentMark {
     /// The content ends.
     End,
@@ -52,7 +52,7 @@ pub enum ContentMark {
 }
 
 /// What a byte says in attributes.
-#[derive(Clone, Copy, Debug, PartialEq, Eq)]
+#[derive(Clone, Copy)]
 pub enum AttributeMark {
     /// The attributes end.
     End,
@@ -69,7 +69,7 @@ pub enum AttributeMark {
 }
 
 /// What stands in content and in the value of an attribute alike.
-#[derive(Debug, Drop, PartialEq, Eq)]
+#[derive(Drop)]
 pub enum Leaf {
     /// A string.
     Str(Text),
@@ -84,7 +84,7 @@ pub enum Leaf {
 }
 
 /// The document type that is read.
-#[derive(Clone, Copy, Debug, PartialEq, Eq)]
+#[derive(Clone, Copy)]
 pub enum DocumentType {
     /// WML, of any of its versions.
     Wml,
@@ -93,7 +93,7 @@ pub enum DocumentType {
 }
 
 /// A public identifier.
-#[derive(Clone, Copy, Debug, PartialEq, Eq)]
+#[derive(Clone, Copy)]
 pub enum Identifier {
     /// By its number.
     Numbered(u32),

@@ -1,7 +1,7 @@
 //! The names of WML's elements and attributes (WAP-191, section 14.3).
 
 /// An element's name.
-#[derive(Clone, Copy, Debug, PartialEq, Eq)]
+#[derive(Clone, Copy, PartialEq, Eq)]
 pub enum Tag {
     Pre,
     A,
@@ -44,7 +44,7 @@ pub enum Tag {
 }
 
 /// An attribute's name.
-#[derive(Clone, Copy, Debug, PartialEq, Eq)]
+#[derive(Clone, Copy, PartialEq, Eq)]
 pub enum AttrName {
     AcceptCharset,
     Align,
