@@ -51,7 +51,8 @@ one_byte : (c : ℕ) → c < 128 → encode_utf8 c ≡ c ∷ []
 unfolding encode_utf8
 one_byte c h = grind (arith, nat_tests)
 
-two_bytes : (c : ℕ) → 128 ≤ c → c < 2048 → encode_utf8 c ≡ (192 + c / 64) ∷ (128 + c % 64) ∷ []
+pub two_bytes : (c : ℕ) → 128 ≤ c → c < 2048
+    → encode_utf8 c ≡ (192 + c / 64) ∷ (128 + c % 64) ∷ []
 unfolding encode_utf8
 two_bytes c g h = grind (arith, nat_tests)
 

@@ -4,6 +4,7 @@
 
 mod bytes;
 mod charset;
+mod control;
 mod fault;
 mod key;
 mod limits;
@@ -16,6 +17,7 @@ mod text;
 
 pub use bytes::Bytes;
 pub use charset::Charset;
+pub use control::{is_control, shown_character, shown_text};
 pub use fault::{NoMemory, RunErr};
 pub use key::Key;
 pub use limits::{

@@ -1,10 +1,10 @@
 -- Bytes put one after the other.
-use Rattle.std.proofs.Common.{◌≡◌, ℕ, ◌+◌, ◌<◌, ◌≤◌, Bool, true, false, List, [], ◌∷◌}
+use Rattle.std.proofs.Common.{◌≡◌, ℕ, ◌+◌, ◌<◌, Bool, true, false, List, [], ◌∷◌}
 use Rattle.std.proofs.Common.{◌++◌, length, get_or, take, map, Ok, Err, inl, inr, refl}
 use Rattle.std.proofs.Common.{sym, ap, subst, ◌∙◌, append_assoc, arith}
 use Rattle.std.proofs.lemmas.Bool.{cases_Bool}
 use Rattle.std.specs.List.{flat_map}
-use Rattle.std.proofs.lemmas.List.{append-nil, take_more, map-append}
+use Rattle.std.proofs.lemmas.List.{append-nil, take_more}
 use Rattle.wap_base.specs.Count.{Rose}
 use Rattle.wap_devices.specs.Transfer.{Appends, AppendsPrefix}
 use Rattle.wap_devices.specs.Sinks.{SinkSeen, Puts}
@@ -147,14 +147,6 @@ module _ (a b c : SinkSeen) (p q r : State) where
       subst (Gathers a c p r) (ap (λ (l : List ℕ). flat_map f (take i xs) ++ l) is ∙ sym
       (ap (flat_map f) (take_more xs i d within) ∙ flat_map-push f (take i xs) (get_or xs i d)))
       (gathers_then a b c p q r (flat_map f (take i xs)) piece before now)
-
-  pub puts_one : (f : ℕ → ℕ) (xs : List ℕ) (i : ℕ) (piece : List ℕ) → i < length xs
-      → piece ≡ f (get_or xs i 0) ∷ [] → Gathers a b p q (map f (take i xs))
-      → Gathers b c q r piece → Gathers a c p r (map f (take (i + 1) xs))
-  puts_one f xs i piece within is before now =
-      subst (Gathers a c p r) (ap (λ (l : List ℕ). map f (take i xs) ++ l) is
-      ∙ sym (ap (map f) (take_more xs i 0 within) ∙ map-append f (take i xs) (get_or xs i 0 ∷ [])))
-      (gathers_then a b c p q r (map f (take i xs)) piece before now)
 
 -- ---- a text to its end
 

@@ -1,13 +1,14 @@
 -- The listing of a unit. This project's own.
-use Rattle.std.specs.Prelude.{ℕ, zero, suc, ◌+◌, ◌-◌, ◌/◌, ◌%◌, ◌||◌, ◌==◌, nat_lt}
+use Rattle.std.specs.Prelude.{ℕ, zero, suc, ◌+◌, ◌-◌, ◌/◌, ◌%◌, ◌==◌, nat_lt}
 use Rattle.std.specs.Prelude.{if◌then◌else◌, List}
-use Rattle.std.specs.Prelude.{[], ◌∷◌, ◌++◌, length, map, take, drop, slice_index, codes, decimal}
+use Rattle.std.specs.Prelude.{[], ◌∷◌, ◌++◌, length, take, drop, slice_index, codes, decimal}
 use Rattle.std.specs.Prelude.{encode_utf8_all, Option, Some, None, Result, Ok, Err}
 use Rattle.std.specs.Int.{w32, to_be_bytes}
 use Rattle.std.specs.Fmt.{signed_decimal}
 use Rattle.std.specs.List.{flat_map, enumerate_from}
 use Rattle.std.specs.Map.{lookup}
-use Rattle.wap_base.specs.Ascii.{line_feed, space, full_stop, digit_zero, small_a, delete}
+use Rattle.wap_base.specs.Ascii.{line_feed, space, digit_zero, small_a}
+use Rattle.wap_base.specs.Controls.{shown_text}
 use Rattle.wap_unit.specs.declared.unit.Unit.{Unit}
 use Rattle.wap_unit.specs.declared.unit.Constant.{Constant}
 use Rattle.wap_unit.specs.declared.unit.Constant.TheVariants.{Int8, Int16, Int32, Float, Utf8}
@@ -37,13 +38,9 @@ hex_byte byte = hex_digit (byte / 16) ∷ hex_digit (byte % 16) ∷ []
 abbrev pub hex : List ℕ → List ℕ
 hex bytes = flat_map hex_byte bytes
 
--- a byte of UTF-8, a control character as a dot
-abbrev pub shown_byte : ℕ → ℕ
-shown_byte byte = if nat_lt byte space || (byte == delete) then full_stop else byte
-
 -- the UTF-8 of a text, its control characters as dots
 abbrev pub shown : List ℕ → List ℕ
-shown text = map shown_byte (encode_utf8_all text)
+shown text = encode_utf8_all (shown_text text)
 
 -- a word with a space before it
 abbrev pub spaced : List ℕ → List ℕ

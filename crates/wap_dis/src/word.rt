@@ -1,13 +1,15 @@
 //! The words of a line.
 ghost use Rattle.std.specs.Prelude.{◌≡◌, ◌<◌, map};
 ghost use Rattle.std.specs.List.{flat_map};
-ghost use Rattle.wap_dis.specs.Listing.{hex_digit, hex, shown_byte, spaced, line};
+ghost use Rattle.std.specs.Str.{chars};
+ghost use Rattle.wap_dis.specs.Listing.{hex_digit, hex, shown, spaced, line};
 ghost use Rattle.wap_dis.specs.inside.Gathering.{Gathers};
 ghost use Rattle.wap_dis.specs.inside.Gathered.{state};
 ghost use Rattle.wap_dis.specs.inside.LineWords.{word_bytes};
 
 use crate::held::{Held, put};
 use itoa::Buffer;
+use wap_base::shown_character;
 use wap_devices::Sink;
 
 /// A word of a line.
@@ -60,7 +62,7 @@ fn put_word<O: Sink>(out: &mut O, held: &mut Held, word: Word<'_>)
             put(out, held, buffer.format(value).as_bytes());
         }
         Word::Hex(bytes) => put_hex(out, held, bytes),
-        Word::Shown(text) => put_shown(out, held, text.as_bytes()),
+        Word::Shown(text) => put_shown(out, held, text),
     }
 }
 
@@ -80,18 +82,14 @@ fn put_hex<O: Sink>(out: &mut O, held: &mut Held, bytes: &[u8])
     }
 }
 
-/// A control character is shown as a dot.
-fn shown_byte(byte: u8) -> u8
-    ensures { result ≡ shown_byte byte }
-{
-    if byte < 32 || byte == 127 { 46 } else { byte }
-}
-
-fn put_shown<O: Sink>(out: &mut O, held: &mut Held, bytes: &[u8])
+/// Puts a text, its control characters as dots.
+fn put_shown<O: Sink>(out: &mut O, held: &mut Held, text: &str)
     ensures { Gathers (O.seen out.old) (O.seen out.new)
-        (state held.old) (state held.new) (map shown_byte bytes.now) }
+        (state held.old) (state held.new) (shown (chars text.now)) }
 {
-    for byte in bytes {
-        put(out, held, &[shown_byte(*byte)]);
+    for character in text.chars() {
+        let mut bytes = [0; 4];
+        let shown = shown_character(character).encode_utf8(&mut bytes);
+        put(out, held, shown.as_bytes());
     }
 }

@@ -1,5 +1,5 @@
 //! Pieces of which what is shown is made.
-use wap_base::{NoMemory, Text};
+use wap_base::{NoMemory, Text, shown_character};
 
 /// Adds texts, one after the other.
 pub(crate) fn add_all(out: &mut Text, texts: &[&str]) -> Result<(), NoMemory> {
@@ -33,8 +33,7 @@ pub(crate) fn add_list(out: &mut Text, names: &[&str]) -> Result<(), NoMemory> {
 pub(crate) fn shown(character: char) -> char {
     match character {
         '\t' | '\n' | '\r' => ' ',
-        '\0'..='\u{1f}' | '\u{7f}'..='\u{9f}' => '.',
-        _ => character,
+        _ => shown_character(character),
     }
 }
 

@@ -3,13 +3,13 @@ use Rattle.std.proofs.Common.{◌≡◌, ℕ, List, [], ◌∷◌, ◌++◌, fal
 use Rattle.std.proofs.Common.{Result, Ok, Err, map, refl, sym, ap, subst, ◌∙◌}
 use Rattle.std.specs.Prelude.{is_some}
 use Rattle.std.proofs.lemmas.List.{map-append}
+use Rattle.wap_base.specs.Controls.{shown_text}
 use Rattle.wap_base.specs.declared.fault.RunErr.{RunErr}
 use Rattle.wap_base.specs.declared.fault.RunErr.TheVariants as run
 use Rattle.wap_base.specs.declared.key.Key.{Key}
 use Rattle.wap_world.specs.site.Pages.{Pages as JudgedPages}
 use Rattle.wap_world.specs.site.Misses.{Asked}
 use Rattle.wap_world.specs.site.Asking.{Seen, Stays, Asks}
-use Rattle.wap_world.specs.Lines.{shown_line}
 use Rattle.wap_world.specs.Steps.{Step, joined}
 use Rattle.wap_world.specs.Keys.{renewed, apply, react}
 use Rattle.wap_world.specs.Sessions.{shown_by}
@@ -48,7 +48,7 @@ module _ (key : Key) (before after : Seen) (old new : State) where
       subst Fact (sym (ap (λ (s : Step). s.asked) one)) (so is)
 
   -- where it leads, with its lines as they are shown
-  leads_by : (did : Did) (lines : List (List ℕ)) → lines ≡ map shown_line (lines_in did)
+  leads_by : (did : Did) (lines : List (List ℕ)) → lines ≡ map shown_text (lines_in did)
       → new.waiting ≡ waiting_in did → (contents : Option JudgedPages)
       → IfOver contents old.browser (λ pages.
       Follows pages (turn_rule old.waiting key pages) old.browser new.browser did)
@@ -68,7 +68,7 @@ module _ (key : Key) (before after : Seen) (old new : State) where
         over = follows.over;
         asks_user = ap is_some waits ∙ sym follows.asks_user
             ∙ sym (ap (λ (s : Step). s.is_open) one);
-        tells = shown ∙ ap (map shown_line) follows.tells
+        tells = shown ∙ ap (map shown_text) follows.tells
             ∙ sym (ap (λ (s : Step). shown_by s) one);
         on = λ others.
             feeds fragment_call pages (between old) key (fed_of step did) follows.on others
@@ -94,7 +94,7 @@ module _ (key : Key) (before after : Seen) (old new : State) where
       (sym (alone pages old.waiting old.browser.world key))
 
   -- a key that was played
-  pub played_ok : (did : Did) (lines : List (List ℕ)) → lines ≡ map shown_line (lines_in did)
+  pub played_ok : (did : Did) (lines : List (List ℕ)) → lines ≡ map shown_text (lines_in did)
       → new.waiting ≡ waiting_in did → new.is_over ≡ false → old.is_over ≡ false
       → Acts (turn_rule old.waiting key) before after old.browser new.browser (Ok did)
       → Plays (key ∷ []) before after old new (Ok lines)
@@ -175,7 +175,7 @@ shows_on keys old new lines (Some judged) so = λ is others.
     let leads = so is in
     let step = step_of pages keys old in
     ap (λ (front : List (List ℕ)). front ++ shown_of pages others new) leads.tells
-    ∙ sym (map-append shown_line step.lines (step_of pages others new).lines)
+    ∙ sym (map-append shown_text step.lines (step_of pages others new).lines)
     ∙ sym (ap (λ (s : Step). shown_by s) (leads.on others))
 
 -- ---- a key outside a dialog
@@ -207,7 +207,7 @@ module _ (key : Key) (before after : Seen) (first last : Browser) (standing : St
     (old : State) (was : state_of first standing ≡ old) (going : is_over standing ≡ false) where
   -- the key and the lines were handled
   pub fed_ok : (did : Did) (lines : List (List ℕ)) (next : Standing)
-      → lines ≡ map shown_line (lines_in did) → IsAfter next did
+      → lines ≡ map shown_text (lines_in did) → IsAfter next did
       → Acts (turn_rule (waiting_of standing) key) before after first last (Ok did)
       → Plays (key ∷ []) before after old (state_of last next) (Ok lines)
   fed_ok did lines next shown so acts =

@@ -1,37 +1,36 @@
 //! Control characters are shown as dots.
-ghost use Rattle.std.specs.Prelude.{◌≡◌, ◌≤◌, map, length, IfOk};
-ghost use Rattle.std.specs.List.{list_any, count_by};
-ghost use Rattle.std.specs.Str.{chars};
-ghost use Rattle.wap_world.specs.Lines.{shown_character, shown_line};
-ghost use Rattle.wap_session.specs.inside.Dots.{is_control};
+ghost use Rattle.std.specs.Prelude.{◌≡◌, ◌≤◌, true, map, length, IfOk};
+ghost use Rattle.std.specs.List.{count_by};
+ghost use Rattle.wap_base.specs.Controls.{shown_text};
+ghost use Rattle.wap_session.specs.inside.Dots.{may_be_control};
 
 use std::alloc::Global;
-use wap_base::{NoMemory, Text};
+use wap_base::{NoMemory, shown_text};
 use wap_layout::buffer::Lines;
 
-/// Whether a character is a control character.
-fn is_control(character: char) -> bool
-    ensures { result ≡ is_control character }
+/// Whether a byte may belong to a control character.
+fn may_be_control(byte: u8) -> bool
+    ensures { result ≡ may_be_control byte }
 {
-    character < ' ' || character == '\x7f'
+    byte < 32 || byte == 127 || byte == 0xC2
 }
 
-/// How many bytes of a block are those of control characters. A count that is a byte lets many be
+/// How many bytes of a block may belong to control characters. A count that is a byte lets many be
 /// looked at in one step.
 fn count_in_block(block: &[u8]) -> u8
     requires { length block.now ≤ 255 }
-    ensures { result ≡ count_by is_control block.now }
+    ensures { result ≡ count_by may_be_control block.now }
 {
     let mut count = 0;
     for byte in block {
-        count += u8::from(is_control(char::from(*byte)));
+        count += u8::from(may_be_control(*byte));
     }
     count
 }
 
-/// How many of the bytes are those of control characters, block by block.
+/// How many of the bytes may belong to control characters, block by block.
 fn count_control(bytes: &[u8]) -> usize
-    ensures { result ≡ count_by is_control bytes.now }
+    ensures { result ≡ count_by may_be_control bytes.now }
 {
     let mut count = 0;
     let mut rest = bytes;
@@ -43,53 +42,32 @@ fn count_control(bytes: &[u8]) -> usize
     count + usize::from(count_in_block(rest))
 }
 
-/// Whether one of the lines has a control character. In the lines as they are written, the line
-/// feed after each is one more, and bytes of other characters are none.
-#[tactic(auto, using(crate::proofs::Dotting::tells_control))]
-fn have_control(lines: &Lines) -> bool
-    ensures { result ≡ list_any (list_any is_control) lines.now }
+/// Whether the lines are seen to be shown as they are: as they are written, no byte but the line
+/// feed after each may belong to a control character.
+#[tactic(auto, using(crate::proofs::Dotting::plain))]
+fn are_plain(lines: &Lines) -> bool
+    ensures { result ≡ true → map shown_text lines.now ≡ lines.now }
 {
-    count_control(lines.as_written()) != lines.len()
-}
-
-/// A character as it is shown.
-fn shown_character(character: char) -> char
-    ensures { result ≡ shown_character character }
-{
-    if is_control(character) {
-        return '.';
-    }
-    character
-}
-
-/// A line as it is shown.
-fn with_dots(alloc: Global, line: &str) -> Result<Text, NoMemory>
-    ensures { IfOk result (λ shown. shown ≡ shown_line (chars line.now)) }
-{
-    let mut shown = Text::new(alloc);
-    for character in line.chars() {
-        shown.push(shown_character(character))?;
-    }
-    Ok(shown)
+    count_control(lines.as_written()) == lines.len()
 }
 
 /// Lines, each as it is shown.
 fn each_shown(alloc: Global, lines: &Lines) -> Result<Lines, NoMemory>
-    ensures { IfOk result (λ shown. shown ≡ map shown_line lines.now) }
+    ensures { IfOk result (λ shown. shown ≡ map shown_text lines.now) }
 {
     let mut shown = Lines::new(alloc);
     for line in lines.each() {
-        shown.add(with_dots(alloc, line)?.as_str())?;
+        shown.add(shown_text(alloc, line)?.as_str())?;
     }
     Ok(shown)
 }
 
-/// Lines as they are shown; where none has control characters, they are kept.
+/// Lines as they are shown; where they are seen to be plain, they are kept.
 pub fn shown_lines(alloc: Global, lines: Lines) -> Result<Lines, NoMemory>
-    ensures { IfOk result (λ shown. shown ≡ map shown_line lines) }
+    ensures { IfOk result (λ shown. shown ≡ map shown_text lines) }
 {
-    if have_control(&lines) {
-        return each_shown(alloc, &lines);
+    if are_plain(&lines) {
+        return Ok(lines);
     }
-    Ok(lines)
+    each_shown(alloc, &lines)
 }

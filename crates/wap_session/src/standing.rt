@@ -1,6 +1,6 @@
 //! How a session stands between two keys, and what a key does there.
 ghost use Rattle.std.specs.Prelude.{◌≡◌, false, map, Some, IfOk};
-ghost use Rattle.wap_world.specs.Lines.{shown_line};
+ghost use Rattle.wap_base.specs.Controls.{shown_text};
 ghost use Rattle.wap_world.specs.scripting.Feeding.{turned};
 ghost use Rattle.wap_context.specs.Pausing.{waits_of};
 ghost use Rattle.wap_context.specs.Sites.{fragment_call};
@@ -79,7 +79,7 @@ pub(crate) fn turn<P: Pages>(
 
 /// The lines of what a key did as they are shown, and how the session stands after it.
 pub(crate) fn after(alloc: Global, did: Step) -> Result<(Lines, Standing), NoMemory>
-    ensures lines { IfOk result (λ it. it.0 ≡ map shown_line (lines_in did)) }
+    ensures lines { IfOk result (λ it. it.0 ≡ map shown_text (lines_in did)) }
     ensures standing { IfOk result (λ it. IsAfter it.1 did) }
 {
     match did {

@@ -1,19 +1,10 @@
 -- Lines that are shown. This project's own.
-use Rattle.std.specs.Prelude.{ℕ, ◌||◌, ◌==◌, nat_lt, if◌then◌else◌, List, []}
-use Rattle.std.specs.Prelude.{◌∷◌, ◌++◌, map, codes}
-use Rattle.wap_base.specs.Ascii.{space, full_stop, delete, equals_sign}
+use Rattle.std.specs.Prelude.{ℕ, List, [], ◌∷◌, ◌++◌, codes}
+use Rattle.wap_base.specs.Ascii.{space, equals_sign}
 use Rattle.wap_world.specs.declared.refusal.Refusal.{Refusal}
 use Rattle.wap_world.specs.declared.refusal.Refusal.TheVariants.{Budget, Url, Scheme, Missing}
 use Rattle.wap_world.specs.declared.refusal.Refusal.TheVariants.{Refused, Denied, First, Ignored}
 use Rattle.wap_world.specs.declared.refusal.Refusal.TheVariants.{Mask, Full, Long}
-
--- a control character is shown as a dot
-abbrev pub shown_character : ℕ → ℕ
-shown_character c = if nat_lt c space || c == delete then full_stop else c
-
--- a line as it is shown
-abbrev pub shown_line : List ℕ → List ℕ
-shown_line line = map shown_character line
 
 -- ---- refusals
 

@@ -1,12 +1,12 @@
 -- Sessions and their transcripts. This project's own.
 use Rattle.std.specs.Prelude.{ℕ, zero, suc, List, [], ◌∷◌, length, take, map}
+use Rattle.wap_base.specs.Controls.{shown_text}
 use Rattle.wap_base.specs.declared.limits.Limits.{Limits}
 use Rattle.wap_base.specs.declared.key.Key.{Key}
 use Rattle.wap_base.specs.declared.key.Key.TheVariants.{Open}
 use Rattle.wap_world.specs.Sites.{Site}
 use Rattle.wap_world.specs.World.{World, first_world}
 use Rattle.wap_layout.specs.buffer.Written.{lines_bytes}
-use Rattle.wap_world.specs.Lines.{shown_line}
 use Rattle.wap_world.specs.Steps.{Step, still, quiet, followed}
 use Rattle.wap_world.specs.Keys.{react}
 
@@ -25,7 +25,7 @@ played site keys world = played_in (length keys) site keys world
 
 -- the lines that a step shows
 abbrev pub shown_by : Step → List (List ℕ)
-shown_by step = map shown_line step.lines
+shown_by step = map shown_text step.lines
 
 -- the lines that keys show
 abbrev pub shown : Site → List Key → World → List (List ℕ)

@@ -3,9 +3,9 @@ use Rattle.std.proofs.Common.{◌≡◌, ℕ, List, [], ◌++◌, sym, ap, ◌�
 use Rattle.std.specs.Prelude.{map, is_some}
 use Rattle.std.proofs.lemmas.List.{map-append, append-nil}
 use Rattle.std.proofs.lemmas.Grind.{flat_map-append}
+use Rattle.wap_base.specs.Controls.{shown_text}
 use Rattle.wap_base.specs.declared.key.Key.{Key}
 use Rattle.wap_layout.specs.buffer.Written.{line_bytes, lines_bytes}
-use Rattle.wap_world.specs.Lines.{shown_line}
 use Rattle.wap_world.specs.Steps.{Step, joined}
 use Rattle.wap_world.specs.scripting.UnitSites.{Pages}
 use Rattle.wap_session.specs.Feeding.{left_open}
@@ -17,11 +17,11 @@ use Rattle.wap_cli.specs.browse.Handling.{bytes_of}
 
 -- the bytes of lines in two parts
 lines_bytes-append : (first others : List (List ℕ))
-    → lines_bytes (map shown_line (first ++ others))
-    ≡ lines_bytes (map shown_line first) ++ lines_bytes (map shown_line others)
+    → lines_bytes (map shown_text (first ++ others))
+    ≡ lines_bytes (map shown_text first) ++ lines_bytes (map shown_text others)
 lines_bytes-append first others =
-    ap lines_bytes (map-append shown_line first others)
-    ∙ flat_map-append line_bytes (map shown_line first) (map shown_line others)
+    ap lines_bytes (map-append shown_text first others)
+    ∙ flat_map-append line_bytes (map shown_text first) (map shown_text others)
 
 -- the bytes of two steps
 pub bytes_joined : (all one two : Step) → all ≡ joined (left_open one) two

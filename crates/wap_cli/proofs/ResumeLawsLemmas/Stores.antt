@@ -9,6 +9,7 @@ use Rattle.std.specs.Cmp.Lexicographic.{nat_list_eq_equiv}
 use Rattle.std.specs.List.{All}
 use Rattle.std.specs.Prelude.{◌≢◌, IfSome, map, unwrap_or}
 use Rattle.std.specs.Option.{option_map, option_map_or, option_and_then}
+use Rattle.wap_base.specs.Controls.{shown_text}
 use Rattle.wap_base.specs.Contents.{Contents}
 use Rattle.wap_base.specs.Texts.{is_same_text}
 use Rattle.wap_base.specs.declared.key.Key.{Key}
@@ -27,7 +28,6 @@ use Rattle.wap_world.specs.declared.history.Entry.{Entry}
 use Rattle.wap_world.specs.Shelves.{Shelf}
 use Rattle.wap_world.specs.World.{World, deck_in, deck_at, last_entry}
 use Rattle.wap_layout.specs.buffer.Written.{lines_bytes}
-use Rattle.wap_world.specs.Lines.{shown_line}
 use Rattle.wap_world.specs.Steps.{Step}
 use Rattle.wap_world.specs.Sessions.{Begun, world_of}
 use Rattle.wap_world.specs.session_laws.Standing.{HaveCards}
@@ -137,7 +137,7 @@ module _ (among : List ℕ → Bool) (one other : Pages) (agree : AgreeBeside am
       (record { world = again; pushes = [] }) beside
       (ap (is_asked among) (same_asked one others step.world begun.budget) ∙ split.1)) in
       goes_on begun one first others parts ends whole none cards
-      ∙ ap (λ (lines : List (List ℕ)). bytes_of step ++ lines_bytes (map shown_line lines))
+      ∙ ap (λ (lines : List (List ℕ)). bytes_of step ++ lines_bytes (map shown_text lines))
       (ap (λ (w : World). (played_in w one others).lines) over_one
       ∙ ap (λ (s : Step). s.lines) same
       ∙ sym (ap (λ (w : World). (played_in w other others).lines) over_other))

@@ -1,6 +1,7 @@
 -- Keys that go on from what was saved.
 use Rattle.std.proofs.Common.{◌≡◌, ℕ, List, [], ◌∷◌, ◌++◌, length, false, Ok, Err, refl, sym, ap, ◌∙◌}
 use Rattle.std.specs.Prelude.{map, Result}
+use Rattle.wap_base.specs.Controls.{shown_text}
 use Rattle.wap_base.specs.declared.key.Key.{Key}
 use Rattle.wap_base.specs.declared.key.Key.TheVariants as key
 use Rattle.wap_push.specs.declared.indication.Indication.{Indication}
@@ -10,7 +11,6 @@ use Rattle.wap_image.specs.declared.context_parts.parts.ContextParts.{ContextPar
 use Rattle.wap_world.specs.Shelves.{Shelf}
 use Rattle.wap_world.specs.World.{World}
 use Rattle.wap_layout.specs.buffer.Written.{lines_bytes}
-use Rattle.wap_world.specs.Lines.{shown_line}
 use Rattle.wap_world.specs.Steps.{joined}
 use Rattle.wap_world.specs.Sites.{Site}
 use Rattle.wap_world.specs.Keys.{react}
@@ -158,7 +158,7 @@ goes_on begun pages first others parts ends whole none cards =
     let back = leads_back begun pages first parts ends whole cards in
     ap bytes_of (ends.on none others)
     ∙ bytes_joined (joined (left_open step) more) step more refl
-    ∙ ap (λ (lines : List (List ℕ)). bytes_of step ++ lines_bytes (map shown_line lines))
+    ∙ ap (λ (lines : List (List ℕ)). bytes_of step ++ lines_bytes (map shown_text lines))
     (sym (same_lines pages others step.world begun.budget)
     ∙ ap (λ (w : World). (played_in w pages others).lines)
     (sym (ap (λ (s : Shelf). world_over s (world_with parts begun.budget)) (site_shelf pages)

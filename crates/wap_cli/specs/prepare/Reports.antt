@@ -1,13 +1,13 @@
 -- The report on the pages of a folder: the name of each with its kind and whether it is refused, in
 -- order, and how many there are. This project's own.
 use Rattle.std.specs.Prelude.{◌≡◌, ℕ, Bool, false, List, ◌++◌, Option, Some, None, is_none}
-use Rattle.std.specs.Prelude.{IfSome, All, length, filter, codes, decimal}
+use Rattle.std.specs.Prelude.{All, IfSome, length, filter, codes, decimal, encode_utf8_all}
 use Rattle.std.specs.List.{flat_map}
 use Rattle.std.specs.List.Sorted.{IsPermutation}
 use Rattle.std.specs.Map.{keys_of}
 use Rattle.wap_base.specs.Contents.{Contents, names_of}
+use Rattle.wap_base.specs.Controls.{shown_text}
 use Rattle.wap_base.specs.Texts.{AreAscending}
-use Rattle.wap_dis.specs.Listing.{shown}
 use Rattle.wap_pages.specs.declared.fault.PageFault.{PageFault}
 use Rattle.wap_pages.specs.declared.fault.PageFault.TheVariants.{Missing}
 use Rattle.wap_pages.specs.declared.kind.Kind.{Kind}
@@ -62,7 +62,7 @@ verdict_text (Some fault) = codes "refused " ++ page_text fault
 
 -- a line: the name, its control characters as dots, the kind, and the verdict
 abbrev pub entry_line : Entry → List ℕ
-entry_line entry = shown entry.0 ++ (codes " " ++ (kind_word entry.0
+entry_line entry = encode_utf8_all (shown_text entry.0) ++ (codes " " ++ (kind_word entry.0
     ++ (codes " " ++ (verdict_text entry.1 ++ codes "\n"))))
 
 -- there is no fault for which the page is refused

@@ -1,7 +1,6 @@
 //! The text of the report.
-ghost use Rattle.std.specs.Prelude.{◌≡◌, ◌++◌, map, IfOk, OnOk, decimal, ◌≤◌, if◌then◌else◌};
+ghost use Rattle.std.specs.Prelude.{◌≡◌, ◌++◌, IfOk, OnOk, decimal, ◌≤◌, if◌then◌else◌};
 ghost use Rattle.std.specs.List.{flat_map};
-ghost use Rattle.wap_dis.specs.Listing.{shown_byte};
 ghost use Rattle.wap_pages.specs.Printing.{page_text};
 ghost use Rattle.wap_cli.specs.prepare.Reports.{kind_word, verdict_text, entry_line};
 ghost use Rattle.wap_cli.specs.prepare.Reports.{accepted, is_accepted, last_line, report};
@@ -9,7 +8,7 @@ ghost use Rattle.wap_cli.specs.prepare.Reports.{accepted, is_accepted, last_line
 use crate::prepare::draft::Draft;
 use itoa::Buffer;
 use std::alloc::Global;
-use wap_base::{NoMemory, Text};
+use wap_base::{NoMemory, Text, shown_text};
 use wap_pages::{Kind, PageFault};
 
 /// What the page of a name is read as.
@@ -22,23 +21,6 @@ fn kind_word(name: &Text) -> &'static [u8]
         Kind::Words => b"text",
         Kind::Deck => b"deck",
     }
-}
-
-/// A control character is shown as a dot.
-fn shown_byte(byte: u8) -> u8
-    ensures { result ≡ shown_byte byte }
-{
-    if byte < 32 || byte == 127 { 46 } else { byte }
-}
-
-/// Appends bytes of UTF-8, control characters as dots.
-fn add_shown(text: &mut Vec<u8>, bytes: &[u8]) -> Result<(), NoMemory>
-    ensures { OnOk result (text.new.items ≡ text.old.items ++ map shown_byte bytes.now) }
-{
-    for byte in bytes {
-        text.push(shown_byte(*byte))?;
-    }
-    Ok(())
 }
 
 /// Appends how a fault is printed.
@@ -77,7 +59,8 @@ fn add_entry(
 ) -> Result<(), NoMemory>
     ensures { OnOk result (text.new.items ≡ text.old.items ++ entry_line entry.now) }
 {
-    add_shown(text, entry.0.as_str().as_bytes())?;
+    let name = shown_text(alloc, entry.0.as_str())?;
+    text.extend_from_slice(name.as_str().as_bytes())?;
     text.extend_from_slice(b" ")?;
     text.extend_from_slice(kind_word(&entry.0))?;
     text.extend_from_slice(b" ")?;

@@ -3,13 +3,13 @@ use Rattle.std.proofs.Common.{◌≡◌, ℕ, List, [], ◌∷◌, Bool, true, f
 use Rattle.std.proofs.Common.{Result, Ok, Err, map, refl, sym, ap, subst, ◌∙◌}
 use Rattle.std.specs.Prelude.{is_some, is_err, OnOk}
 use Rattle.std.specs.Option.{option_map, option_and_then}
+use Rattle.wap_base.specs.Controls.{shown_text}
 use Rattle.wap_base.specs.declared.key.Key.{Key}
 use Rattle.wap_base.specs.declared.key.Key.TheVariants as key
 use Rattle.wap_push.specs.declared.indication.Indication.{Indication}
 use Rattle.wap_push.specs.declared.fault.PushFault.{PushFault}
 use Rattle.wap_push.specs.Pushes.{push_at}
 use Rattle.wap_world.specs.site.Asking.{Seen}
-use Rattle.wap_world.specs.Lines.{shown_line}
 use Rattle.wap_world.specs.Steps.{quiet}
 use Rattle.wap_world.specs.Keys.{renewed, ignored, react}
 use Rattle.wap_world.specs.scripting.UnitSites.{Pages}
@@ -203,7 +203,7 @@ module _ (sold : session.State) (winners : List Indication)
       abbrev PlaysKey : Key → Type 0
       PlaysKey one = Plays (one ∷ []) before after (state_of sold winners false)
           (state_of snew winners' false)
-          (Ok (shown_of (option_map (map shown_line) (inbox_lines winners one))))
+          (Ok (shown_of (option_map (map shown_text) (inbox_lines winners one))))
 
       plays_other : (one : Key) → is_of_inbox one ≡ false → HaveWinners winners winners'
           → session.Plays (one ∷ []) before after sold snew (Ok lines)
@@ -251,7 +251,7 @@ module _ (sold : session.State) (winners : List Indication)
           → session.Plays (one ∷ []) before after sold snew (Ok lines)
           → IfOver before.contents sold.browser (λ pages. TurnsTo one pages sold snew)
           → (found : Option (List (List ℕ)))
-          → found ≡ option_map (map shown_line) (inbox_lines winners one)
+          → found ≡ option_map (map shown_text) (inbox_lines winners one)
           → Plays (one ∷ []) before after (state_of sold winners false)
           (state_of snew winners' false) (Ok (shown_of found))
       plays_inbox one is have so turns found same =

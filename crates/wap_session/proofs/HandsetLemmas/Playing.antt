@@ -3,6 +3,7 @@ use Rattle.std.proofs.Common.{◌≡◌, ℕ, ◌+◌, ◌<◌, length, get_or, 
 use Rattle.std.proofs.Common.{◌∷◌, ◌++◌, true, false, Option, Some, None, Ok}
 use Rattle.std.proofs.Common.{Err, refl, sym, ap, subst, ◌∙◌, append_assoc}
 use Rattle.std.proofs.lemmas.List.{map-append, take-append-drop, take_more, drop_more}
+use Rattle.wap_base.specs.Controls.{shown_text}
 use Rattle.wap_base.specs.Count.{Rose}
 use Rattle.wap_base.specs.declared.key.Key.{Key}
 use Rattle.wap_push.specs.declared.indication.Indication.{Indication}
@@ -10,7 +11,6 @@ use Rattle.wap_world.specs.site.Pages.{Pages as JudgedPages}
 use Rattle.wap_world.specs.site.Misses.{Asked}
 use Rattle.wap_world.specs.site.Asking.{Seen, Stays, Asks}
 use Rattle.wap_world.proofs.SiteLemmas.Asking.{Asks-nil, Asks-then, Stays-same, Stays-then}
-use Rattle.wap_world.specs.Lines.{shown_line}
 use Rattle.std.specs.Prelude.{is_some}
 use Rattle.wap_world.specs.Steps.{Step, joined, quiet, still}
 use Rattle.wap_world.specs.Sessions.{shown_by}
@@ -148,7 +148,7 @@ module _ (done : List Key) (one : Key) (before mid after : Seen) (old now new : 
         asks_user = leads.asks_user ∙ sym (ap (λ (s : Step). s.is_open) all);
         tells = ap (λ (front : List (List ℕ)). front ++ more) came.tells
             ∙ ap (λ (last : List (List ℕ)). shown_by first ++ last) leads.tells
-            ∙ sym (map-append shown_line first.lines second.lines)
+            ∙ sym (map-append shown_text first.lines second.lines)
             ∙ sym (ap (λ (s : Step). shown_by s) all);
         inbox = have_alike (stepped_of pages (done ++ one ∷ []) old).pushes
             (stepped_of pages (one ∷ []) now).pushes new.winners (came.takes_on (one ∷ []))
@@ -294,5 +294,5 @@ shows_on keys old new lines (Some judged) so = λ is others.
     let leads = so is in
     let step = step_of pages keys old in
     ap (λ (front : List (List ℕ)). front ++ shown_of pages others new) leads.tells
-    ∙ sym (map-append shown_line step.lines (step_of pages others new).lines)
+    ∙ sym (map-append shown_text step.lines (step_of pages others new).lines)
     ∙ sym (ap (λ (s : Step). shown_by s) (leads.on others))

@@ -2,12 +2,12 @@
 use Rattle.std.proofs.Common.{◌≡◌, ℕ, List, [], ◌∷◌, true, false, Option, Some, None}
 use Rattle.std.proofs.Common.{Ok, Err, map, refl, sym, ap, subst, ◌∙◌}
 use Rattle.std.specs.Prelude.{is_some}
+use Rattle.wap_base.specs.Controls.{shown_text}
 use Rattle.wap_base.specs.declared.key.Key.{Key}
 use Rattle.wap_push.specs.declared.indication.Indication.{Indication}
 use Rattle.wap_world.specs.site.Pages.{Pages as JudgedPages}
 use Rattle.wap_world.specs.site.Misses.{Asked}
 use Rattle.wap_world.specs.site.Asking.{Seen, Stays, Asks}
-use Rattle.wap_world.specs.Lines.{shown_line}
 use Rattle.wap_world.specs.Steps.{Step, joined, quiet}
 use Rattle.wap_world.specs.Sessions.{shown_by}
 use Rattle.wap_world.specs.Keys.{renewed, ignored, react}
@@ -95,7 +95,7 @@ module _ (pages : Pages) (one : Key) (old new : State) (s : Step) (taken : List 
 
   -- so it leads there
   pub leads_with : IsOver (shelf_of pages) new.browser → is_some new.waiting ≡ s.is_open
-      → (lines : List (List ℕ)) → lines ≡ map shown_line s.lines
+      → (lines : List (List ℕ)) → lines ≡ map shown_text s.lines
       → Leads (one ∷ []) pages old new lines
   leads_with over asks_user lines tells = record {
     world = world ∙ sym (ap (λ (x : Stepped). x.step.world) stepped_is);
@@ -236,7 +236,7 @@ module _ (one : Key) (before after : Seen) (sold snew : session.State)
       → IfOver contents sold.browser
       (λ pages. session.Leads (one ∷ []) pages sold snew lines)
       → IfOver contents sold.browser
-      (λ pages. Leads (one ∷ []) pages rested told (map shown_line shown))
+      (λ pages. Leads (one ∷ []) pages rested told (map shown_text shown))
   shown_by_inbox lines None leads = tt
   shown_by_inbox lines (Some judged) leads = λ is.
       let pages = unit_pages judged in
@@ -255,7 +255,7 @@ module _ (one : Key) (before after : Seen) (sold snew : session.State)
       }) (sym none))
       (turned_so pages [])
       (led.world ∙ ap (λ (s : Step). s.world) passed) have led.over
-      (ap is_some none) (map shown_line shown) refl
+      (ap is_some none) (map shown_text shown) refl
 
   -- a fact of what it asks for
   pub shown_asked : (Fact : List Asked → Type 0) (contents : Option JudgedPages)
@@ -272,7 +272,7 @@ module _ (one : Key) (before after : Seen) (sold snew : session.State)
   -- it is played
   pub played_by_inbox : (lines : List (List ℕ))
       → session.Plays (one ∷ []) before after sold snew (Ok lines)
-      → Plays (one ∷ []) before after rested told (Ok (map shown_line shown))
+      → Plays (one ∷ []) before after rested told (Ok (map shown_text shown))
   played_by_inbox lines so = record {
     leads = shown_by_inbox lines before.contents so.leads;
     asks = shown_asked (λ asked. Asks asked before after) before.contents so.asks;

@@ -2,9 +2,9 @@
 ghost use Rattle.std.specs.Prelude.{◌≡◌, ◌∷◌, [], false, map, Some};
 ghost use Rattle.std.specs.Prelude.{IfOk, OnOk, OnErr, IsErrOf, is_err};
 ghost use Rattle.std.specs.Option.{option_map};
+ghost use Rattle.wap_base.specs.Controls.{shown_text};
 ghost use Rattle.wap_context.specs.Missing.{Missed};
 ghost use Rattle.wap_context.specs.Sites.{IfOver};
-ghost use Rattle.wap_world.specs.Lines.{shown_line};
 ghost use Rattle.wap_push.specs.Inbox.{HaveWinners};
 ghost use Rattle.wap_world.specs.inboxes.Inboxes.{is_of_inbox};
 ghost use Rattle.wap_session.specs.handset.Feeding.{step_of, Plays};
@@ -65,7 +65,7 @@ pub(crate) fn is_of_inbox(key: &Key) -> bool
 
 /// Lines as they are shown.
 fn some_shown(alloc: Global, lines: Lines) -> Result<Option<Lines>, NoMemory>
-    ensures { IfOk result (λ shown. shown ≡ Some (map shown_line lines)) }
+    ensures { IfOk result (λ shown. shown ≡ Some (map shown_text lines)) }
 {
     Ok(Some(shown_lines(alloc, lines)?))
 }
@@ -75,7 +75,7 @@ fn some_shown(alloc: Global, lines: Lines) -> Result<Option<Lines>, NoMemory>
 fn inbox_lines(inbox: &mut Inbox, alloc: Global, key: &Key) -> Result<Option<Lines>, NoMemory>
     requires own { HaveWinners inbox.old inbox.old }
     ensures lines { IfOk result (λ shown. shown
-        ≡ option_map (map shown_line) (inbox_lines inbox.old key.now)) }
+        ≡ option_map (map shown_text) (inbox_lines inbox.old key.now)) }
     ensures taken { OnOk result (HaveWinners (pushes_after inbox.old key.now) inbox.new) }
     ensures kept { OnErr result (HaveWinners inbox.new inbox.new) }
 {
