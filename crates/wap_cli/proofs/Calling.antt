@@ -14,7 +14,7 @@ use Rattle.wap_pages.specs.Judged.{judged}
 use Rattle.wap_site_laws.specs.pages.SourcePages.{ArePages}
 use Rattle.wap_site_laws.proofs.PagesLemmas.Judging.{site_judged}
 use Rattle.wap_cli.specs.Calls.{as_call, ReadsCalls}
-use Rattle.wap_cli.specs.Browsing.{PagesAndCalls, site_over}
+use Rattle.wap_cli.specs.Browsing.{PagesAndCalls, source_site}
 
 -- ---- calls
 
@@ -59,7 +59,7 @@ one_reading call other reads reads_too =
 -- the site of a store's pages is that of the judged pages
 pub site_units : (one : PagesAndCalls) (contents : Contents) → ArePages contents one.pages
     → ReadsCalls one.call
-    → site_over one ≡ units_site fragment_call (unit_pages (judged contents))
+    → source_site one ≡ units_site fragment_call (unit_pages (judged contents))
 site_units one contents are reads =
     site_judged one.call contents one.pages are
     ∙ ap (λ (call : List ℕ → Option Call). units_site call (unit_pages (judged contents)))

@@ -10,14 +10,14 @@ use Rattle.wap_world.specs.Sessions.{Begun}
 use Rattle.wap_context.specs.Sites.{site_of as units_over}
 use Rattle.wap_cli.specs.declared.status.Status.{Status}
 use Rattle.wap_cli.specs.browse.Outside.{Outside}
-use Rattle.wap_cli.specs.browse.Plays.{ArePagesOf as AreSeen}
+use Rattle.wap_cli.specs.browse.Plays.{AreUnitPages as AreSeen}
 use Rattle.wap_cli.specs.browse.Headline.{Browses}
 use Rattle.wap_cli.proofs.BrowseLemmas.Optional.{if_some, some_fact}
 use Rattle.wap_cli.specs.resume.Saving.{opened_at, unshown, EndsAt, IsWhole, Images, ImagesSeen}
 use Rattle.wap_cli.specs.resume.Resuming.{resumed_at, asked_once, Hinders, Unbegun, Resumes}
 use Rattle.wap_cli.specs.resume.Resuming.{ResumesSeen}
 use Rattle.wap_cli.specs.Devices.{Devices}
-use Rattle.wap_cli.specs.Browsing.{ArePagesOf, site_over}
+use Rattle.wap_cli.specs.Browsing.{ArePagesAndCalls, source_site}
 use Rattle.wap_cli.specs.SavedSessions.{ImagesOver, ResumesOver}
 use Rattle.wap_cli.proofs.Seeing.{browsed}
 use Rattle.wap_cli.proofs.Sourcing.{browses_too, units_of}
@@ -154,14 +154,14 @@ module _ (capacity : ℕ) (old new : Devices) (status : Status) where
   pub images_over : (begun : Begun) → ImagesSeen begun before after status
       → ImagesOver begun capacity old new status
   images_over begun so =
-      images_unjudged (ArePagesOf old.store) site_over before after status begun
-      (images_too (AreSeen before.pages) units_over (ArePagesOf old.store) site_over
+      images_unjudged (ArePagesAndCalls old.store) source_site before after status begun
+      (images_too (AreSeen before.pages) units_over (ArePagesAndCalls old.store) source_site
       (units_of old.store before.pages refl) begun before after status so)
 
   -- and so is going on
   pub resumes_over : (name : List ℕ) → ResumesSeen name before after status
       → ResumesOver name capacity old new status
   resumes_over name so =
-      resumes_unjudged (ArePagesOf old.store) site_over before after status name
-      (resumes_too (AreSeen before.pages) units_over (ArePagesOf old.store) site_over
+      resumes_unjudged (ArePagesAndCalls old.store) source_site before after status name
+      (resumes_too (AreSeen before.pages) units_over (ArePagesAndCalls old.store) source_site
       (units_of old.store before.pages refl) name before after status so)

@@ -26,11 +26,11 @@ use Rattle.wap_cli.specs.declared.status.Status.{Status}
 use Rattle.wap_cli.specs.browse.Outside.{Outside}
 use Rattle.wap_cli.specs.browse.Endings.{at_end}
 use Rattle.wap_cli.specs.browse.Handling.{bytes_of}
-use Rattle.wap_cli.specs.browse.Plays.{ArePagesOf as AreSeen, opened}
+use Rattle.wap_cli.specs.browse.Plays.{AreUnitPages as AreSeen, opened}
 use Rattle.wap_cli.specs.browse.Headline.{Shows, Reads, Browses, BrowsesSeen}
 use Rattle.wap_cli.proofs.BrowseLemmas.Optional.{if_some, some_fact}
 use Rattle.wap_cli.specs.Devices.{Devices, unjudged}
-use Rattle.wap_cli.specs.Browsing.{PagesAndCalls, ArePagesOf, site_over, opened_over}
+use Rattle.wap_cli.specs.Browsing.{PagesAndCalls, ArePagesAndCalls, source_site, opened_over}
 use Rattle.wap_cli.specs.Browsing.{WritesOver, BrowsesOver}
 use Rattle.wap_cli.proofs.Seeing.{browsed}
 use Rattle.wap_cli.proofs.Calling.{site_units}
@@ -114,8 +114,8 @@ module _ {S : Type 0} (seen : S → StoreSeen) where
 
 -- what is seen of judged pages, where it is what the contents of a store are judged to
 pub units_of : (store : StoreSeen) (seen : Seen) → seen.contents ≡ option_map judged store.contents
-    → (one : PagesAndCalls) → ArePagesOf store one
-    → (units : Pages) × AreSeen seen units × (units_over units ≡ site_over one)
+    → (one : PagesAndCalls) → ArePagesAndCalls store one
+    → (units : Pages) × AreSeen seen units × (units_over units ≡ source_site one)
 units_of store seen is one (contents, known, are, reads) = (
   unit_pages (judged contents),
   (
@@ -128,7 +128,7 @@ units_of store seen is one (contents, known, are, reads) = (
 
 -- so keys come to the same over both
 opened_same : (store : StoreSeen) (seen : Seen) → seen.contents ≡ option_map judged store.contents
-    → (begun : Begun) (one : PagesAndCalls) → ArePagesOf store one
+    → (begun : Begun) (one : PagesAndCalls) → ArePagesAndCalls store one
     → (units : Pages) × AreSeen seen units × (opened begun units ≡ opened_over begun one)
 opened_same store seen is begun one are =
     let found = units_of store seen is one are in (
@@ -146,13 +146,13 @@ module _ (begun : Begun) (capacity : ℕ) (old new : Devices) (status : Status) 
   after = browsed capacity new
 
   abbrev Over : Type 0
-  Over = Browses (ArePagesOf old.store) (opened_over begun) (unjudged capacity old)
+  Over = Browses (ArePagesAndCalls old.store) (opened_over begun) (unjudged capacity old)
       (unjudged capacity new) status
 
   -- where all keys were played, what was written is what they come to over other pages that differ
   -- where nobody was let in
   writes_over : (bytes : List ℕ)
-      → Reads (ArePagesOf old.store) (opened_over begun) bytes (unjudged capacity old)
+      → Reads (ArePagesAndCalls old.store) (opened_over begun) bytes (unjudged capacity old)
       (unjudged capacity new) status
       → (is_open : Bool) → status ≡ at_end is_open → WritesOver begun old new bytes
   writes_over bytes so is_open is one other are among differ =
@@ -173,7 +173,7 @@ module _ (begun : Begun) (capacity : ℕ) (old new : Devices) (status : Status) 
   denied_over so is_open is =
       if_some old.source.left (WritesOver begun old new) (λ bytes said. writes_over bytes
       (some_fact old.source.left
-      (λ b. Reads (ArePagesOf old.store) (opened_over begun) b (unjudged capacity old)
+      (λ b. Reads (ArePagesAndCalls old.store) (opened_over begun) b (unjudged capacity old)
       (unjudged capacity new) status) bytes said so.known) is_open is)
 
   -- browsing over units is browsing over sources
@@ -181,8 +181,8 @@ module _ (begun : Begun) (capacity : ℕ) (old new : Devices) (status : Status) 
       → BrowsesOver begun capacity old new status
   browses_over so =
       let over : Over =
-      browses_unjudged (ArePagesOf old.store) (opened_over begun) before after status
-      (browses_too (AreSeen before.pages) (opened begun) (ArePagesOf old.store)
+      browses_unjudged (ArePagesAndCalls old.store) (opened_over begun) before after status
+      (browses_too (AreSeen before.pages) (opened begun) (ArePagesAndCalls old.store)
       (opened_over begun) (opened_same old.store before.pages refl begun) before after status
       so) in
       record { browses = over; denied = denied_over over }

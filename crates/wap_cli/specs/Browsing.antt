@@ -14,7 +14,7 @@ use Rattle.wap_world.specs.Sessions.{Begun}
 use Rattle.wap_push.specs.Pushes.{push_at}
 use Rattle.wap_world.specs.inboxes.Sessions.{session_with}
 use Rattle.wap_world.specs.scripting.Sources.{AllPages, Agrees, site_of, compiled_pages}
-use Rattle.wap_site_laws.specs.exchange.Denial.{is_entered, DifferWithin}
+use Rattle.wap_site_laws.specs.exchange.Denial.{is_let_in, DifferWithin}
 use Rattle.wap_site_laws.specs.programs.Programs.{Accepted, programs}
 use Rattle.wap_site_laws.specs.pages.SourcePages.{ArePages}
 use Rattle.wap_cli.specs.declared.status.Status.{Status}
@@ -32,20 +32,20 @@ pub record PagesAndCalls : Type 0 where
   pub call : List ℕ → Option Call
 
 -- the contents of a store are these pages, where they are known, and fragments call what they spell
-abbrev pub ArePagesOf : StoreSeen → PagesAndCalls → Type 0
-ArePagesOf store one =
+abbrev pub ArePagesAndCalls : StoreSeen → PagesAndCalls → Type 0
+ArePagesAndCalls store one =
     (contents : Contents) × (store.contents ≡ Some contents) × ArePages contents one.pages
     × ReadsCalls one.call
 
 -- the site of these pages: a source comes to what its program means, and a unit to what its
 -- instructions mean
-abbrev pub site_over : PagesAndCalls → Site
-site_over one = site_of programs one.call one.pages
+abbrev pub source_site : PagesAndCalls → Site
+source_site one = site_of programs one.call one.pages
 
 -- what keys come to where a session with an inbox begins so: its URL is opened before they are
 -- played
 abbrev pub opened_over : Begun → PagesAndCalls → List Key → Step
-opened_over begun one keys = (session_with push_at (site_over one) begun keys).step
+opened_over begun one keys = (session_with push_at (source_site one) begun keys).step
 
 -- ---- scripts to which nobody was let in
 
@@ -59,13 +59,13 @@ pub record DifferWhereDenied (among : List ℕ → Bool) (pages other : AllPages
   pub agrees : (one : Accepted) → Agrees programs one (compiler one)
   pub differ : DifferWithin among (compiled_pages programs compiler pages)
       (compiled_pages programs compiler other)
-  pub denied : is_entered among step.tests ≡ false
+  pub denied : is_let_in among step.tests ≡ false
 
 -- what was written for these bytes of keys is what they come to over such pages
 abbrev pub WritesOver : Begun → Devices → Devices → List ℕ → Type 0
 WritesOver begun old new bytes =
     let keys = (keys_of bytes).keys in
-    (one : PagesAndCalls) (other : AllPages Accepted) → ArePagesOf old.store one
+    (one : PagesAndCalls) (other : AllPages Accepted) → ArePagesAndCalls old.store one
     → (among : List ℕ → Bool)
     → DifferWhereDenied among one.pages other (opened_over begun one keys)
     → Appends old.sink.written new.sink.written
@@ -79,7 +79,7 @@ pub record BrowsesOver (begun : Begun) (capacity : ℕ) (old new : Devices) (sta
     : Type 0 where
   -- what was read and written, what was asked for, and how it ended, over all pages that the
   -- contents are; and the contents stay
-  pub browses : Browses (ArePagesOf old.store) (opened_over begun) (unjudged capacity old)
+  pub browses : Browses (ArePagesAndCalls old.store) (opened_over begun) (unjudged capacity old)
       (unjudged capacity new) status
   -- where all keys were played, scripts to which nobody was let in might have been any others
   pub denied : (is_open : Bool) → status ≡ at_end is_open

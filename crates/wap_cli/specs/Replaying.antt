@@ -7,13 +7,13 @@ use Rattle.wap_world.specs.Sites.{Site}
 use Rattle.wap_world.specs.Sessions.{Begun}
 use Rattle.wap_cli.specs.declared.status.Status.{Status}
 use Rattle.wap_cli.specs.replay.Headline.{Replays}
-use Rattle.wap_cli.specs.Browsing.{PagesAndCalls, ArePagesOf, site_over}
+use Rattle.wap_cli.specs.Browsing.{PagesAndCalls, ArePagesAndCalls, source_site}
 use Rattle.wap_cli.specs.Devices.{Devices, around}
 
 -- the site of pages that the contents of a store are
 abbrev pub IsSiteOver : StoreSeen → Site → Type 0
 IsSiteOver store site =
-    (one : PagesAndCalls) × ArePagesOf store one × (site ≡ site_over one)
+    (one : PagesAndCalls) × ArePagesAndCalls store one × (site ≡ source_site one)
 
 -- sessions that begin so, one for each list of keys: the store, the keys and what was written before
 -- and after, and the status

@@ -6,17 +6,17 @@ use Rattle.wap_world.specs.Sessions.{Begun}
 use Rattle.wap_cli.specs.declared.status.Status.{Status}
 use Rattle.wap_cli.specs.resume.Saving.{Images}
 use Rattle.wap_cli.specs.resume.Resuming.{Resumes}
-use Rattle.wap_cli.specs.Browsing.{ArePagesOf, site_over}
+use Rattle.wap_cli.specs.Browsing.{ArePagesAndCalls, source_site}
 use Rattle.wap_cli.specs.Devices.{Devices, unjudged}
 
 -- a session that begins so is played, with room for so many pages in the cache, and saved where its
 -- keys end: the store, the keys and what was written before and after, and the status
 abbrev pub ImagesOver : Begun → ℕ → Devices → Devices → Status → Type 0
-ImagesOver begun capacity old new status = Images (ArePagesOf old.store) site_over begun
+ImagesOver begun capacity old new status = Images (ArePagesAndCalls old.store) source_site begun
     (unjudged capacity old) (unjudged capacity new) status
 
 -- a session goes on with what was saved under a name, with room for so many pages in the cache: the
 -- same before and after, and the status
 abbrev pub ResumesOver : List ℕ → ℕ → Devices → Devices → Status → Type 0
-ResumesOver name capacity old new status = Resumes (ArePagesOf old.store) site_over name
+ResumesOver name capacity old new status = Resumes (ArePagesAndCalls old.store) source_site name
     (unjudged capacity old) (unjudged capacity new) status

@@ -12,7 +12,7 @@ use Rattle.wap_world.specs.declared.timer.Timer.{Timer}
 use Rattle.wap_world.specs.declared.timer.Timer.TheVariants.{NotStarted, Running, Off, Expired}
 use Rattle.wap_world.specs.Shelves.{Shelf}
 use Rattle.wap_world.specs.World.{World, Place, place_now}
-use Rattle.wap_world.specs.Steps.{Step, Once, Next, joined, after_step, still, quiet}
+use Rattle.wap_world.specs.Steps.{Step, Once, Next, then_step, after_step, still, quiet}
 use Rattle.wap_world.specs.Steps.{settled}
 use Rattle.wap_world.specs.Timers.{settled_timer}
 use Rattle.wap_world.specs.Entering.{event_task}
@@ -201,7 +201,7 @@ rest_is shelf keys Expired w =
 
 -- lines more, and another world
 joined_lines : (step : Step) (keys : List Key) (v : World) (lines : List Line)
-    → joined step (quiet keys (record { world = v; lines = lines }))
+    → then_step step (quiet keys (record { world = v; lines = lines }))
     ≡ record step { world = v; keys = keys; lines = step.lines ++ lines }
 joined_lines step keys v lines = λ i. record {
   world = v;

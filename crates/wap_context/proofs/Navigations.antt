@@ -17,7 +17,7 @@ use Rattle.wap_world.specs.Steps.{Once}
 use Rattle.wap_world.specs.Requests.{Request, plain_get, request_of}
 use Rattle.wap_world.specs.History.{earlier_entry}
 use Rattle.wap_world.specs.Urls.{target_of, is_same_page}
-use Rattle.wap_world.specs.Tasks.{refused, with_url, return, base_now, arrive, request, ask_back}
+use Rattle.wap_world.specs.Tasks.{refusing, with_url, return, base_now, arrive, request, ask_back}
 use Rattle.wap_world.specs.Tasks.{stay_or_ask, back_from, back_to, is_here, here_with, card_here}
 use Rattle.wap_world.specs.Tasks.{url_now, go, open_url, prev, with_turn}
 use Rattle.wap_context.specs.Browsers.{Browser, IsOver, place_held}
@@ -91,7 +91,7 @@ module _ (site : Site) (old : Browser) (keys : List Key) where
   pub go_refused : IsOver site.shelf old → (from base : Option Url) (one : Go) (refusal : Refusal)
       → base ≡ base_held from → Err refusal ≡ target_of base one.href
       → go site keys (base_now site.shelf old.world from) one old.world
-      ≡ refused site.shelf keys refusal old.world
+      ≡ refusing site.shelf keys refusal old.world
   go_refused over from base one why is target =
       ap (λ (b : Option Url). go site keys b one old.world) (base_is over from ∙ sym is)
       ∙ sym (ap (with_url site.shelf keys old.world
@@ -111,7 +111,7 @@ module _ (site : Site) (old : Browser) (keys : List Key) where
   pub open_refused : IsOver site.shelf old → (base : Option Url) (text : List ℕ)
       (refusal : Refusal) → base ≡ option_map (λ (p : Place). p.url) (place_held old)
       → Err refusal ≡ target_of base text
-      → open_url site keys text old.world ≡ refused site.shelf keys refusal old.world
+      → open_url site keys text old.world ≡ refusing site.shelf keys refusal old.world
   open_refused over base text why is target =
       ap (λ (b : Option Url). with_url site.shelf keys old.world (λ found.
       request site keys [] None (plain_get found) old.world) (target_of b text))
@@ -161,7 +161,7 @@ prev_some shelf sets world found earlier is here keys =
 
 pub prev_none : (shelf : Shelf) (sets : Pairs) (world : World) (found : Option Entry)
     → found ≡ earlier_entry world → found ≡ None → (keys : List Key)
-    → prev shelf keys sets world ≡ refused shelf keys refusals.First world
+    → prev shelf keys sets world ≡ refusing shelf keys refusals.First world
 prev_none shelf sets world found is here keys =
     ap (back_to shelf keys sets world) (sym is ∙ here)
 
@@ -175,7 +175,7 @@ with_turn_is shelf keys world n next is =
 
 no_turn_is : (shelf : Shelf) (keys : List Key) (world : World) (next : World → Once)
     → world.turns ≡ 0
-    → with_turn shelf keys world world.turns next ≡ refused shelf keys refusals.Budget world
+    → with_turn shelf keys world world.turns next ≡ refusing shelf keys refusals.Budget world
 no_turn_is shelf keys world next is = ap (λ (t : ℕ). with_turn shelf keys world t next) is
 
 abbrev pub less_turn : Browser → ℕ → Browser
@@ -192,10 +192,10 @@ turn_is shelf old mid keys next is spent =
 -- there was none
 pub turn_none : (shelf : Shelf) (old mid : Browser) (keys : List Key) (next : World → Once)
     → mid ≡ old → old.world.turns ≡ 0
-    → refused shelf keys refusals.Budget mid.world
+    → refusing shelf keys refusals.Budget mid.world
     ≡ with_turn shelf keys old.world old.world.turns next
 turn_none shelf old mid keys next is none =
-    ap (λ (b : Browser). refused shelf keys refusals.Budget b.world) is
+    ap (λ (b : Browser). refusing shelf keys refusals.Budget b.world) is
     ∙ sym (no_turn_is shelf keys old.world next none)
 
 pub over_turn : (shelf : Shelf) (old mid : Browser) → mid ≡ less_turn old mid.world.turns

@@ -16,7 +16,7 @@ use Rattle.wap_world.specs.declared.timer.Timer.{Timer}
 use Rattle.wap_world.specs.declared.timer.Timer.TheVariants.{NotStarted, Running, Off, Expired}
 use Rattle.wap_world.specs.Shelves.{Shelf}
 use Rattle.wap_world.specs.World.{World, Place}
-use Rattle.wap_world.specs.Steps.{Scene, Step, then_task, still, quiet, joined, followed}
+use Rattle.wap_world.specs.Steps.{Scene, Step, then_task, still, quiet, then_step, followed}
 use Rattle.wap_world.specs.Screens.{at_place}
 use Rattle.wap_world.specs.Entering.{event_task}
 use Rattle.wap_world.specs.Tasks.{act}
@@ -90,7 +90,7 @@ pub after_scene : (rule : StepRule) (seen : Seen) (old mid : Browser) (before mi
     (scene : Scene) (went : Went) → mid.world ≡ scene.world → middle ≡ before ++ scene.lines
     → ((shelf : Shelf) → IsOver shelf old → IsOver shelf mid)
     → ((pages : Pages) → IsOver (shelf_of pages) old → (keys : List Key)
-    → rule pages keys old.world ≡ joined (quiet [] scene) (pursued went pages keys scene.world))
+    → rule pages keys old.world ≡ then_step (quiet [] scene) (pursued went pages keys scene.world))
     → Going rule seen seen old mid before middle went
 after_scene rule seen old mid before middle scene went world lines onto is = record {
   follows = over_all seen.contents old (λ pages over. record {
@@ -230,7 +230,7 @@ module _ (old mid : Browser) (before middle : List Line) (task : Option Task) (w
 
   out_is : (pages : Pages) → IsOver (shelf_of pages) old → (keys : List Key)
       → run_out pages keys old.world
-      ≡ joined (quiet [] scene) (pursued went pages keys scene.world)
+      ≡ then_step (quiet [] scene) (pursued went pages keys scene.world)
   out_is pages over keys =
       let shelf = shelf_of pages in
       let found : event_task shelf event.Timer scene.world ≡ task =
@@ -239,11 +239,11 @@ module _ (old mid : Browser) (before middle : List Line) (task : Option Task) (w
       (held_now shelf mid (over_ended shelf over)) ∙ sym is in
       ap (λ (p : Option Place).
       let one = at_place end_place p old.world in
-      joined (quiet keys one) (act_or (still one.world) (site_of pages) keys one.world
+      then_step (quiet keys one) (act_or (still one.world) (site_of pages) keys one.world
       (event_task shelf event.Timer one.world))) (held_now shelf old over)
-      ∙ ap (λ (t : Option Task). joined (quiet [] scene)
+      ∙ ap (λ (t : Option Task). then_step (quiet [] scene)
       (act_or (still scene.world) (site_of pages) keys scene.world t)) found
-      ∙ ap (joined (quiet [] scene)) (pursued_is went task leads none pages keys scene.world)
+      ∙ ap (then_step (quiet [] scene)) (pursued_is went task leads none pages keys scene.world)
 
   pub runs_out : (seen after : Seen) (new : Browser) (result : Result Did RunErr)
       → Pursues (pursued went) seen after mid new middle result

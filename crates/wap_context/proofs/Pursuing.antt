@@ -14,7 +14,7 @@ use Rattle.wap_world.specs.site.Asking.{Seen, Stays, Asks}
 use Rattle.wap_world.specs.site.Misses.{Asked as Question}
 use Rattle.wap_world.proofs.SiteLemmas.Asking.{Asks-nil, Asks-then, Stays-same, Stays-then}
 use Rattle.wap_world.specs.World.{World}
-use Rattle.wap_world.specs.Steps.{Step, Once, Next, still, quiet, joined}
+use Rattle.wap_world.specs.Steps.{Step, Once, Next, still, quiet, then_step}
 use Rattle.wap_world.specs.Tasks.{go_on, onward, act, task_once}
 use Rattle.wap_world.proofs.Joining.{before, joined_assoc, joined_nothing}
 use Rattle.wap_world.proofs.SessionLawsLemmas.Following.{act_goes_on}
@@ -56,7 +56,7 @@ module _ (pages : Pages) where
   -- what is left to do after a navigation, by what it left
   onward_by : (did : Once) (went : Went) → next_in went ≡ did.next → (keys : List Key)
       → onward (act (site_of pages)) (once_by pages did (waits_in went) keys)
-      ≡ joined did.step (pursued went pages keys did.step.world)
+      ≡ then_step did.step (pursued went pages keys did.step.world)
   onward_by did Settled leads keys =
       ap (go_on (act (site_of pages)) (before keys did.step)) (sym leads)
       ∙ sym (joined_nothing did.step keys)
@@ -98,7 +98,7 @@ pub record Behind (pages : Pages) (rule : List Key → Step) (seen now : Seen) (
   pub closed : step.is_open ≡ false
   pub over : IsOver (shelf_of pages) browser
   pub asks : Asks step.asked seen now
-  pub on : (keys : List Key) → rule keys ≡ joined step (pursued went pages keys step.world)
+  pub on : (keys : List Key) → rule keys ≡ then_step step (pursued went pages keys step.world)
 
 pub record Going (rule : StepRule) (seen now : Seen) (old browser : Browser)
     (before shown : List Line) (went : Went) : Type 0 where
@@ -147,7 +147,7 @@ behind_then : (pages : Pages) (rule : List Key → Step) (seen now after : Seen)
     → Behind pages (λ keys. pursued went pages keys b.world) now after new shown more next
     → Behind pages rule seen after new before more next
 behind_then pages rule seen now after b new before shown more went next first second = record {
-  step = joined first.step second.step;
+  step = then_step first.step second.step;
   world = second.world;
   lines = second.lines ∙ ap (λ (l : List Line). l ++ second.step.lines) first.lines
       ∙ append_assoc before first.step.lines second.step.lines;
@@ -155,8 +155,8 @@ behind_then pages rule seen now after b new before shown more went next first se
   over = second.over;
   asks = Asks-then first.step.asked second.step.asked seen now after first.asks second.asks;
   on = λ keys. first.on keys
-      ∙ ap (λ (w : World). joined first.step (pursued went pages keys w)) (sym first.world)
-      ∙ ap (joined first.step) (second.on keys)
+      ∙ ap (λ (w : World). then_step first.step (pursued went pages keys w)) (sym first.world)
+      ∙ ap (then_step first.step) (second.on keys)
       ∙ sym (joined_assoc first.step second.step
       (pursued next pages keys second.step.world));
 }
@@ -223,7 +223,7 @@ ends rule seen now old b before shown went did shows left so_far = record {
         closed = behind.closed;
         over = behind.over;
         asks = behind.asks;
-        on = λ keys. behind.on keys ∙ ap (joined behind.step) (left pages keys behind.step.world);
+        on = λ keys. behind.on keys ∙ ap (then_step behind.step) (left pages keys behind.step.world);
       }) so_far.follows;
   steady = so_far.steady;
   missed = λ failed. absurd (cc);
@@ -338,7 +338,7 @@ ends_after : (pages : Pages) (rule : List Key → Step) (seen now after : Seen) 
     → Ends pages (λ keys. pursued went pages keys mid.world) now after new shown did
     → Ends pages rule seen after new before did
 ends_after pages rule seen now after mid new before shown went did first second = record {
-  step = joined first.step second.step;
+  step = then_step first.step second.step;
   world = second.world;
   lines = second.lines ∙ ap (λ (l : List Line). l ++ second.step.lines) first.lines
       ∙ append_assoc before first.step.lines second.step.lines;
@@ -346,8 +346,8 @@ ends_after pages rule seen now after mid new before shown went did first second 
   over = second.over;
   asks = Asks-then first.step.asked second.step.asked seen now after first.asks second.asks;
   on = λ keys. first.on keys
-      ∙ ap (λ (w : World). joined first.step (pursued went pages keys w)) (sym first.world)
-      ∙ ap (joined first.step) (second.on keys)
+      ∙ ap (λ (w : World). then_step first.step (pursued went pages keys w)) (sym first.world)
+      ∙ ap (then_step first.step) (second.on keys)
       ∙ sym (joined_assoc first.step second.step
       (left_over fragment_call pages (waiting_in did) keys second.step.world));
 }

@@ -35,7 +35,7 @@ use Rattle.wap_world.specs.Screens.{at_place, screen_lines}
 use Rattle.wap_world.specs.Entering.{leave_place}
 use Rattle.wap_world.specs.Setting.{set_variables}
 use Rattle.wap_world.specs.Timers.{start_timer}
-use Rattle.wap_world.specs.Tasks.{refused, request, answered, returned, ask_back, stay_or_ask}
+use Rattle.wap_world.specs.Tasks.{refusing, request, answered, returned, ask_back, stay_or_ask}
 use Rattle.wap_world.specs.Tasks.{base_now}
 use Rattle.wap_world.specs.Tasks.{back_from, go, open_url, prev, with_turn, task_once}
 use Rattle.wap_world.specs.Tasks.{refresh_place, refresh}
@@ -107,7 +107,7 @@ module _ (seen : Seen) (old new : Browser) (before : List Line) where
   pub refused_takes : (rule : Rule) (shown : List Line) (next : Option Task) (went : Went)
       (refusal : Refusal) → next_in went ≡ option_map then_task next → waits_in went ≡ None
       → ((pages : Pages) → IsOver (shelf_of pages) old → (keys : List Key)
-      → rule pages keys old.world ≡ refused (shelf_of pages) keys refusal old.world)
+      → rule pages keys old.world ≡ refusing (shelf_of pages) keys refusal old.world)
       → Moves (refused_at refusal (place_held old) old.world)
       (λ shelf. IsOver shelf old) old new before shown (option_map then_task next)
       → Takes rule seen seen old new before shown (Ok went)
@@ -409,7 +409,7 @@ module _ (pages : Pages) (old : Browser) (over : IsOver (shelf_of pages) old) (k
     pub go_no : (from base : Option Url) (one : Go) (refusal : Refusal)
         → base ≡ base_held (site_of pages) old keys from → Err refusal ≡ target_of base one.href
         → go (site_of pages) keys (base_now (shelf_of pages) old.world from) one old.world
-        ≡ refused (shelf_of pages) keys refusal old.world
+        ≡ refusing (shelf_of pages) keys refusal old.world
     unfolding units_site
     go_no = go_refused (site_of pages) old keys over
 
@@ -424,7 +424,7 @@ module _ (pages : Pages) (old : Browser) (over : IsOver (shelf_of pages) old) (k
         → base ≡ option_map (λ (p : Place). p.url) (place_held old)
         → Err refusal ≡ target_of base text
         → open_url (site_of pages) keys text old.world
-        ≡ refused (shelf_of pages) keys refusal old.world
+        ≡ refusing (shelf_of pages) keys refusal old.world
     unfolding units_site
     open_no = open_refused (site_of pages) old keys over
 
@@ -529,19 +529,19 @@ module _ (seen : Seen) (old new : Browser) (before : List Line) where
   pub budget_onces : (mid : Browser) (rule : Rule) (shown : List Line) (next : Option Task)
       (went : Went) → next_in went ≡ option_map then_task next → waits_in went ≡ None
       → HasNone old mid
-      → ((pages : Pages) (keys : List Key) → refused (shelf_of pages) keys refusals.Budget mid.world
+      → ((pages : Pages) (keys : List Key) → refusing (shelf_of pages) keys refusals.Budget mid.world
       ≡ rule pages keys old.world)
       → Moves (refused_at refusals.Budget (place_held mid) mid.world)
       (λ shelf. IsOver shelf mid) mid new before shown (option_map then_task next)
       → Onces rule seen seen old new before shown (Ok went)
   budget_onces mid rule shown next went leads none without is moves = record {
-    takes = takes_by rule (λ pages keys world. refused (shelf_of pages) keys refusals.Budget world)
+    takes = takes_by rule (λ pages keys world. refusing (shelf_of pages) keys refusals.Budget world)
         seen seen old mid new before shown (Ok went)
         (λ pages over. subst (IsOver (shelf_of pages)) (sym without.same) over)
         (λ pages over keys. is pages keys)
         (omega (arith, ap (λ (b : Browser). b.world.turns) without.same))
         (refused_takes seen mid new before
-        (λ pages keys world. refused (shelf_of pages) keys refusals.Budget world) shown next went
+        (λ pages keys world. refusing (shelf_of pages) keys refusals.Budget world) shown next went
         refusals.Budget leads none (λ pages over keys. refl) moves);
     spends = subst (λ (o : Option Next). IfSome o (λ one. new.world.turns + 1 ≤ old.world.turns))
         (sym moves.leads ∙ sym leads) tt;

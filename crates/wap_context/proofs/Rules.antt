@@ -27,7 +27,7 @@ use Rattle.wap_world.specs.Steps.{Once, quiet, after_step}
 use Rattle.wap_world.specs.History.{pushed, entry_of, in_deck, back_at, all_but_last}
 use Rattle.wap_world.specs.Entering.{event_task, entered, enter}
 use Rattle.wap_world.specs.Requests.{test, test_of}
-use Rattle.wap_world.specs.Tasks.{refused, card_for, in_context}
+use Rattle.wap_world.specs.Tasks.{refusing, card_for, in_context}
 use Rattle.wap_world.specs.Tasks.{arrive, arrive_if, try_deck, answered, return, returned}
 use Rattle.wap_context.specs.Browsers.{Browser, IsOver, place_held}
 use Rattle.wap_context.specs.inside.AtHand.{leave_and_set_at, refused_at, entered_at}
@@ -71,7 +71,7 @@ module _ (shelf : Shelf) (browser : Browser) (over : IsOver shelf browser) where
   now : place_now shelf w ≡ place
   now = held_now shelf browser over
 
-  pub refused_is : (refusal : Refusal) → refused shelf [] refusal w ≡ refused_at refusal place w
+  pub refused_is : (refusal : Refusal) → refusing shelf [] refusal w ≡ refused_at refusal place w
   refused_is refusal = ap (λ (p : Option Place). refused_at refusal p w) now
 
   pub arrive_is : (sets : Pairs) (url : Url) (deck : Deck) → deck_at shelf url ≡ Some deck
@@ -111,7 +111,7 @@ module _ (shelf : Shelf) (browser : Browser) (over : IsOver shelf browser) where
   arrive_if_is sets url deck false has = refused_is refusals.Denied
 
   pub refused_on : (refusal : Refusal) (keys : List Key)
-      → refused shelf keys refusal w ≡ once_before keys (refused_at refusal place w)
+      → refusing shelf keys refusal w ≡ once_before keys (refused_at refusal place w)
   refused_on refusal keys = ap (once_before keys) (refused_is refusal)
 
   pub arrive_on : (sets : Pairs) (url : Url) (deck : Deck) → deck_at shelf url ≡ Some deck

@@ -22,7 +22,7 @@ use Rattle.wap_world.specs.Steps.{quiet, after_step}
 use Rattle.wap_world.specs.Setting.{set_variables}
 use Rattle.wap_world.specs.Requests.{test, test_of}
 use Rattle.wap_world.specs.Starting.{is_too_long, not_started, prepared, ended_script, start_external}
-use Rattle.wap_world.specs.Starting.{started, start_call, start_if}
+use Rattle.wap_world.specs.Starting.{external_started, start_call, start_if}
 use Rattle.wap_world.specs.Tasks.{answered}
 use Rattle.wap_world.specs.scripting.Units.{entrance_in, external_in}
 use Rattle.wap_world.specs.scripting.UnitSites.{Pages, shelf_of, unit_under, externals_of}
@@ -48,7 +48,7 @@ module _ (judged : JudgedPages) (unit : Unit) (name : List ℕ)
     -- the function of an index
     begun_is : (index : ℕ) (arguments : List Value)
         → begun_with unit sets caller url index arguments pages keys w
-        ≡ started (site_of pages) keys sets caller url w index arguments
+        ≡ external_started (site_of pages) keys sets caller url w index arguments
     unfolding units_site
     begun_is index arguments =
         let base = without_fragment url in
@@ -66,7 +66,7 @@ module _ (judged : JudgedPages) (unit : Unit) (name : List ℕ)
         → started_with unit sets caller url (cond b (Not fatal.TooLong) (Runs index arguments)) pages
         keys w
         ≡ cond b (not_started (shelf_of pages) keys fatal.TooLong w)
-        (started (site_of pages) keys sets caller url w index arguments)
+        (external_started (site_of pages) keys sets caller url w index arguments)
     long_is index arguments true = refl
     long_is index arguments false = begun_is index arguments
 
@@ -75,7 +75,7 @@ module _ (judged : JudgedPages) (unit : Unit) (name : List ℕ)
         (cond b (if_long arguments w.limits.string one.index) (Not fatal.Arguments)) pages keys w
         ≡ cond b (cond (list_any (is_too_long w.limits.string) arguments)
         (not_started (shelf_of pages) keys fatal.TooLong w)
-        (started (site_of pages) keys sets caller url w one.index arguments))
+        (external_started (site_of pages) keys sets caller url w one.index arguments))
         (not_started (shelf_of pages) keys fatal.Arguments w)
     many_is arguments one true =
         long_is one.index arguments (list_any (is_too_long w.limits.string) arguments)

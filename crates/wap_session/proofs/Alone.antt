@@ -12,7 +12,7 @@ use Rattle.wap_execution.specs.laws.Settings.{uncounted}
 use Rattle.wap_execution.specs.laws.Keyed.{gone_on}
 use Rattle.wap_execution.proofs.LawsLemmas.RunLaws.{resumed_follows}
 use Rattle.wap_world.specs.World.{World}
-use Rattle.wap_world.specs.Steps.{Step, joined, quiet, still}
+use Rattle.wap_world.specs.Steps.{Step, then_step, quiet, still}
 use Rattle.wap_world.specs.Starting.{in_world, ended_script}
 use Rattle.wap_world.specs.Keys.{react}
 use Rattle.wap_world.specs.Sessions.{played_in, played}
@@ -84,7 +84,7 @@ none_of (key ∷ keys) few = absurd (omega (arith, few))
 -- ---- what it comes to
 
 -- a step that left no keys, before any others
-pub closed : (r : Step) → r.keys ≡ [] → joined r (quiet [] (still r.world)) ≡ r
+pub closed : (r : Step) → r.keys ≡ [] → then_step r (quiet [] (still r.world)) ≡ r
 closed r none = joined_nothing r [] ∙ ap (λ (keys : List Key). before keys r) (sym none)
 
 -- a key that is played alone is played without further ones
@@ -95,12 +95,12 @@ unfolding played
 alone pages None w key =
     let r = react (site_of pages) key [] w in
     let none = none_of r.keys (turned_none pages None w key) in
-    ap (λ (keys : List Key). joined r (played_in 0 (site_of pages) keys r.world)) none
+    ap (λ (keys : List Key). then_step r (played_in 0 (site_of pages) keys r.world)) none
     ∙ closed r none
 alone pages (Some one) w key =
     let r = resumed_step fragment_call pages one (key ∷ []) w in
     let none = none_of r.keys (turned_none pages (Some one) w key) in
-    ap (λ (keys : List Key). joined r (played (site_of pages) keys r.world)) none
+    ap (λ (keys : List Key). then_step r (played (site_of pages) keys r.world)) none
     ∙ closed r none
 
 -- no keys show nothing, and a dialog that waits stays open

@@ -11,7 +11,7 @@ use Rattle.wap_world.specs.site.Misses.{Asked}
 use Rattle.wap_world.specs.site.Asking.{Seen, Stays, Asks}
 use Rattle.wap_world.proofs.SiteLemmas.Asking.{Asks-nil, Asks-then, Stays-same, Stays-then}
 use Rattle.std.specs.Prelude.{is_some}
-use Rattle.wap_world.specs.Steps.{Step, joined, quiet, still}
+use Rattle.wap_world.specs.Steps.{Step, then_step, quiet, still}
 use Rattle.wap_world.specs.Sessions.{shown_by}
 use Rattle.wap_world.proofs.Joining.{joined_assoc}
 use Rattle.wap_world.specs.scripting.UnitSites.{Pages, unit_pages}
@@ -34,7 +34,7 @@ step_none pages state = none_played pages state.waiting state.browser.world
 -- and further keys go on from there
 pub on_none : (pages : Pages) (state : State) → PlaysOn [] pages state state
 on_none pages state others =
-    sym (ap (λ (s : Step). joined (left_open s) (step_of pages others state))
+    sym (ap (λ (s : Step). then_step (left_open s) (step_of pages others state))
     (step_none pages state))
 
 leads_none : (state : State) (contents : Option JudgedPages)
@@ -83,9 +83,9 @@ on_more pages done one old now new came on others =
     let second = step_of pages (one ∷ []) now in
     ap (λ (keys : List Key). step_of pages keys old) (append_assoc done (one ∷ []) others)
     ∙ came (one ∷ others)
-    ∙ ap (joined (left_open first)) (on others)
+    ∙ ap (then_step (left_open first)) (on others)
     ∙ sym (joined_assoc (left_open first) (left_open second) (step_of pages others new))
-    ∙ sym (ap (λ (s : Step). joined (left_open s) (step_of pages others new)) (came (one ∷ [])))
+    ∙ sym (ap (λ (s : Step). then_step (left_open s) (step_of pages others new)) (came (one ∷ [])))
 
 module _ (done : List Key) (one : Key) (before mid after : Seen) (old now new : State)
     (lines : List (List ℕ)) where

@@ -16,7 +16,7 @@ use Rattle.wap_world.specs.declared.timer.Timer.{Timer}
 use Rattle.wap_world.specs.declared.timer.Timer.TheVariants.{NotStarted, Running, Off, Expired}
 use Rattle.wap_world.specs.Shelves.{Shelf}
 use Rattle.wap_world.specs.World.{World, Place, place_now}
-use Rattle.wap_world.specs.Steps.{Scene, Step, joined, quiet, still}
+use Rattle.wap_world.specs.Steps.{Scene, Step, then_step, quiet, still}
 use Rattle.std.specs.Option.{option_and_then}
 use Rattle.wap_cardrules.specs.Timers.{timer_in, timer_variable}
 use Rattle.wap_world.specs.Timers.{store_under}
@@ -130,10 +130,10 @@ module _ (pages : Pages) (one : Waits) (key : Key) (w : World)
 
   -- the dialog stays for the keys after it
   passes_so : (keys : List Key) → turn_rule (Some one) key pages keys w
-      ≡ joined (quiet [] scene) (resumed_step fragment_call pages one keys scene.world)
+      ≡ then_step (quiet [] scene) (resumed_step fragment_call pages one keys scene.world)
   passes_so keys =
       stay_means fragment_call pages one w key is keys
-      ∙ ap (λ (s : Scene). joined (quiet [] s) (resumed_step fragment_call pages one keys s.world))
+      ∙ ap (λ (s : Scene). then_step (quiet [] s) (resumed_step fragment_call pages one keys s.world))
       (apart (shelf_of pages) key w)
 
   -- and without these it is open
@@ -169,7 +169,7 @@ passes_follow dialog paused one old new lines is shows (Some judged) = λ over.
       over = shows.over shelf over;
       asks_user = ap (λ (s : Step). s.is_open) left;
       on = λ keys. passes_so pages waits one w is keys
-          ∙ sym (ap (λ (s : Step). joined s
+          ∙ sym (ap (λ (s : Step). then_step s
           (resumed_step fragment_call pages waits keys s.world)) shut);
     }
 

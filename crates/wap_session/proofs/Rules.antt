@@ -14,7 +14,7 @@ use Rattle.wap_world.specs.declared.refusal.Refusal.TheVariants as refusals
 use Rattle.wap_world.specs.Shelves.{Shelf}
 use Rattle.wap_world.specs.World.{World}
 use Rattle.wap_world.specs.Lines.{refusal_line}
-use Rattle.wap_world.specs.Steps.{Scene, Step, joined, quiet}
+use Rattle.wap_world.specs.Steps.{Scene, Step, then_step, quiet}
 use Rattle.wap_world.specs.Keys.{ignored}
 use Rattle.wap_world.proofs.Joining.{joined_assoc, joined_nothing}
 use Rattle.wap_world.specs.scripting.UnitSites.{Pages, shelf_of, unit_pages}
@@ -44,7 +44,7 @@ first_lines lines world = quiet [] (record { world = world; lines = lines })
 abbrev pub LeadsTo : List (List ℕ) → (one other : Rule) → (mid old : Browser) → Type 0
 LeadsTo lines one other mid old = (pages : Pages) → IsOver (shelf_of pages) old
     → IsOver (shelf_of pages) mid × ((keys : List Key) → other pages keys old.world
-    ≡ joined (first_lines lines mid.world) (one pages keys mid.world))
+    ≡ then_step (first_lines lines mid.world) (one pages keys mid.world))
 
 -- a fact over the pages of one browser from one over those of another
 over_by : (contents : Option JudgedPages) (mid old : Browser) (P Q : Pages → Type 0)
@@ -61,7 +61,7 @@ module _ (lines : List (List ℕ)) (one other : Rule) (before after : Seen)
   -- what was done is the same but for these lines
   follows_one : (pages : Pages) (did further : Did) → IsBehind lines did further
       → ((keys : List Key) → other pages keys old.world
-      ≡ joined (first_lines lines mid.world) (one pages keys mid.world))
+      ≡ then_step (first_lines lines mid.world) (one pages keys mid.world))
       → Follows pages (one pages) mid new did → Follows pages (other pages) old new further
   follows_one pages did further behind same so =
       let front = first_lines lines mid.world in
@@ -74,7 +74,7 @@ module _ (lines : List (List ℕ)) (one other : Rule) (before after : Seen)
         over = so.over;
         asks_user = ap (λ (s : Step). s.is_open) last ∙ so.asks_user
             ∙ sym (ap is_some behind.waiting_is);
-        on = λ keys. same keys ∙ ap (joined front) (so.on keys)
+        on = λ keys. same keys ∙ ap (then_step front) (so.on keys)
             ∙ sym (joined_assoc front (left_open step)
             (left_over fragment_call pages (waiting_in did) keys step.world))
             ∙ sym (ap (λ (s : Step). meaning fragment_call pages

@@ -10,7 +10,7 @@ use Rattle.wap_base.specs.declared.key.Key.{Key}
 use Rattle.wap_world.specs.site.Pages.{Pages as JudgedPages}
 use Rattle.wap_world.specs.site.Misses.{Asked}
 use Rattle.wap_world.specs.site.Asking.{Seen, Stays, Asks}
-use Rattle.wap_world.specs.Steps.{Step, joined}
+use Rattle.wap_world.specs.Steps.{Step, then_step}
 use Rattle.wap_world.specs.Keys.{renewed, apply, react}
 use Rattle.wap_world.specs.Sessions.{shown_by}
 use Rattle.wap_world.specs.scripting.UnitSites.{unit_pages}
@@ -72,9 +72,9 @@ module _ (key : Key) (before after : Seen) (old new : State) where
             ∙ sym (ap (λ (s : Step). shown_by s) one);
         on = λ others.
             feeds fragment_call pages (between old) key (fed_of step did) follows.on others
-            ∙ ap (λ (state : Between). joined (left_open step)
+            ∙ ap (λ (state : Between). then_step (left_open step)
             (played_from fragment_call pages state others)) later
-            ∙ sym (ap (λ (s : Step). joined (left_open s) (step_of pages others new)) one);
+            ∙ sym (ap (λ (s : Step). then_step (left_open s) (step_of pages others new)) one);
       }
 
   -- what it left to further keys

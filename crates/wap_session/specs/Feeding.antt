@@ -5,7 +5,7 @@ use Rattle.std.specs.Prelude.{IfOk, IfErr, OnOk, OnErr, ◌≢◌, ℕ, Result, 
 use Rattle.wap_base.specs.Count.{Rose}
 use Rattle.wap_base.specs.declared.key.Key.{Key}
 use Rattle.wap_world.specs.site.Asking.{Seen, Stays, Asks}
-use Rattle.wap_world.specs.Steps.{Step, joined}
+use Rattle.wap_world.specs.Steps.{Step, then_step}
 use Rattle.wap_world.specs.Sessions.{shown_by, Begun, world_of}
 use Rattle.wap_world.specs.scripting.UnitSites.{Pages, shelf_of}
 use Rattle.wap_world.specs.scripting.Waiting.{Waits, State as Between, played_from}
@@ -69,7 +69,7 @@ left_open step = record step { is_open = false }
 -- what further keys come to after these keys is what they come to in the new session
 abbrev pub PlaysOn : List Key → Pages → State → State → Type 0
 PlaysOn keys pages old new = (others : List Key) → step_of pages (keys ++ others) old
-    ≡ joined (left_open (step_of pages keys old)) (step_of pages others new)
+    ≡ then_step (left_open (step_of pages keys old)) (step_of pages others new)
 
 -- a key did what its step says without further keys, and left the rest to these: they answer the
 -- dialog that waits now, and are played after it, whatever else they may do there

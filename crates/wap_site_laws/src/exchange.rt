@@ -14,7 +14,7 @@ ghost use Rattle.wap_world.specs.inboxes.Sessions.{played_with};
 ghost use Rattle.wap_world.specs.scripting.UnitSites.{units_site};
 ghost use Rattle.wap_world.specs.scripting.Sources.{LanguageOf, AllPages, Agrees, site_of};
 ghost use Rattle.wap_world.specs.scripting.Sources.{compiled_pages};
-ghost use Rattle.wap_site_laws.specs.exchange.Denial.{is_entered, DifferWithin};
+ghost use Rattle.wap_site_laws.specs.exchange.Denial.{is_let_in, DifferWithin};
 ghost use Rattle.wap_site_laws.specs.exchange.Denial.{DeniedMatterNot, DeniedMatterNotWith};
 
 /// What the programs of sources are, and what a browser makes of them.
@@ -45,7 +45,7 @@ pub fn denied_scripts_do_not_matter<L: Language>()
         → (keys : List Key) (world : World)
         → let here = site_of L.language call one in
         let there = site_of L.language call other in
-        is_entered among (played here keys world).tests ≡ false
+        is_let_in among (played here keys world).tests ≡ false
         → played here keys world ≡ played there keys world }
 {}
 
@@ -60,6 +60,6 @@ pub fn denied_scripts_do_not_matter_to_inboxes<L: Language>()
         → (read : List ℕ → Result Indication PushFault) (keys : List Key) (handset : Handset)
         → let here = site_of L.language call one in
         let there = site_of L.language call other in
-        is_entered among (played_with read here keys handset).step.tests ≡ false
+        is_let_in among (played_with read here keys handset).step.tests ≡ false
         → played_with read here keys handset ≡ played_with read there keys handset }
 {}

@@ -10,7 +10,7 @@ ghost use Rattle.wap_meaning.specs.compiled.Units.{compiled};
 ghost use Rattle.wap_world.specs.scripting.Units.{entrance_in, external_in};
 ghost use Rattle.wap_world.specs.scripting.UnitSites.{units_site};
 ghost use Rattle.wap_world.specs.scripting.Sources.{AllPages, site_of, compiled_pages};
-ghost use Rattle.wap_site_laws.specs.exchange.Denial.{is_entered, DifferWithin};
+ghost use Rattle.wap_site_laws.specs.exchange.Denial.{is_let_in, DifferWithin};
 ghost use Rattle.wap_site_laws.specs.programs.Entrances.{entrance, external};
 ghost use Rattle.wap_site_laws.specs.programs.Programs.{Accepted, programs, unit_of};
 
@@ -39,6 +39,6 @@ pub fn denied_programs_do_not_matter()
         → (keys : List Key) (world : World)
         → let here = site_of programs call one in
         let there = site_of programs call other in
-        is_entered among (played here keys world).tests ≡ false
+        is_let_in among (played here keys world).tests ≡ false
         → played here keys world ≡ played there keys world }
 {}

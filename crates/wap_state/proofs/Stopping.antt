@@ -12,7 +12,7 @@ use Rattle.wap_cards.proofs.InputsLemmas.Orders.{set_after, first_stands}
 use Rattle.wap_world.specs.World.{World}
 use Rattle.wap_world.specs.declared.timer.Timer.{Timer}
 use Rattle.wap_world.specs.declared.timer.Timer.TheVariants.{NotStarted, Running, Off, Expired}
-use Rattle.wap_world.specs.Timers.{started}
+use Rattle.wap_world.specs.Timers.{timer_started}
 
 -- ---- sets in order
 
@@ -69,7 +69,7 @@ defaults_stand vars now card is = (
 
 -- a timer that starts leaves the variables
 pub started_vars : (timer : Timer) (card : Node) (world : World)
-    → (started timer card world).vars ≡ world.vars
+    → (timer_started timer card world).vars ≡ world.vars
 started_vars NotStarted card world = refl
 started_vars (Running time) card world = refl
 started_vars Off card world = refl

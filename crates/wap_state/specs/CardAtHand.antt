@@ -12,7 +12,7 @@ use Rattle.wap_cardrules.specs.Values.{Pairs}
 use Rattle.wap_world.specs.World.{World}
 use Rattle.wap_world.specs.Steps.{Scene, and_then}
 use Rattle.wap_world.specs.Setting.{with_set}
-use Rattle.wap_world.specs.Timers.{started, start_timer}
+use Rattle.wap_world.specs.Timers.{timer_started, start_timer}
 use Rattle.wap_state.specs.screen_lines.Screens.{screen_of}
 
 -- a card and its deck
@@ -34,7 +34,7 @@ screen_held held world = record { world = world; lines = screen_of world.vars he
 -- drawn
 abbrev pub show_held : Held → World → Scene
 show_held held world = and_then (with_set world (defaults world.vars held.card))
-    (λ w. screen_held held (started w.timer held.card w))
+    (λ w. screen_held held (timer_started w.timer held.card w))
 
 -- its timer starts anew, and its screen is drawn
 abbrev pub restart_held : Held → World → Scene

@@ -5,7 +5,7 @@ ghost use Rattle.std.specs.Fmt.{decimal};
 ghost use Rattle.wap_cardrules.specs.Timers.{timer_in, timer_variable, timer_of};
 ghost use Rattle.wap_cards.specs.inputs.Stopped.{FirstStand};
 ghost use Rattle.wap_world.specs.declared.timer.Timer.TheVariants.{Running, Off, Expired};
-ghost use Rattle.wap_world.specs.Timers.{timer_from, start_timer, started};
+ghost use Rattle.wap_world.specs.Timers.{timer_from, start_timer, timer_started};
 ghost use Rattle.wap_world.specs.Timers.{store_time, store_left, end_timer};
 ghost use Rattle.wap_state.specs.Scenes.{Plays, Leaves};
 ghost use Rattle.wap_state.specs.CardAtHand.{store_pairs, time_pairs};
@@ -72,7 +72,7 @@ impl State {
 
     /// Starts the timer of a card, unless it has since the card was entered.
     pub fn start(&mut self, alloc: Global, card: &View<'_>) -> Result<(), NoMemory>
-        ensures starts { OnOk result (self.new ≡ started self.old.timer card.now self.old) }
+        ensures starts { OnOk result (self.new ≡ timer_started self.old.timer card.now self.old) }
         ensures history { self.new.history ≡ self.old.history }
         ensures kept { OnErr result (self.new ≡ self.old) }
     {

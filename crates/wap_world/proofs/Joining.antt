@@ -4,7 +4,7 @@ use Rattle.std.proofs.lemmas.List.{append-nil}
 use Rattle.std.specs.Prelude.{◌||◌}
 use Rattle.wap_base.specs.declared.key.Key.{Key}
 use Rattle.wap_world.specs.World.{World}
-use Rattle.wap_world.specs.Steps.{Step, Once, Next, joined, after_step, quiet, still}
+use Rattle.wap_world.specs.Steps.{Step, Once, Next, then_step, after_step, quiet, still}
 use Rattle.wap_world.specs.Tasks.{go_on, onward}
 
 -- the same step before other keys
@@ -33,7 +33,7 @@ or_assoc false b c = refl
 
 -- three steps, one after the other
 pub joined_assoc : (one two three : Step)
-    → joined (joined one two) three ≡ joined one (joined two three)
+    → then_step (then_step one two) three ≡ then_step one (then_step two three)
 joined_assoc one two three = λ i. record {
   world = three.world;
   keys = three.keys;
@@ -45,7 +45,7 @@ joined_assoc one two three = λ i. record {
 
 -- two steps, and then a navigation
 pub after_assoc : (one two : Step) (once : Once)
-    → after_step (joined one two) once ≡ after_step one (after_step two once)
+    → after_step (then_step one two) once ≡ after_step one (after_step two once)
 after_assoc one two once = λ i. record {
   step = joined_assoc one two once.step i;
   next = once.next;
@@ -53,7 +53,7 @@ after_assoc one two once = λ i. record {
 
 -- a step, after which nothing happens
 pub joined_nothing : (step : Step) (keys : List Key)
-    → joined step (quiet keys (still step.world)) ≡ before keys step
+    → then_step step (quiet keys (still step.world)) ≡ before keys step
 joined_nothing step keys = λ i. record {
   world = step.world;
   keys = keys;
@@ -65,9 +65,9 @@ joined_nothing step keys = λ i. record {
 
 -- a step, and then a navigation and all that it leads to
 pub onward_after : (f : List Key → World → Next → Step) (step : Step) (once : Once)
-    → onward f (after_step step once) ≡ joined step (onward f once)
+    → onward f (after_step step once) ≡ then_step step (onward f once)
 onward_after f step once = by once.next
   where
-    by : (o : Option Next) → go_on f (joined step once.step) o ≡ joined step (go_on f once.step o)
+    by : (o : Option Next) → go_on f (then_step step once.step) o ≡ then_step step (go_on f once.step o)
     by None = refl
     by (Some next) = joined_assoc step once.step (f once.step.keys once.step.world next)

@@ -25,7 +25,7 @@ use Rattle.wap_world.specs.Shelves.{Shelf, Shelved, deck_page, script_page, text
 use Rattle.wap_world.specs.Shelves.{refused_page, no_page}
 use Rattle.wap_world.specs.Sites.{Site}
 use Rattle.wap_world.specs.World.{World, Place, place_now}
-use Rattle.wap_world.specs.Steps.{Scene, Step, Once, Next, then_task, still, quiet, joined}
+use Rattle.wap_world.specs.Steps.{Scene, Step, Once, Next, then_task, still, quiet, then_step}
 use Rattle.wap_world.specs.Steps.{after_step}
 use Rattle.wap_world.specs.History.{pushed, entry_of, earlier_entry, in_deck, back_at}
 use Rattle.wap_world.specs.Setting.{fault_lines}
@@ -212,8 +212,8 @@ module _ (site : Site) (leaves : LeavesKeys site) where
       → go_on f (before keys step) o ≡ before keys (go_on f step o)
   go_on_leaves f acts keys step None = refl
   go_on_leaves f acts keys step (Some next) =
-      ap (joined step) (acts keys step.world next)
-      ∙ sym (ap (λ others. before keys (joined step others)) (acts step.keys step.world next))
+      ap (then_step step) (acts keys step.world next)
+      ∙ sym (ap (λ others. before keys (then_step step others)) (acts step.keys step.world next))
 
   onward_leaves : (f : List Key → World → Next → Step) → ActsLeave f → (keys : List Key)
       (one other : Once) → one ≡ once_before keys other → onward f one ≡ before keys (onward f other)
@@ -254,14 +254,14 @@ module _ (site : Site) (leaves : LeavesKeys site) where
       → after_choice site keys w answer ≡ before keys (after_choice site [] w answer)
   choice_leaves keys w chosen.NoOption = refl
   choice_leaves keys w (chosen.Set faults one) =
-      ap (joined (quiet keys (record { world = w; lines = flat_map fault_lines faults })))
+      ap (then_step (quiet keys (record { world = w; lines = flat_map fault_lines faults })))
       (or_leaves (show site.shelf w) keys w one)
 
   expire_leaves : (keys : List Key) (place : Place) (w : World)
       → expire site keys place w ≡ before keys (expire site [] place w)
   expire_leaves keys place w =
       let late = end_timer place.card w in
-      ap (joined (quiet keys late))
+      ap (then_step (quiet keys late))
       (or_leaves (still late.world) keys late.world (event_task site.shelf event.Timer late.world))
 
   time_leaves : (keys : List Key) (n : ℕ) (t : Timer) (place : Place) (w : World)

@@ -24,7 +24,7 @@ use Rattle.wap_world.specs.Lines.{do_line}
 use Rattle.wap_world.specs.Steps.{and_then, settled, quiet, still, after_step}
 use Rattle.wap_world.specs.History.{pushed}
 use Rattle.wap_world.specs.Setting.{with_set}
-use Rattle.wap_world.specs.Timers.{started}
+use Rattle.wap_world.specs.Timers.{timer_started}
 use Rattle.wap_world.specs.Screens.{screen, at_place, show_place, show, screen_lines}
 use Rattle.wap_world.specs.Entering.{event_task, entered, enter}
 use Rattle.wap_base.specs.Limits.{default_limits}
@@ -152,7 +152,7 @@ shown_here : (show shelf inside).lines ≡ codes "=" ∷ codes "Hi" ∷ []
 shown_here =
     ap (λ o. (at_place show_place o inside).lines) here_now
     ∙ ap (λ set.
-    (and_then (with_set inside set) (λ w. screen_lines place (started w.timer card1 w))).lines)
+    (and_then (with_set inside set) (λ w. screen_lines place (timer_started w.timer card1 w))).lines)
     nothing_set
     ∙ the_screen
 

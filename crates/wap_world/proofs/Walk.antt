@@ -41,7 +41,7 @@ use Rattle.wap_world.specs.Steps.{Scene, Step, Once, Next, then_task, still, qui
 use Rattle.wap_world.specs.Access.{entrance_of}
 use Rattle.wap_world.specs.Setting.{set_variables}
 use Rattle.wap_world.specs.History.{pushed, earlier_entry, in_deck, back_at, entry_of}
-use Rattle.wap_world.specs.Timers.{start_timer, started as started_in, store_under, store_left}
+use Rattle.wap_world.specs.Timers.{start_timer, timer_started as started_in, store_under, store_left}
 use Rattle.wap_world.specs.Timers.{end_timer, settled_timer}
 use Rattle.wap_world.specs.Screens.{at_place, show_place, show, show_screen}
 use Rattle.wap_world.specs.Screens.{screen_lines, apply_defaults}
@@ -49,10 +49,10 @@ use Rattle.wap_world.specs.Entering.{leave, leave_place, entered as entered_by, 
 use Rattle.wap_world.specs.Urls.{target_of, is_same_page}
 use Rattle.wap_world.specs.Requests.{Request, answer_to, test_of, request_of, plain_get}
 use Rattle.wap_world.specs.Starting.{not_started, in_world, or_show, rest, end_done, end_by}
-use Rattle.wap_world.specs.Starting.{ended_script, prepared, is_too_long, started, start_external}
+use Rattle.wap_world.specs.Starting.{ended_script, prepared, is_too_long, external_started, start_external}
 use Rattle.wap_world.specs.Starting.{start_call, start_if}
 use Rattle.wap_world.specs.Tasks.{
-  refused,
+  refusing,
   leave_and_set,
   with_url,
   with_turn,
@@ -210,7 +210,7 @@ module _ (K : Keeping) (shelf : Shelf) (kept : Kept K shelf) where
   later keys u v once r moves = kept.joins keys u keys v once.step.keys once.step.world (r keys) moves
 
   refused_moves : (keys : List Key) (why : Refusal) (w : World)
-      → Moves K keys w (refused shelf keys why w)
+      → Moves K keys w (refusing shelf keys why w)
   refused_moves keys why w = show_goes w keys
 
   pub url_moves : (keys : List Key) (w : World) (next : Url → Once) (r : Result Url Refusal)
@@ -379,7 +379,7 @@ module _ (K : Keeping) (site : Site) (kept : Kept K site.shelf) (runs : KeepsSit
 
   started_moves : (keys : List Key) (sets : Pairs) (caller : Option Url) (url : Url) (w : World)
       (index : ℕ) (arguments : List Value)
-      → Moves K keys w (started site keys sets caller url w index arguments)
+      → Moves K keys w (external_started site keys sets caller url w index arguments)
   started_moves keys sets caller url w index arguments =
       let base = without_fragment url in
       let set = set_variables sets w in
@@ -403,7 +403,7 @@ module _ (K : Keeping) (site : Site) (kept : Kept K site.shelf) (runs : KeepsSit
     where
       by : (b c : Bool) → Moves K keys w (cond b (cond c
           (not_started site.shelf keys fatal.TooLong w)
-          (started site keys sets caller url w one.index arguments))
+          (external_started site keys sets caller url w one.index arguments))
           (not_started site.shelf keys fatal.Arguments w))
       by true true = shows keys w
       by true false = started_moves keys sets caller url w one.index arguments

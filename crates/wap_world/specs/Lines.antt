@@ -9,22 +9,22 @@ use Rattle.wap_world.specs.declared.refusal.Refusal.TheVariants.{Mask, Full, Lon
 -- ---- refusals
 
 -- the word of each refusal
-abbrev pub word_of : Refusal → List ℕ
-word_of Budget = codes "budget"
-word_of Url = codes "url"
-word_of Scheme = codes "scheme"
-word_of Missing = codes "missing"
-word_of Refused = codes "refused"
-word_of Denied = codes "denied"
-word_of First = codes "first"
-word_of Ignored = codes "ignored"
-word_of Mask = codes "mask"
-word_of Full = codes "full"
-word_of Long = codes "long"
+abbrev pub word_of_refusal : Refusal → List ℕ
+word_of_refusal Budget = codes "budget"
+word_of_refusal Url = codes "url"
+word_of_refusal Scheme = codes "scheme"
+word_of_refusal Missing = codes "missing"
+word_of_refusal Refused = codes "refused"
+word_of_refusal Denied = codes "denied"
+word_of_refusal First = codes "first"
+word_of_refusal Ignored = codes "ignored"
+word_of_refusal Mask = codes "mask"
+word_of_refusal Full = codes "full"
+word_of_refusal Long = codes "long"
 
 -- a mark and that word
 abbrev pub refusal_line : Refusal → List ℕ
-refusal_line refusal = codes "! " ++ word_of refusal
+refusal_line refusal = codes "! " ++ word_of_refusal refusal
 
 -- ---- parts of a screen, and variables
 

@@ -13,7 +13,7 @@ use Rattle.wap_world.specs.World.{World, Place, place_now}
 use Rattle.wap_world.specs.Lines.{title_line, do_line, refusal_line}
 use Rattle.wap_world.specs.Steps.{Scene, still, behind, and_then}
 use Rattle.wap_world.specs.Setting.{with_set}
-use Rattle.wap_world.specs.Timers.{started}
+use Rattle.wap_world.specs.Timers.{timer_started}
 
 -- its title, its content and its active dos
 abbrev pub screen : Variables → Place → List (List ℕ)
@@ -50,7 +50,8 @@ apply_defaults place world = with_set world (defaults world.vars place.card)
 -- its fields get their defaults, its timer starts unless it has, and its screen is drawn
 abbrev pub show_place : Place → World → Scene
 show_place place world =
-    and_then (apply_defaults place world) (λ w. screen_lines place (started w.timer place.card w))
+    and_then (apply_defaults place world)
+    (λ w. screen_lines place (timer_started w.timer place.card w))
 
 -- defaults, timer and screen
 abbrev pub show : Shelf → World → Scene

@@ -30,21 +30,21 @@ use Rattle.wap_world.specs.Sites.{External, Call, End, done, failed, unanswered,
 -- ---- the line of a script that doesn't run, or ends abnormally
 
 -- the word of what ended a script
-abbrev pub word_of : Fatal → List ℕ
-word_of fatal.Budget = codes "budget"
-word_of fatal.Depth = codes "depth"
-word_of fatal.NoUnit = codes "missing"
-word_of fatal.UnitRefused = codes "refused"
-word_of fatal.NoFunction = codes "function"
-word_of fatal.Arguments = codes "arguments"
-word_of fatal.Denied = codes "denied"
-word_of (fatal.Aborted text) = codes "aborted " ++ text
-word_of fatal.TooLong = codes "long"
-word_of fatal.Stopped = codes "stopped"
+abbrev pub word_of_fatal : Fatal → List ℕ
+word_of_fatal fatal.Budget = codes "budget"
+word_of_fatal fatal.Depth = codes "depth"
+word_of_fatal fatal.NoUnit = codes "missing"
+word_of_fatal fatal.UnitRefused = codes "refused"
+word_of_fatal fatal.NoFunction = codes "function"
+word_of_fatal fatal.Arguments = codes "arguments"
+word_of_fatal fatal.Denied = codes "denied"
+word_of_fatal (fatal.Aborted text) = codes "aborted " ++ text
+word_of_fatal fatal.TooLong = codes "long"
+word_of_fatal fatal.Stopped = codes "stopped"
 
 -- its line
 abbrev pub script_line : Fatal → List ℕ
-script_line why = codes "! script " ++ word_of why
+script_line why = codes "! script " ++ word_of_fatal why
 
 -- a script isn't started: the current card is shown again
 abbrev pub not_started : Shelf → List Key → Fatal → World → Once
@@ -116,8 +116,9 @@ is_too_long string (Str text) = nat_lt string (length (encode_utf8_all text))
 is_too_long string Invalid = false
 
 -- the task's variables are set just before
-abbrev pub started : Site → List Key → Pairs → Option Url → Url → World → ℕ → List Value → Once
-started site keys sets caller url world index arguments =
+abbrev pub external_started : Site → List Key → Pairs → Option Url → Url → World → ℕ → List Value
+    → Once
+external_started site keys sets caller url world index arguments =
     let base = without_fragment url in
     let set = set_variables sets world in
     ended_script site.shelf base (site.run (name_for url) base caller index arguments
@@ -133,7 +134,7 @@ start_external site keys sets caller url world arguments (Some one) =
     if one.arguments == length arguments
     then (if list_any (is_too_long world.limits.string) arguments
     then not_started site.shelf keys fatal.TooLong world
-    else started site keys sets caller url world one.index arguments)
+    else external_started site keys sets caller url world one.index arguments)
     else not_started site.shelf keys fatal.Arguments world
 
 -- a fragment that is no call names no function

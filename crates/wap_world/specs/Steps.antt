@@ -56,8 +56,8 @@ quiet keys scene = record {
 }
 
 -- one step, and then another
-abbrev pub joined : Step → Step → Step
-joined one others = record {
+abbrev pub then_step : Step → Step → Step
+then_step one others = record {
   world = others.world;
   keys = others.keys;
   lines = one.lines ++ others.lines;
@@ -68,7 +68,7 @@ joined one others = record {
 
 -- one step, and then what follows in its world with the keys that it left
 abbrev pub followed : Step → (List Key → World → Step) → Step
-followed one next = joined one (next one.keys one.world)
+followed one next = then_step one (next one.keys one.world)
 
 -- ---- navigation
 
@@ -93,4 +93,4 @@ settled step = record { step = step; next = None }
 
 -- a step, and then a navigation
 abbrev pub after_step : Step → Once → Once
-after_step step once = record once { step = joined step once.step }
+after_step step once = record once { step = then_step step once.step }

@@ -53,8 +53,8 @@ use Rattle.wap_world.specs.Requests.{Request, plain_get, request_of, ask, answer
 -- ---- what navigations share
 
 -- a navigation that ends with a refusal, after which the current card is shown
-abbrev pub refused : Shelf → List Key → Refusal → World → Once
-refused shelf keys refusal world = settled (quiet keys (refuse shelf refusal world))
+abbrev pub refusing : Shelf → List Key → Refusal → World → Once
+refusing shelf keys refusal world = settled (quiet keys (refuse shelf refusal world))
 
 -- the current card is left, and variables are set
 abbrev pub leave_and_set : Shelf → Pairs → World → Scene
@@ -71,11 +71,11 @@ base_now shelf world from = option_map_or Some (url_now shelf world) from
 -- on with the URL, or its refusal
 abbrev pub with_url : Shelf → List Key → World → (Url → Once) → Result Url Refusal → Once
 with_url shelf keys world next (Ok url) = next url
-with_url shelf keys world next (Err refusal) = refused shelf keys refusal world
+with_url shelf keys world next (Err refusal) = refusing shelf keys refusal world
 
 -- a turn is taken, if one is left
 abbrev pub with_turn : Shelf → List Key → World → ℕ → (World → Once) → Once
-with_turn shelf keys world zero next = refused shelf keys refusals.Budget world
+with_turn shelf keys world zero next = refusing shelf keys refusals.Budget world
 with_turn shelf keys world (suc turns) next = next (record world { turns = turns })
 
 -- ---- go, by the steps of its rule
@@ -106,7 +106,7 @@ arrive shelf keys sets url world deck =
 -- 7: whether the deck may be entered
 abbrev pub arrive_if : Shelf → List Key → Pairs → Url → World → Deck → Bool → Once
 arrive_if shelf keys sets url world deck true = arrive shelf keys sets url world deck
-arrive_if shelf keys sets url world deck false = refused shelf keys refusals.Denied world
+arrive_if shelf keys sets url world deck false = refusing shelf keys refusals.Denied world
 
 -- the test is made, and the deck is entered where it may be
 abbrev pub try_deck : Shelf → List Key → Pairs → Option Url → Url → World → Deck → Once
@@ -122,10 +122,10 @@ answered site keys sets caller url world (script_page entrance) =
     let one = test_of url caller entrance in
     after_step (test keys one world) (start_if site keys sets caller url world one.allowed)
 answered site keys sets caller url world (text_page text) =
-    refused site.shelf keys refusals.Refused world
+    refusing site.shelf keys refusals.Refused world
 answered site keys sets caller url world refused_page =
-    refused site.shelf keys refusals.Refused world
-answered site keys sets caller url world no_page = refused site.shelf keys refusals.Missing world
+    refusing site.shelf keys refusals.Refused world
+answered site keys sets caller url world no_page = refusing site.shelf keys refusals.Missing world
 
 -- 6: the page is asked for
 abbrev pub request : Site → List Key → Pairs → Option Url → Request → World → Once
@@ -180,11 +180,11 @@ abbrev pub returned : Shelf → List Key → Pairs → Entry → World → Shelv
 returned shelf keys sets earlier world (deck_page deck) =
     return shelf keys sets earlier world deck
 returned shelf keys sets earlier world (script_page entrance) =
-    refused shelf keys refusals.Refused world
+    refusing shelf keys refusals.Refused world
 returned shelf keys sets earlier world (text_page text) =
-    refused shelf keys refusals.Refused world
-returned shelf keys sets earlier world refused_page = refused shelf keys refusals.Refused world
-returned shelf keys sets earlier world no_page = refused shelf keys refusals.Missing world
+    refusing shelf keys refusals.Refused world
+returned shelf keys sets earlier world refused_page = refusing shelf keys refusals.Refused world
+returned shelf keys sets earlier world no_page = refusing shelf keys refusals.Missing world
 
 -- the earlier card's deck, where it is not the current one, is asked for; access is not tested
 abbrev pub ask_back : Shelf → List Key → Pairs → Entry → World → Once
@@ -207,7 +207,7 @@ back_from shelf keys sets earlier world (Some place) =
 
 -- with one card or none there is no earlier one
 abbrev pub back_to : Shelf → List Key → Pairs → World → Option Entry → Once
-back_to shelf keys sets world None = refused shelf keys refusals.First world
+back_to shelf keys sets world None = refusing shelf keys refusals.First world
 back_to shelf keys sets world (Some earlier) =
     back_from shelf keys sets earlier world (place_now shelf world)
 

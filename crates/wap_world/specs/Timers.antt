@@ -23,11 +23,11 @@ abbrev pub start_timer : Node → World → World
 start_timer card world = record world { timer = timer_from (timer_of world.vars card) }
 
 -- the timer starts, unless it has since the card was entered
-abbrev pub started : Timer → Node → World → World
-started NotStarted card world = start_timer card world
-started (Running time) card world = world
-started Off card world = world
-started Expired card world = world
+abbrev pub timer_started : Timer → Node → World → World
+timer_started NotStarted card world = start_timer card world
+timer_started (Running time) card world = world
+timer_started Off card world = world
+timer_started Expired card world = world
 
 -- ---- the variable
 

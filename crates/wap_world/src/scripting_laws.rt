@@ -12,7 +12,7 @@ ghost use Rattle.wap_execution.specs.Running.{resumed};
 ghost use Rattle.wap_execution.specs.laws.Settings.{uncounted};
 ghost use Rattle.wap_world.specs.Shelves.{Shelf, Entrance, script_page};
 ghost use Rattle.wap_world.specs.Sites.{Call, failed};
-ghost use Rattle.wap_world.specs.Steps.{Step, still, quiet, joined};
+ghost use Rattle.wap_world.specs.Steps.{Step, still, quiet, then_step};
 ghost use Rattle.wap_world.specs.Access.{may_enter};
 ghost use Rattle.wap_world.specs.Urls.{target_of};
 ghost use Rattle.wap_world.specs.Requests.{plain_get, request_line};
@@ -45,7 +45,7 @@ pub fn keys_play_in_parts()
     ensures { (call : List ℕ → Option Call) (pages : Pages) (state : State) (keys : List Key)
         (feds : List Fed) → AreFed call pages state keys feds → (others : List Key)
         → played_from call pages state (keys ++ others)
-        ≡ joined (all_fed state feds) (played_from call pages (last_fed state feds) others) }
+        ≡ then_step (all_fed state feds) (played_from call pages (last_fed state feds) others) }
 {}
 
 /// Whatever scripts do, they give no turns back, make no keys, keep the history to its limit and

@@ -19,7 +19,7 @@ use Rattle.wap_keys.proofs.FaultLaws.{ended_counts}
 use Rattle.wap_world.specs.site.Pages.{Pages as JudgedPages}
 use Rattle.wap_world.specs.site.Asking.{Stays}
 use Rattle.wap_world.proofs.SiteLemmas.Asking.{Stays-same, Stays-then}
-use Rattle.wap_world.specs.Steps.{Step, joined}
+use Rattle.wap_world.specs.Steps.{Step, then_step}
 use Rattle.wap_world.specs.scripting.UnitSites.{unit_pages}
 use Rattle.wap_world.specs.scripting.Waiting.{Waits}
 use Rattle.wap_context.specs.Missing.{Missed}
@@ -262,7 +262,7 @@ ended_rests play old now reader after state source ending reaches answers done =
             world = world_there pages (play pages) given state stands.on;
             over = stands.over;
             on = λ others. stands.on others
-                ∙ ap (λ (s : Step). joined s (step_of pages others state))
+                ∙ ap (λ (s : Step). then_step s (step_of pages others state))
                 (left_closed (play pages given) closed);
             unpushed = stands.unpushed;
           })));

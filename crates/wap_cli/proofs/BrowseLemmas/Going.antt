@@ -15,7 +15,7 @@ use Rattle.wap_world.specs.site.Pages.{Pages as JudgedPages}
 use Rattle.wap_world.specs.site.Misses.{Asked}
 use Rattle.wap_world.specs.site.Asking.{Stays, Asks}
 use Rattle.wap_world.proofs.SiteLemmas.Asking.{Asks-nil, Asks-then, Stays-same, Stays-then}
-use Rattle.wap_world.specs.Steps.{Step, joined, quiet, still}
+use Rattle.wap_world.specs.Steps.{Step, then_step, quiet, still}
 use Rattle.wap_world.specs.Sessions.{Begun, world_of}
 use Rattle.wap_world.proofs.Joining.{joined_assoc}
 use Rattle.wap_world.specs.scripting.UnitSites.{Pages, shelf_of, unit_pages}
@@ -53,7 +53,7 @@ pub record Nears (pages : Pages) (play : List Key → Step) (given : List Key) (
   pub lines : first_lines play given (length given) ≡ bytes_of before
   pub asked : first_asked play given (length given) ≡ before.asked
   pub on : (others : List Key) → play (given ++ others)
-      ≡ joined (left_open before) (step_of pages (key ∷ others) state)
+      ≡ then_step (left_open before) (step_of pages (key ∷ others) state)
   pub asks : Asks before.asked old.pages now.pages
   pub wrote : Appends old.sink.written now.sink.written (bytes_of before)
   pub unpushed : HaveNoPush given → IsNoPush key × (state.winners ≡ [])
@@ -147,20 +147,20 @@ step_known judged play given key old now state Fact known stays nears fact =
 module _ (pages : Pages) (play : List Key → Step) (given : List Key) (key : Key) (old now : Moved)
     (state : State) (nears : Nears pages play given key old now state) where
   -- what all that was given comes to with it
-  pub whole : play given ≡ joined (left_open nears.before) (step_of pages (key ∷ []) state)
+  pub whole : play given ≡ then_step (left_open nears.before) (step_of pages (key ∷ []) state)
   whole = ap play (sym (append-nil given)) ∙ nears.on []
 
   -- and with further keys, where it leads to another handset
   pub beyond : (new : State) (others : List Key)
       → step_of pages (key ∷ others) state
-      ≡ joined (left_open (step_of pages (key ∷ []) state)) (step_of pages others new)
-      → play (given ++ others) ≡ joined (left_open (play given)) (step_of pages others new)
+      ≡ then_step (left_open (step_of pages (key ∷ []) state)) (step_of pages others new)
+      → play (given ++ others) ≡ then_step (left_open (play given)) (step_of pages others new)
   beyond new others leads =
       let one = step_of pages (key ∷ []) state in
       nears.on others
-      ∙ ap (joined (left_open nears.before)) leads
+      ∙ ap (then_step (left_open nears.before)) leads
       ∙ sym (joined_assoc (left_open nears.before) (left_open one) (step_of pages others new))
-      ∙ sym (ap (λ (s : Step). joined (left_open s) (step_of pages others new)) whole)
+      ∙ sym (ap (λ (s : Step). then_step (left_open s) (step_of pages others new)) whole)
 
   -- one key further
   pub stands_after : (new : Moment) → Leads pages key (moment_of now state) new

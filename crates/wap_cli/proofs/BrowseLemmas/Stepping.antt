@@ -6,7 +6,7 @@ use Rattle.std.proofs.lemmas.Grind.{flat_map-append}
 use Rattle.wap_base.specs.Controls.{shown_text}
 use Rattle.wap_base.specs.declared.key.Key.{Key}
 use Rattle.wap_layout.specs.buffer.Written.{line_bytes, lines_bytes}
-use Rattle.wap_world.specs.Steps.{Step, joined}
+use Rattle.wap_world.specs.Steps.{Step, then_step}
 use Rattle.wap_world.specs.scripting.UnitSites.{Pages}
 use Rattle.wap_session.specs.Feeding.{left_open}
 use Rattle.wap_session.specs.handset.Feeding.{State, step_of}
@@ -24,12 +24,12 @@ lines_bytes-append first others =
     ∙ flat_map-append line_bytes (map shown_text first) (map shown_text others)
 
 -- the bytes of two steps
-pub bytes_joined : (all one two : Step) → all ≡ joined (left_open one) two
+pub bytes_joined : (all one two : Step) → all ≡ then_step (left_open one) two
     → bytes_of all ≡ bytes_of one ++ bytes_of two
 bytes_joined all one two is = ap bytes_of is ∙ lines_bytes-append one.lines two.lines
 
 -- and what they ask for
-pub asked_joined : (all one two : Step) → all ≡ joined (left_open one) two
+pub asked_joined : (all one two : Step) → all ≡ then_step (left_open one) two
     → all.asked ≡ one.asked ++ two.asked
 asked_joined all one two is = ap (λ (s : Step). s.asked) is
 
@@ -37,7 +37,7 @@ asked_joined all one two is = ap (λ (s : Step). s.asked) is
 
 module _ (pages : Pages) (play : List Key → Step) (given : List Key) (state : State)
     (on : (others : List Key) → play (given ++ others)
-    ≡ joined (left_open (play given)) (step_of pages others state)) where
+    ≡ then_step (left_open (play given)) (step_of pages others state)) where
   -- a dialog is open exactly where a script waits
   pub open_there : (play given).is_open ≡ is_some state.waiting
   open_there =

@@ -14,7 +14,7 @@ use Rattle.wap_cli.specs.declared.status.Status.TheVariants.{KeyReadFault, Write
 use Rattle.wap_cli.specs.declared.status.Status.TheVariants.{BadKey, OpenDialog, TooManyKeys}
 use Rattle.wap_cli.specs.Statuses.{IsOrWants}
 use Rattle.wap_cli.specs.browse.Outside.{Outside}
-use Rattle.wap_cli.specs.browse.Plays.{Play, ArePagesOf}
+use Rattle.wap_cli.specs.browse.Plays.{Play, AreUnitPages}
 use Rattle.wap_cli.specs.browse.Handling.{IsPlayed}
 use Rattle.wap_cli.specs.browse.Endings.{at_end, ended}
 use Rattle.wap_cli.specs.browse.Headline.{NothingFails, Shows, Reads, BrowsesSeen}
@@ -165,7 +165,7 @@ shows_by all play bytes old new status so gives written =
 -- what was read
 reads_by : (play : Play) (bytes : List ℕ) (old new : Outside) (status : Status)
     → BrowsesTo play old new status → Gives play bytes old new status
-    → Reads (ArePagesOf old.pages) play bytes old new status
+    → Reads (AreUnitPages old.pages) play bytes old new status
 reads_by play bytes old new status so gives =
     let at : (other : Status) → status ≡ other
     → EndsSo other old.source new.source bytes gives.taken gives.rest gives.given =
@@ -210,7 +210,7 @@ browses_by play old new status so =
     so.store in
     record {
       known = if_some old.source.left
-          (λ bytes. Reads (ArePagesOf old.pages) play bytes old new status)
+          (λ bytes. Reads (AreUnitPages old.pages) play bytes old new status)
           (λ bytes is. reads_by play bytes old new status so
           (some_fact old.source.left (λ b. Gives play b old new status) bytes is so.known));
       store_fault = λ is. store StoreFault is;

@@ -30,7 +30,7 @@ use Rattle.wap_cli.specs.Statuses.{IsOrWants}
 use Rattle.wap_cli.specs.prepare.Working.{WorksOnAll, IsOfFolder, AsksWithin}
 use Rattle.wap_cli.specs.prepare.Writing.{PutsTo}
 use Rattle.wap_cli.specs.replay.Outside.{Outside}
-use Rattle.wap_cli.specs.replay.Texts.{replayed, site_over}
+use Rattle.wap_cli.specs.replay.Texts.{replayed, site_of_store}
 use Rattle.wap_cli.specs.replay.Headline.{ended, AllRead, IsSiteOf, ReplaysSeen}
 use Rattle.wap_cli.specs.replay.inside.Jobs.{TellsOf}
 
@@ -266,7 +266,7 @@ tells_both begun store left lists Wrote same told site (contents, known, is) = b
     over =
         subst (λ (s : Site). Wrote (replayed s begun lists)) (sym is)
         (subst (λ (c : Option Contents).
-        IfSome c (λ pages. Wrote (replayed (site_over pages) begun lists))) known told)
+        IfSome c (λ pages. Wrote (replayed (site_of_store pages) begun lists))) known told)
 
     by : (left : Option (List ℕ)) → IfSome left (λ bytes. all_of (lists_of bytes) ≡ lists)
         → IfSome left (λ bytes. Wrote (replayed site begun (all_of (lists_of bytes))))

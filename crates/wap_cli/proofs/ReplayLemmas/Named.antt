@@ -22,7 +22,7 @@ use Rattle.wap_world.specs.Sites.{Site}
 use Rattle.wap_world.specs.Sessions.{Begun}
 use Rattle.wap_world.specs.scripting.UnitSites.{unit_page, unit_pages}
 use Rattle.wap_context.specs.Sites.{site_of}
-use Rattle.wap_cli.specs.replay.Texts.{replayed, site_over}
+use Rattle.wap_cli.specs.replay.Texts.{replayed, site_of_store}
 use Rattle.wap_cli.specs.replay.inside.Jobs.{is_there, pages_named, TellsOf}
 use Rattle.wap_cli.proofs.ReplayLemmas.Sites.{same_site}
 
@@ -119,7 +119,7 @@ module _ (found : (name bytes : List ℕ) → page_of_bytes name bytes ≢ page.
       ∙ sym (under_judged name contents)
 
   -- they are the site of the contents
-  pub named_site : site_of (unit_pages (pages_named contents names)) ≡ site_over contents
+  pub named_site : site_of (unit_pages (pages_named contents names)) ≡ site_of_store contents
   named_site =
       same_site (unit_pages (pages_named contents names)) (unit_pages (judged contents)) (λ name.
       lookup-map_values unit_page (λ other. is_same_text other name) (pages_named contents names)

@@ -20,7 +20,7 @@ use Rattle.wap_state.specs.Saved.{parts_of}
 use Rattle.wap_cli.specs.declared.status.Status.{Status}
 use Rattle.wap_cli.specs.declared.status.Status.TheVariants.{Refused, NoMemory}
 use Rattle.wap_cli.specs.browse.Outside.{Outside}
-use Rattle.wap_cli.specs.browse.Plays.{ArePagesOf, opened}
+use Rattle.wap_cli.specs.browse.Plays.{AreUnitPages, opened}
 use Rattle.wap_cli.specs.browse.Headline.{BrowsesSeen}
 use Rattle.wap_cli.proofs.MemoryLemmas.Pages.{hinders_remember}
 use Rattle.wap_cli.proofs.BrowseLemmas.Exits.{nothing_browses}
@@ -204,7 +204,7 @@ forget_images : (begun : Begun) (old new : Outside) (status : Status) (cache : O
     → ImagesSeen begun old (record new { pages = record new.pages { cache = cache } }) status
 forget_images begun old new status cache same so = record {
   end = so.end;
-  plays = forget_cache (ArePagesOf old.pages) (opened begun) (unshown old) (unshown new) so.end
+  plays = forget_cache (AreUnitPages old.pages) (opened begun) (unshown old) (unshown new) so.end
       cache same so.plays;
   stops = so.stops;
   parts = so.parts;

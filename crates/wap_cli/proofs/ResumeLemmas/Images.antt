@@ -16,7 +16,7 @@ use Rattle.wap_image.specs.Spelling.{spelling}
 use Rattle.wap_pages.specs.declared.fault.PageFault.{PageFault}
 use Rattle.wap_pages.specs.declared.fault.PageFault.TheVariants.{Save}
 use Rattle.wap_world.specs.World.{World}
-use Rattle.wap_world.specs.Steps.{joined}
+use Rattle.wap_world.specs.Steps.{then_step}
 use Rattle.wap_world.specs.Sessions.{Begun, world_of}
 use Rattle.wap_world.specs.site.Pages.{Pages as JudgedPages}
 use Rattle.wap_world.specs.scripting.UnitSites.{Pages, unit_pages}
@@ -36,7 +36,7 @@ use Rattle.wap_cli.specs.saving.Saving.{image_of}
 use Rattle.wap_cli.specs.declared.status.Status.{Status}
 use Rattle.wap_cli.specs.declared.status.Status.TheVariants.{Done, Refused, WriteFault, NoMemory}
 use Rattle.wap_cli.specs.browse.Outside.{Outside}
-use Rattle.wap_cli.specs.browse.Plays.{ArePagesOf, opened}
+use Rattle.wap_cli.specs.browse.Plays.{AreUnitPages, opened}
 use Rattle.wap_cli.specs.browse.Resting.{StandsAfter, Rests}
 use Rattle.wap_cli.proofs.BrowseLemmas.Optional.{if_some, some_fact}
 use Rattle.wap_cli.specs.browse.Headline.{BrowsesSeen}
@@ -133,7 +133,7 @@ step_closed pages others state is none =
 
 -- it stands where these keys lead over the pages that are seen
 stands_there : (begun : Begun) (old : Outside) (state : State) → Rests (opened begun) old state
-    → (bytes : List ℕ) → old.source.left ≡ Some bytes → (pages : Pages) → ArePagesOf old.pages pages
+    → (bytes : List ℕ) → old.source.left ≡ Some bytes → (pages : Pages) → AreUnitPages old.pages pages
     → StandsAfter pages (opened begun pages) (keys_of bytes).keys state
 stands_there begun old state rests bytes known pages (judged, there, are) =
     let keys = (keys_of bytes).keys in
@@ -147,10 +147,10 @@ stands_there begun old state rests bytes known pages (judged, there, are) =
 
 -- the parts of the session are those of the world in which the keys end
 pub ends_in : (begun : Begun) (old : Outside) (state : State) → Rests (opened begun) old state
-    → IfSome old.source.left (λ bytes. (pages : Pages) → ArePagesOf old.pages pages
+    → IfSome old.source.left (λ bytes. (pages : Pages) → AreUnitPages old.pages pages
     → EndsIn begun pages (keys_of bytes).keys (parts_of state.browser.world))
 ends_in begun old state rests = if_some old.source.left
-    (λ bytes. (pages : Pages) → ArePagesOf old.pages pages
+    (λ bytes. (pages : Pages) → AreUnitPages old.pages pages
     → EndsIn begun pages (keys_of bytes).keys (parts_of state.browser.world))
     (λ bytes known pages are.
     let keys = (keys_of bytes).keys in
@@ -159,7 +159,7 @@ ends_in begun old state rests = if_some old.source.left
       parts_are = ap (λ (w : World). parts_of w) stands.world;
       outside = stands.outside;
       on = λ none others. stands.on others
-          ∙ ap (joined (opened begun pages keys))
+          ∙ ap (then_step (opened begun pages keys))
           (step_closed pages others state rests.waiting (stands.unpushed none)
           ∙ ap (λ (w : World). played_in w pages others) stands.world);
     })
@@ -167,10 +167,10 @@ ends_in begun old state rests = if_some old.source.left
 -- and are all of that world
 whole_in : (begun : Begun) (old : Outside) (state : State) → Rests (opened begun) old state
     → IsWhole (parts_of state.browser.world) state.browser.world
-    → IfSome old.source.left (λ bytes. (pages : Pages) → ArePagesOf old.pages pages
+    → IfSome old.source.left (λ bytes. (pages : Pages) → AreUnitPages old.pages pages
     → IsWhole (parts_of state.browser.world) (opened begun pages (keys_of bytes).keys).world)
 whole_in begun old state rests whole = if_some old.source.left
-    (λ bytes. (pages : Pages) → ArePagesOf old.pages pages
+    (λ bytes. (pages : Pages) → AreUnitPages old.pages pages
     → IsWhole (parts_of state.browser.world) (opened begun pages (keys_of bytes).keys).world)
     (λ bytes known pages are.
     subst (λ (w : World). IsWhole (parts_of state.browser.world) w)

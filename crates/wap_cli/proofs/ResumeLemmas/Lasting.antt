@@ -11,7 +11,7 @@ use Rattle.wap_image.specs.declared.context_parts.parts.ContextParts.{ContextPar
 use Rattle.wap_world.specs.Shelves.{Shelf}
 use Rattle.wap_world.specs.World.{World}
 use Rattle.wap_layout.specs.buffer.Written.{lines_bytes}
-use Rattle.wap_world.specs.Steps.{joined}
+use Rattle.wap_world.specs.Steps.{then_step}
 use Rattle.wap_world.specs.Sites.{Site}
 use Rattle.wap_world.specs.Keys.{react}
 use Rattle.wap_world.specs.Sessions.{Begun, world_of}
@@ -157,7 +157,7 @@ goes_on begun pages first others parts ends whole none cards =
     let more = played_in step.world pages others in
     let back = leads_back begun pages first parts ends whole cards in
     ap bytes_of (ends.on none others)
-    ∙ bytes_joined (joined (left_open step) more) step more refl
+    ∙ bytes_joined (then_step (left_open step) more) step more refl
     ∙ ap (λ (lines : List (List ℕ)). bytes_of step ++ lines_bytes (map shown_text lines))
     (sym (same_lines pages others step.world begun.budget)
     ∙ ap (λ (w : World). (played_in w pages others).lines)

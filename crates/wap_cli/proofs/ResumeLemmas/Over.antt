@@ -25,7 +25,7 @@ use Rattle.wap_session.specs.handset.Feeding.{State, with_session}
 use Rattle.wap_cli.specs.declared.status.Status.{Status}
 use Rattle.wap_cli.specs.declared.status.Status.TheVariants.{Refused, NoMemory}
 use Rattle.wap_cli.specs.browse.Outside.{Outside}
-use Rattle.wap_cli.specs.browse.Plays.{Play, ArePagesOf}
+use Rattle.wap_cli.specs.browse.Plays.{Play, AreUnitPages}
 use Rattle.wap_cli.specs.browse.Headline.{BrowsesSeen}
 use Rattle.wap_cli.specs.browse.Standing.{Moved, outside_of, Browsed}
 use Rattle.wap_cli.proofs.BrowseLemmas.Forgetting.{fresh_over, outside_over, forget_cache}
@@ -115,7 +115,7 @@ module _ {S : Type 0} (seen : S → StoreSeen) (saved : Saved) (first : CachedPa
       subst (λ (s : S). Comes s source_after sink_after status) (sym is)
       (inl (
         has_deck saved.0 saved.1 (seen store).contents browser are there.is,
-        forget_cache (ArePagesOf before) play old
+        forget_cache (AreUnitPages before) play old
             (outside_over seen last source_after sink_after) status (Some (fresh capacity)) refl
             (plays play from browsed),
       ))

@@ -25,7 +25,7 @@ use Rattle.wap_pages.proofs.Judgements.{page_of-judged, page_there, page_deck, d
 use Rattle.wap_world.specs.declared.history.Entry.{Entry}
 use Rattle.wap_world.specs.Shelves.{Shelf}
 use Rattle.wap_world.specs.World.{World, last_entry, deck_at, deck_in}
-use Rattle.wap_world.specs.Steps.{Step, joined, quiet, still}
+use Rattle.wap_world.specs.Steps.{Step, then_step, quiet, still}
 use Rattle.wap_world.specs.scripting.UnitSites.{Pages, shelf_of, unit_pages, units_site}
 use Rattle.wap_context.specs.host.Finding.{shelved_page}
 use Rattle.wap_context.proofs.HostLemmas.Shelves.{shelved_is}
@@ -172,10 +172,10 @@ stands_by parts turns pages old now state over alone empty world asks unwritten 
     subst (λ (play : List Key → Step). Stands pages play [] old now state) same (record {
       over = over;
       on = λ others.
-          sym (ap (λ (s : Step). joined
+          sym (ap (λ (s : Step). then_step
           (left_open (record s { asked = asked_for parts ++ s.asked }))
           (step_of pages others state)) none
-          ∙ ap (joined (left_open (record (quiet [] (still state.browser.world)) {
+          ∙ ap (then_step (left_open (record (quiet [] (still state.browser.world)) {
             asked = asked_for parts ++ [];
           }))) (step_closed pages others state alone empty)
           ∙ ap (λ (asked : List Asked).

@@ -42,7 +42,7 @@ use Rattle.wap_world.specs.Steps.{Scene, Step, Once, Next, then_task, still, qui
 use Rattle.wap_world.specs.Access.{entrance_of}
 use Rattle.wap_world.specs.Setting.{set_variables}
 use Rattle.wap_world.specs.History.{pushed, earlier_entry, in_deck, back_at, entry_of}
-use Rattle.wap_world.specs.Timers.{started as started_in, store_under, store_left}
+use Rattle.wap_world.specs.Timers.{timer_started as started_in, store_under, store_left}
 use Rattle.wap_world.specs.Timers.{end_timer, settled_timer}
 use Rattle.wap_world.specs.Screens.{at_place, show_place, show, show_screen}
 use Rattle.wap_world.specs.Screens.{screen_lines, apply_defaults}
@@ -50,9 +50,9 @@ use Rattle.wap_world.specs.Entering.{leave, leave_place, entered as entered_by, 
 use Rattle.wap_world.specs.Urls.{target_of, is_same_page}
 use Rattle.wap_world.specs.Requests.{Request, answer_to, test_of, request_of, plain_get}
 use Rattle.wap_world.specs.Starting.{not_started, in_world, or_show, rest, end_done, end_by}
-use Rattle.wap_world.specs.Starting.{prepared, is_too_long, started, start_external}
+use Rattle.wap_world.specs.Starting.{prepared, is_too_long, external_started, start_external}
 use Rattle.wap_world.specs.Starting.{start_call, start_if}
-use Rattle.wap_world.specs.Tasks.{refused, leave_and_set, with_url, with_turn, in_context, is_new_context, card_for, arrive, arrive_if, answered, request, is_here, here_with, stay_or_ask, go, open_url, return, returned, ask_back, card_here, back_from, back_to, prev, refresh_place, refresh, url_now, base_now, task_by, task_once, go_on, act_in, act, visit}
+use Rattle.wap_world.specs.Tasks.{refusing, leave_and_set, with_url, with_turn, in_context, is_new_context, card_for, arrive, arrive_if, answered, request, is_here, here_with, stay_or_ask, go, open_url, return, returned, ask_back, card_here, back_from, back_to, prev, refresh_place, refresh, url_now, base_now, task_by, task_once, go_on, act_in, act, visit}
 use Rattle.wap_world.specs.Keys.{ignored, act_or, after_text, type_text, after_choice}
 use Rattle.wap_world.specs.Keys.{choose_option, expire, pass_time, at_card, apply, renewed, react}
 use Rattle.wap_world.specs.Timers.{timer_from}
@@ -145,7 +145,7 @@ module _ (shelf : Shelf) where
   -- ---- navigations
 
   refused_moves : (keys : List Key) (why : Refusal) (w : World)
-      → Moves w (refused shelf keys why w)
+      → Moves w (refusing shelf keys why w)
   refused_moves keys why w rest shut = show_goes w rest
 
   url_moves : (keys : List Key) (w : World) (next : Url → Once) (r : Result Url Refusal)
@@ -301,7 +301,7 @@ module _ (site : Site) where
 
   started_moves : (keys : List Key) (sets : Pairs) (caller : Option Url) (url : Url) (w : World)
       (index : ℕ) (arguments : List Value)
-      → Moves w (started site keys sets caller url w index arguments)
+      → Moves w (external_started site keys sets caller url w index arguments)
   started_moves keys sets caller url w index arguments rest shut =
       let base = without_fragment url in
       let set = set_variables sets w in
@@ -319,7 +319,7 @@ module _ (site : Site) where
     where
       by : (b c : Bool) → Moves w (cond b (cond c
           (not_started site.shelf keys fatal.TooLong w)
-          (started site keys sets caller url w one.index arguments))
+          (external_started site keys sets caller url w one.index arguments))
           (not_started site.shelf keys fatal.Arguments w))
       by true true = λ rest shut. shows w rest
       by true false = started_moves keys sets caller url w one.index arguments

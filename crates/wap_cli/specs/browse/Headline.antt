@@ -22,7 +22,7 @@ use Rattle.wap_cli.specs.declared.status.Status.TheVariants.{KeyReadFault, Write
 use Rattle.wap_cli.specs.declared.status.Status.TheVariants.{BadKey, TooManyKeys}
 use Rattle.wap_cli.specs.Statuses.{IsOrWants}
 use Rattle.wap_cli.specs.browse.Outside.{Outside}
-use Rattle.wap_cli.specs.browse.Plays.{Play, ArePagesOf}
+use Rattle.wap_cli.specs.browse.Plays.{Play, AreUnitPages}
 use Rattle.wap_cli.specs.browse.Handling.{bytes_of, IsPlayed}
 use Rattle.wap_cli.specs.browse.Stopping.{StopsAtStore, StopsAtSink, StopsForMemory}
 use Rattle.wap_cli.specs.browse.Endings.{at_end, ended}
@@ -120,4 +120,4 @@ pub record Browses {P : Type 0} (Are : P → Type 0) (play : P → List Key → 
 
 -- the same over the pages that are seen
 abbrev pub BrowsesSeen : Play → Outside → Outside → Status → Type 0
-BrowsesSeen play old new status = Browses (ArePagesOf old.pages) play old new status
+BrowsesSeen play old new status = Browses (AreUnitPages old.pages) play old new status

@@ -17,8 +17,8 @@ abbrev pub Play : Type 0
 Play = Pages → List Key → Step
 
 -- the pages are those that are seen, where these are known
-abbrev pub ArePagesOf : Seen → Pages → Type 0
-ArePagesOf seen pages =
+abbrev pub AreUnitPages : Seen → Pages → Type 0
+AreUnitPages seen pages =
     (judged : JudgedPages) × (seen.contents ≡ Some judged) × (pages ≡ unit_pages judged)
 
 -- where a session with an inbox begins so: its URL is opened before they are played

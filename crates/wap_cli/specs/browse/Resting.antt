@@ -2,7 +2,7 @@
 use Rattle.std.specs.Prelude.{◌≡◌, false, List, [], ◌++◌, None, IfSome}
 use Rattle.wap_base.specs.declared.key.Key.{Key}
 use Rattle.wap_keys.specs.Lines.{keys_of}
-use Rattle.wap_world.specs.Steps.{Step, joined}
+use Rattle.wap_world.specs.Steps.{Step, then_step}
 use Rattle.wap_world.specs.scripting.UnitSites.{Pages, shelf_of, unit_pages}
 use Rattle.wap_context.specs.Browsers.{IsOver}
 use Rattle.wap_session.specs.handset.Feeding.{State, step_of}
@@ -17,7 +17,7 @@ pub record StandsAfter (pages : Pages) (play : List Key → Step) (keys : List K
   pub over : IsOver (shelf_of pages) handset.browser
   -- and further keys go on from there
   pub on : (others : List Key) → play (keys ++ others)
-      ≡ joined (play keys) (step_of pages others handset)
+      ≡ then_step (play keys) (step_of pages others handset)
   -- where none of the keys is a push, its inbox is as in the beginning
   pub unpushed : HaveNoPush keys → handset.winners ≡ []
 

@@ -5,7 +5,7 @@ use Rattle.wap_devices.specs.Sources.{SourceSeen}
 use Rattle.wap_devices.specs.Sinks.{SinkSeen}
 use Rattle.wap_base.specs.declared.key.Key.{Key}
 use Rattle.wap_world.specs.site.Asking.{Seen, Stays, Asks}
-use Rattle.wap_world.specs.Steps.{Step, joined}
+use Rattle.wap_world.specs.Steps.{Step, then_step}
 use Rattle.wap_world.specs.scripting.UnitSites.{Pages, shelf_of, unit_pages}
 use Rattle.wap_context.specs.Browsers.{IsOver}
 use Rattle.wap_session.specs.Feeding.{left_open}
@@ -32,7 +32,7 @@ pub record Stands (pages : Pages) (play : List Key → Step) (given : List Key) 
   pub over : IsOver (shelf_of pages) state.browser
   -- further keys go on from there
   pub on : (others : List Key) → play (given ++ others)
-      ≡ joined (left_open (play given)) (step_of pages others state)
+      ≡ then_step (left_open (play given)) (step_of pages others state)
   pub asks : Asks (play given).asked old.pages now.pages
   pub wrote : Appends old.sink.written now.sink.written (bytes_of (play given))
   -- and where none of these is a push, the inbox is as in the beginning

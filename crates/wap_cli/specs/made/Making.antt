@@ -20,7 +20,7 @@ use Rattle.wap_keys.specs.declared.words.numbers.TheConstants.{DEFAULT_SEED, DEF
 use Rattle.wap_world.specs.Sites.{Site}
 use Rattle.wap_world.specs.Sessions.{Begun, session, shown_by}
 use Rattle.wap_site_laws.specs.pages.SourcePages.{ArePages}
-use Rattle.wap_cli.specs.Browsing.{PagesAndCalls, site_over}
+use Rattle.wap_cli.specs.Browsing.{PagesAndCalls, source_site}
 use Rattle.wap_cli.specs.Calls.{ReadsCalls}
 use Rattle.wap_cli.specs.declared.status.Status.{Status}
 use Rattle.wap_cli.specs.declared.status.Status.TheVariants.{Done, WriteFault, NoMemory}
@@ -105,7 +105,8 @@ made_report n site =
 
 -- what there is to be written, by whatever pages the folder is
 abbrev pub TellsMade : ℕ → (List ℕ → Type 0) → Type 0
-TellsMade n Wrote = (one : PagesAndCalls) → AreMade n one → Wrote (made_report n (site_over one))
+TellsMade n Wrote =
+    (one : PagesAndCalls) → AreMade n one → Wrote (made_report n (source_site one))
 
 -- the sink, before and after, and how it ended
 pub record Makes (n : ℕ) (sink sink_after : SinkSeen) (status : Status) : Type 0 where

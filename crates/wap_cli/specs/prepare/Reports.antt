@@ -46,15 +46,15 @@ pub record AreEntries (contents : Option Contents) (entries : List Entry) : Type
 -- ---- how it is written
 
 -- what a page of a kind is called
-abbrev pub word_of : Kind → List ℕ
-word_of kind.Source = codes "source"
-word_of kind.Unit = codes "unit"
-word_of kind.Words = codes "text"
-word_of kind.Deck = codes "deck"
+abbrev pub name_of_kind : Kind → List ℕ
+name_of_kind kind.Source = codes "source"
+name_of_kind kind.Unit = codes "unit"
+name_of_kind kind.Words = codes "text"
+name_of_kind kind.Deck = codes "deck"
 
 -- what the page of a name is read as, which its end says
 abbrev pub kind_word : List ℕ → List ℕ
-kind_word name = word_of (kind_of name)
+kind_word name = name_of_kind (kind_of name)
 
 abbrev pub verdict_text : Option PageFault → List ℕ
 verdict_text None = codes "ok"

@@ -24,7 +24,7 @@ use Rattle.wap_cli.specs.Statuses.{IsOrWants}
 use Rattle.wap_cli.specs.prepare.Working.{AsksWithin}
 use Rattle.wap_cli.specs.browse.Endings as endings
 use Rattle.wap_cli.specs.replay.Outside.{Outside}
-use Rattle.wap_cli.specs.replay.Texts.{replayed, site_over}
+use Rattle.wap_cli.specs.replay.Texts.{replayed, site_of_store}
 
 -- the status where keys came to this end: a dialog that is open then is no fault
 abbrev pub ended : Ending → Status
@@ -115,7 +115,7 @@ pub record Replays (IsSite : Site → Type 0) (begun : Begun) (old new : Outside
 -- the site of the judged pages of a store, where these are known
 abbrev pub IsSiteOf : StoreSeen → Site → Type 0
 IsSiteOf store site =
-    (contents : Contents) × (store.contents ≡ Some contents) × (site ≡ site_over contents)
+    (contents : Contents) × (store.contents ≡ Some contents) × (site ≡ site_of_store contents)
 
 -- the same over the pages that the store has, as they are judged
 abbrev pub ReplaysSeen : Begun → Outside → Outside → Status → Type 0

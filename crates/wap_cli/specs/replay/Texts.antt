@@ -36,5 +36,5 @@ abbrev pub replayed : Site → Begun → List (List Key) → List ℕ
 replayed site begun lists = flat_map (list_text site begun) (enumerate_from 1 lists)
 
 -- the site of the pages of a store
-abbrev pub site_over : Contents → Site
-site_over contents = site_of (unit_pages (judged contents))
+abbrev pub site_of_store : Contents → Site
+site_of_store contents = site_of (unit_pages (judged contents))

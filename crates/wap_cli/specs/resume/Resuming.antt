@@ -30,7 +30,7 @@ use Rattle.wap_cli.specs.declared.status.Status.TheVariants.{Done, Usage, Refuse
 use Rattle.wap_cli.specs.declared.status.Status.TheVariants.{KeyReadFault, WriteFault, NoMemory}
 use Rattle.wap_cli.specs.declared.status.Status.TheVariants.{BadKey, OpenDialog, TooManyKeys}
 use Rattle.wap_cli.specs.browse.Outside.{Outside}
-use Rattle.wap_cli.specs.browse.Plays.{Play, ArePagesOf}
+use Rattle.wap_cli.specs.browse.Plays.{Play, AreUnitPages}
 use Rattle.wap_cli.specs.browse.Headline.{Browses}
 use Rattle.wap_cli.specs.resume.Saving.{played_at}
 
@@ -162,4 +162,4 @@ pub record Resumes {P : Type 0} (Are : P → Type 0) (site : P → Site) (name :
 
 -- the same over the pages that are seen
 abbrev pub ResumesSeen : List ℕ → Outside → Outside → Status → Type 0
-ResumesSeen name old new status = Resumes (ArePagesOf old.pages) site_of name old new status
+ResumesSeen name old new status = Resumes (AreUnitPages old.pages) site_of name old new status

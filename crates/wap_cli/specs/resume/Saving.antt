@@ -14,7 +14,7 @@ use Rattle.wap_image.specs.declared.context_parts.parts.ContextParts.{ContextPar
 use Rattle.wap_pages.specs.declared.fault.PageFault.{PageFault}
 use Rattle.wap_pages.specs.declared.fault.PageFault.TheVariants.{Save}
 use Rattle.wap_world.specs.World.{World}
-use Rattle.wap_world.specs.Steps.{Step, joined}
+use Rattle.wap_world.specs.Steps.{Step, then_step}
 use Rattle.wap_world.specs.Sites.{Site}
 use Rattle.wap_world.specs.Sessions.{Begun}
 use Rattle.wap_world.specs.scripting.UnitSites.{Pages}
@@ -26,7 +26,7 @@ use Rattle.wap_cli.specs.declared.status.Status.{Status}
 use Rattle.wap_cli.specs.declared.status.Status.TheVariants.{Done, Refused, WriteFault, NoMemory}
 use Rattle.wap_cli.specs.Statuses.{IsOrWants}
 use Rattle.wap_cli.specs.browse.Outside.{Outside}
-use Rattle.wap_cli.specs.browse.Plays.{Play, ArePagesOf, HaveNoPush}
+use Rattle.wap_cli.specs.browse.Plays.{Play, AreUnitPages, HaveNoPush}
 use Rattle.wap_cli.specs.browse.Headline.{Browses}
 
 -- ---- an image
@@ -79,7 +79,7 @@ pub record EndsAt (begun : Begun) (site : Site) (keys : List Key) (parts : Conte
   pub outside : (opened_at begun site keys).is_open ≡ false
   -- and where none of them is a push, further keys go on from there with an empty inbox
   pub on : HaveNoPush keys → (others : List Key) → opened_at begun site (keys ++ others)
-      ≡ joined (opened_at begun site keys)
+      ≡ then_step (opened_at begun site keys)
       (played_at (opened_at begun site keys).world site others)
 
 -- the same over pages
@@ -119,4 +119,4 @@ pub record Images {P : Type 0} (Are : P → Type 0) (site : P → Site) (begun :
 
 -- the same over the pages that are seen
 abbrev pub ImagesSeen : Begun → Outside → Outside → Status → Type 0
-ImagesSeen begun old new status = Images (ArePagesOf old.pages) site_of begun old new status
+ImagesSeen begun old new status = Images (AreUnitPages old.pages) site_of begun old new status

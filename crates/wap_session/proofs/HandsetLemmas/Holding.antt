@@ -6,7 +6,7 @@ use Rattle.wap_push.specs.declared.indication.Indication.{Indication}
 use Rattle.wap_push.specs.Pushes.{push_at}
 use Rattle.wap_world.specs.Sites.{Site}
 use Rattle.wap_world.specs.World.{World}
-use Rattle.wap_world.specs.Steps.{Step, joined, quiet, still}
+use Rattle.wap_world.specs.Steps.{Step, then_step, quiet, still}
 use Rattle.wap_world.proofs.Joining.{joined_assoc}
 use Rattle.wap_world.specs.scripting.UnitSites.{Pages}
 use Rattle.wap_world.specs.scripting.Waiting.{Waits, State as Between, left_over, resumed_step}
@@ -24,7 +24,7 @@ use Rattle.wap_session.specs.handset.inside.Turns.{turned_by}
 
 -- a step before what else is done
 abbrev pub before_all : Step → Stepped → Stepped
-before_all first others = record { step = joined first others.step; pushes = others.pushes }
+before_all first others = record { step = then_step first others.step; pushes = others.pushes }
 
 module _ (pages : Pages) where
   abbrev site : Site
@@ -37,7 +37,7 @@ module _ (pages : Pages) where
   from_alike state a b alike keys =
       let left = left_over fragment_call pages state.waiting keys state.world in
       let rest = plays_alike push_at site left.keys left.world a b alike in
-      record { step = ap (joined left) rest.step; pushes = rest.pushes }
+      record { step = ap (then_step left) rest.step; pushes = rest.pushes }
 
   -- no keys show nothing, and a dialog that waits stays open
   pub none_from : (o : Option Waits) (w : World) (pushes : List Indication)

@@ -12,7 +12,7 @@ use Rattle.wap_world.specs.site.Misses.{Asked}
 use Rattle.wap_world.specs.site.Asking.{Seen, Stays, Asks}
 use Rattle.wap_world.proofs.SiteLemmas.Asking.{Asks-nil, Asks-then, Stays-same, Stays-then}
 use Rattle.std.specs.Prelude.{is_some}
-use Rattle.wap_world.specs.Steps.{Step, joined, quiet, still}
+use Rattle.wap_world.specs.Steps.{Step, then_step, quiet, still}
 use Rattle.wap_world.specs.Sessions.{shown_by}
 use Rattle.wap_world.proofs.Joining.{joined_assoc}
 use Rattle.wap_world.specs.scripting.UnitSites.{Pages, unit_pages}
@@ -50,7 +50,7 @@ pushes_none pages state =
 -- and further keys go on from there
 pub on_none : (pages : Pages) (state : State) → PlaysOn [] pages state state
 on_none pages state others =
-    sym (ap (λ (s : Step). joined (left_open s) (step_of pages others state))
+    sym (ap (λ (s : Step). then_step (left_open s) (step_of pages others state))
     (step_none pages state))
 
 leads_none : (state : State) → HaveWinners state.winners state.winners
@@ -103,9 +103,9 @@ on_more pages done one old now new came on others =
     let second = step_of pages (one ∷ []) now in
     ap (λ (keys : List Key). step_of pages keys old) (append_assoc done (one ∷ []) others)
     ∙ came (one ∷ others)
-    ∙ ap (joined (left_open first)) (on others)
+    ∙ ap (then_step (left_open first)) (on others)
     ∙ sym (joined_assoc (left_open first) (left_open second) (step_of pages others new))
-    ∙ sym (ap (λ (s : Step). joined (left_open s) (step_of pages others new)) (came (one ∷ [])))
+    ∙ sym (ap (λ (s : Step). then_step (left_open s) (step_of pages others new)) (came (one ∷ [])))
 
 -- and the pushes that they take
 takes_more : (pages : Pages) (done : List Key) (one : Key) (old now new : State)

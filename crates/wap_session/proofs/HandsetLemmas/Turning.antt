@@ -8,7 +8,7 @@ use Rattle.wap_push.specs.declared.indication.Indication.{Indication}
 use Rattle.wap_world.specs.site.Pages.{Pages as JudgedPages}
 use Rattle.wap_world.specs.site.Misses.{Asked}
 use Rattle.wap_world.specs.site.Asking.{Seen, Stays, Asks}
-use Rattle.wap_world.specs.Steps.{Step, joined, quiet}
+use Rattle.wap_world.specs.Steps.{Step, then_step, quiet}
 use Rattle.wap_world.specs.Sessions.{shown_by}
 use Rattle.wap_world.specs.Keys.{renewed, ignored, react}
 use Rattle.wap_world.specs.scripting.UnitSites.{Pages, shelf_of, unit_pages}
@@ -80,7 +80,7 @@ module _ (pages : Pages) (one : Key) (old new : State) (s : Step) (taken : List 
       λ i. record { world = sym world i; waiting = new.waiting } in
       record {
         step = ap (λ (x : Stepped). x.step) all
-            ∙ ap (joined (left_open s)) (same.step
+            ∙ ap (then_step (left_open s)) (same.step
             ∙ ap (λ (state : Between). (played_with_from pages (record {
               state = state;
               pushes = new.winners;
@@ -104,7 +104,7 @@ module _ (pages : Pages) (one : Key) (old new : State) (s : Step) (taken : List 
     inbox = subst (λ (x : Stepped). HaveWinners x.pushes new.winners) (sym stepped_is) have;
     tells = tells ∙ sym (ap (λ (x : Stepped). shown_by x.step) stepped_is);
     on = λ others. (further others).step
-        ∙ sym (ap (λ (x : Stepped). joined (left_open x.step) (step_of pages others new))
+        ∙ sym (ap (λ (x : Stepped). then_step (left_open x.step) (step_of pages others new))
         stepped_is);
     takes_on = λ others. (further others).pushes;
   }

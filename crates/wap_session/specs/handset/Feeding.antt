@@ -5,7 +5,7 @@ use Rattle.wap_base.specs.Count.{Rose}
 use Rattle.wap_base.specs.declared.key.Key.{Key}
 use Rattle.wap_push.specs.declared.indication.Indication.{Indication}
 use Rattle.wap_world.specs.site.Asking.{Seen, Stays, Asks}
-use Rattle.wap_world.specs.Steps.{Step, joined}
+use Rattle.wap_world.specs.Steps.{Step, then_step}
 use Rattle.wap_world.specs.Sessions.{shown_by, Begun, world_of}
 use Rattle.wap_world.specs.scripting.UnitSites.{Pages, shelf_of}
 use Rattle.wap_world.specs.scripting.Waiting.{Waits}
@@ -81,7 +81,7 @@ shown_of pages keys state = shown_by (step_of pages keys state)
 -- what further keys come to after these keys is what they come to in the new handset
 abbrev pub PlaysOn : List Key → Pages → State → State → Type 0
 PlaysOn keys pages old new = (others : List Key) → step_of pages (keys ++ others) old
-    ≡ joined (left_open (step_of pages keys old)) (step_of pages others new)
+    ≡ then_step (left_open (step_of pages keys old)) (step_of pages others new)
 
 -- and they leave pushes with the same winners
 abbrev pub TakesOn : List Key → Pages → State → State → Type 0

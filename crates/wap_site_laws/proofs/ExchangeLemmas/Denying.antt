@@ -43,7 +43,7 @@ use Rattle.wap_world.specs.Shelves.{no_page, Entrance}
 use Rattle.wap_world.specs.World.{World, Place, place_now}
 use Rattle.wap_world.specs.Steps.{AccessTest}
 use Rattle.wap_world.specs.Sessions.{played_in, played}
-use Rattle.wap_world.specs.Steps.{Scene, Step, Once, Next, then_task, joined, after_step, still}
+use Rattle.wap_world.specs.Steps.{Scene, Step, Once, Next, then_task, then_step, after_step, still}
 use Rattle.wap_world.specs.Steps.{quiet}
 use Rattle.wap_world.specs.Steps.{followed}
 use Rattle.wap_world.specs.Timers.{end_timer}
@@ -54,7 +54,7 @@ use Rattle.wap_world.specs.Requests.{Request, plain_get, request_of, test_of, an
 use Rattle.wap_world.specs.Setting.{set_variables, fault_lines}
 use Rattle.wap_world.specs.Sites.{External, Call, End, done, failed, unanswered, Ran, Site}
 use Rattle.wap_world.specs.Starting.{in_world, rest, end_done, ended_script, prepared}
-use Rattle.wap_world.specs.Starting.{is_too_long, started, start_external, start_call, start_if}
+use Rattle.wap_world.specs.Starting.{is_too_long, external_started, start_external, start_call, start_if}
 use Rattle.wap_world.specs.Starting.{not_started}
 use Rattle.wap_world.specs.Tasks.{with_url, with_turn, arrive, answered, request, is_here}
 use Rattle.wap_world.specs.Tasks.{here_with, stay_or_ask, go, open_url, base_now, url_now, task_by}
@@ -68,7 +68,7 @@ use Rattle.wap_world.specs.scripting.Hosting.{library_call, hosting}
 use Rattle.wap_world.specs.scripting.Units.{external_in}
 use Rattle.wap_world.specs.scripting.ScriptPages.{script_in}
 use Rattle.wap_world.specs.scripting.UnitSites.{no_unit, end_of, ran_of}
-use Rattle.wap_site_laws.specs.exchange.Denial.{is_entered, DifferWithin, DeniedMatterNot}
+use Rattle.wap_site_laws.specs.exchange.Denial.{is_let_in, DifferWithin, DeniedMatterNot}
 use Rattle.wap_world.proofs.Joining.{joined_nothing}
 use Rattle.wap_world.specs.Access.{may_enter}
 use Rattle.wap_world.proofs.ScriptingLawsLemmas.Plain.{fronted}
@@ -83,7 +83,7 @@ use Rattle.wap_world.proofs.ScriptingLawsLemmas.Plain.{IsPlain, external_plain, 
 module _ (among : List ℕ → Bool) where
   -- one of these names was entered by a test
   abbrev pub Entered : List AccessTest → Type 0
-  Entered tests = is_entered among tests ≡ true
+  Entered tests = is_let_in among tests ≡ true
 
   -- the first of two is so
   or_first : (a b : Bool) → a ≡ true → (a || b) ≡ true
@@ -104,14 +104,14 @@ module _ (among : List ℕ → Bool) where
   pub first : (one other : List AccessTest) → Entered one → Entered (one ++ other)
   first [] other is = absurd (cc)
   first (t ∷ one) other is =
-      or_by (among t.page && t.allowed) (is_entered among one) (is_entered among (one ++ other)) is
+      or_by (among t.page && t.allowed) (is_let_in among one) (is_let_in among (one ++ other)) is
       (λ later. first one other later)
 
   -- tests that come later
   pub second : (one other : List AccessTest) → Entered other → Entered (one ++ other)
   second [] other is = is
   second (t ∷ one) other is =
-      or_second (among t.page && t.allowed) (is_entered among (one ++ other)) (second one other is)
+      or_second (among t.page && t.allowed) (is_let_in among (one ++ other)) (second one other is)
 
   -- a step that entered one of these names
   abbrev pub Lost : Step → Type 0
@@ -122,7 +122,7 @@ module _ (among : List ℕ → Bool) where
       → allowed ≡ true → among name ≡ true
       → Entered (record { page = name; caller = caller; allowed = allowed } ∷ rest_of)
   entered_by name allowed rest_of caller is about =
-      or_first (among name && allowed) (is_entered among rest_of)
+      or_first (among name && allowed) (is_let_in among rest_of)
       (ap (λ (b : Bool). b && allowed) about ∙ is)
 
   -- ---- in scripts
@@ -284,8 +284,8 @@ module _ (among : List ℕ → Bool) where
   OnceAlike a b = (a ≡ b) ⊎ (Lost a.step × Lost b.step)
 
   -- a step before both
-  joined_alike : (step a b : Step) → StepAlike a b → StepAlike (joined step a) (joined step b)
-  joined_alike step a b (inl is) = inl (ap (joined step) is)
+  joined_alike : (step a b : Step) → StepAlike a b → StepAlike (then_step step a) (then_step step b)
+  joined_alike step a b (inl is) = inl (ap (then_step step) is)
   joined_alike step a b (inr lost) =
       inr (second step.tests a.tests lost.0, second step.tests b.tests lost.1)
 
@@ -397,8 +397,8 @@ module _ (among : List ℕ → Bool) where
     -- a script that is started, under another name
     started_alike : (keys : List Key) (sets : Pairs) (caller : Option Url) (url : Url) (w : World)
         (index : ℕ) (arguments : List Value) → among (name_for url) ≡ false
-        → OnceAlike (started site keys sets caller url w index arguments)
-        (started site' keys sets caller url w index arguments)
+        → OnceAlike (external_started site keys sets caller url w index arguments)
+        (external_started site' keys sets caller url w index arguments)
     started_alike keys sets caller url w index arguments outside =
         let set = set_variables sets w in
         let base = without_fragment url in
@@ -417,18 +417,18 @@ module _ (among : List ℕ → Bool) where
         elim (eqb one.arguments (length arguments)) as (λ (b : Bool). OnceAlike (cond b
         (cond (list_any (is_too_long w.limits.string) arguments)
         (not_started shelf keys fatal.TooLong w)
-        (started site keys sets caller url w one.index arguments))
+        (external_started site keys sets caller url w one.index arguments))
         (not_started shelf keys fatal.Arguments w)) (cond b
         (cond (list_any (is_too_long w.limits.string) arguments)
         (not_started shelf keys fatal.TooLong w)
-        (started site' keys sets caller url w one.index arguments))
+        (external_started site' keys sets caller url w one.index arguments))
         (not_started shelf keys fatal.Arguments w))) [
           | true ↦
               elim (list_any (is_too_long w.limits.string) arguments) as (λ (b : Bool). OnceAlike
               (cond b (not_started shelf keys fatal.TooLong w)
-              (started site keys sets caller url w one.index arguments))
+              (external_started site keys sets caller url w one.index arguments))
               (cond b (not_started shelf keys fatal.TooLong w)
-              (started site' keys sets caller url w one.index arguments))) [
+              (external_started site' keys sets caller url w one.index arguments))) [
                 | true ↦ inl refl
                 | false ↦ started_alike keys sets caller url w one.index arguments outside
               ]
@@ -774,7 +774,7 @@ module _ (among : List ℕ → Bool) where
       }
 
       -- what isn't lost is the same
-      unless_lost : (a b : Step) → is_entered among a.tests ≡ false → StepAlike a b → a ≡ b
+      unless_lost : (a b : Step) → is_let_in among a.tests ≡ false → StepAlike a b → a ≡ b
       unless_lost a b none (inl is) = is
       unless_lost a b none (inr lost) = absurd (let l = lost.0 in cc)
 
@@ -795,7 +795,7 @@ module _ (among : List ℕ → Bool) where
 
       -- sessions of both sites
       same_play : (keys : List Key) (w : World)
-          → is_entered among (played (units_site call one) keys w).tests ≡ false
+          → is_let_in among (played (units_site call one) keys w).tests ≡ false
           → played (units_site call one) keys w ≡ played (units_site call other) keys w
       unfolding units_site
       same_play keys w none =

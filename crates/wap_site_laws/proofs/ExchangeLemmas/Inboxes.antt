@@ -9,14 +9,14 @@ use Rattle.wap_push.specs.declared.indication.Indication.{Indication}
 use Rattle.wap_push.specs.declared.fault.PushFault.{PushFault}
 use Rattle.wap_world.specs.World.{World}
 use Rattle.wap_world.specs.Sites.{Site, Call}
-use Rattle.wap_world.specs.Steps.{Step, joined}
+use Rattle.wap_world.specs.Steps.{Step, then_step}
 use Rattle.wap_world.specs.Keys.{renewed, react}
 use Rattle.wap_world.specs.inboxes.Inboxes.{Handset, Stepped, taking_none, url_at, follow}
 use Rattle.wap_world.specs.inboxes.Inboxes.{react_with}
 use Rattle.wap_world.specs.inboxes.Sessions.{after_step, followed_with, played_with_in, played_with}
 use Rattle.wap_world.specs.scripting.UnitSites.{units_site}
 use Rattle.wap_world.specs.scripting.Sources.{LanguageOf, AllPages, Agrees, site_of, compiled_pages}
-use Rattle.wap_site_laws.specs.exchange.Denial.{is_entered, DifferWithin, DeniedMatterNotWith}
+use Rattle.wap_site_laws.specs.exchange.Denial.{is_let_in, DifferWithin, DeniedMatterNotWith}
 use Rattle.wap_site_laws.proofs.ExchangeLemmas.Replacing.{replaces}
 use Rattle.wap_site_laws.proofs.ExchangeLemmas.Denying.{Lost, first, second, StepAlike, reacts_same}
 use Rattle.wap_site_laws.proofs.ExchangeLemmas.Denying.{site_is}
@@ -34,7 +34,7 @@ module _ (among : List ℕ → Bool) where
 
   -- a step before others
   abbrev before : Step → Stepped → Stepped
-  before step others = record { step = joined step others.step; pushes = others.pushes }
+  before step others = record { step = then_step step others.step; pushes = others.pushes }
 
   before_alike : (step : Step) (a b : Stepped) → AlikeWith a b
       → AlikeWith (before step a) (before step b)
@@ -58,7 +58,7 @@ module _ (among : List ℕ → Bool) where
   )
 
   -- what isn't lost is the same
-  unless_lost : (a b : Stepped) → is_entered among a.step.tests ≡ false → AlikeWith a b → a ≡ b
+  unless_lost : (a b : Stepped) → is_let_in among a.step.tests ≡ false → AlikeWith a b → a ≡ b
   unless_lost a b none (inl is) = is
   unless_lost a b none (inr lost) = absurd (let l = lost.0 in cc)
 
@@ -140,7 +140,7 @@ pub denied_sources_with : {P : Type 0} (language : LanguageOf P) (compiler : P �
     → DifferWithin among (compiled_pages language compiler one)
     (compiled_pages language compiler other)
     → (read : List ℕ → Result Indication PushFault) (keys : List Key) (handset : Handset)
-    → is_entered among (played_with read (site_of language call one) keys handset).step.tests
+    → is_let_in among (played_with read (site_of language call one) keys handset).step.tests
     ≡ false
     → played_with read (site_of language call one) keys handset
     ≡ played_with read (site_of language call other) keys handset
@@ -151,5 +151,5 @@ denied_sources_with language compiler agrees call among one other differ read ke
     ∙ denied_with read call among (compiled_pages language compiler one)
     (compiled_pages language compiler other) differ keys handset
     (subst (λ (s : Site).
-    is_entered among (played_with read s keys handset).step.tests ≡ false) here none)
+    is_let_in among (played_with read s keys handset).step.tests ≡ false) here none)
     ∙ sym (ap (λ (s : Site). played_with read s keys handset) there)

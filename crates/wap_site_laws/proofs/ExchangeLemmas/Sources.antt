@@ -6,7 +6,7 @@ use Rattle.wap_world.specs.World.{World}
 use Rattle.wap_world.specs.Sites.{Site, Call}
 use Rattle.wap_world.specs.Sessions.{played}
 use Rattle.wap_world.specs.scripting.Sources.{LanguageOf, AllPages, Agrees, site_of, compiled_pages}
-use Rattle.wap_site_laws.specs.exchange.Denial.{is_entered, DifferWithin}
+use Rattle.wap_site_laws.specs.exchange.Denial.{is_let_in, DifferWithin}
 use Rattle.wap_site_laws.proofs.ExchangeLemmas.Replacing.{replaces}
 use Rattle.wap_site_laws.proofs.ExchangeLemmas.Denying.{denied}
 
@@ -16,7 +16,7 @@ pub denied_sources : {P : Type 0} (language : LanguageOf P) (compiler : P → Un
     (among : List ℕ → Bool) (one other : AllPages P)
     → DifferWithin among (compiled_pages language compiler one)
     (compiled_pages language compiler other) → (keys : List Key) (world : World)
-    → is_entered among (played (site_of language call one) keys world).tests ≡ false
+    → is_let_in among (played (site_of language call one) keys world).tests ≡ false
     → played (site_of language call one) keys world
     ≡ played (site_of language call other) keys world
 denied_sources language compiler agrees call among one other differ keys world none =
@@ -25,5 +25,5 @@ denied_sources language compiler agrees call among one other differ keys world n
     ap (λ (s : Site). played s keys world) first
     ∙ denied call among (compiled_pages language compiler one)
     (compiled_pages language compiler other) differ keys world
-    (subst (λ (s : Site). is_entered among (played s keys world).tests ≡ false) first none)
+    (subst (λ (s : Site). is_let_in among (played s keys world).tests ≡ false) first none)
     ∙ sym (ap (λ (s : Site). played s keys world) second)

@@ -8,7 +8,7 @@ use Rattle.wap_push.specs.declared.indication.Indication.{Indication}
 use Rattle.wap_push.specs.declared.fault.PushFault.{PushFault}
 use Rattle.wap_world.specs.World.{World}
 use Rattle.wap_world.specs.Sites.{Site}
-use Rattle.wap_world.specs.Steps.{Step, joined}
+use Rattle.wap_world.specs.Steps.{Step, then_step}
 use Rattle.wap_world.specs.Keys.{renewed, react}
 use Rattle.wap_world.specs.inboxes.Inboxes.{Handset, Stepped, taking_none, take_push, url_at}
 use Rattle.wap_world.specs.inboxes.Inboxes.{follow}
@@ -35,7 +35,7 @@ module _ (among : List ℕ → Bool) where
 
   -- a step before others
   abbrev before : Step → Stepped → Stepped
-  before step others = record { step = joined step others.step; pushes = others.pushes }
+  before step others = record { step = then_step step others.step; pushes = others.pushes }
 
   -- before both
   before_alike : (step : Step) (a b : Stepped) → AlikeWith a b

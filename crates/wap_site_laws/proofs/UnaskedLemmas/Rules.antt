@@ -37,7 +37,7 @@ use Rattle.wap_world.specs.Shelves.{Shelf, Shelved, deck_page, script_page, text
 use Rattle.wap_world.specs.Shelves.{no_page}
 use Rattle.wap_world.specs.World.{World, Place, place_now}
 use Rattle.wap_world.specs.Lines.{refusal_line}
-use Rattle.wap_world.specs.Steps.{Scene, Step, Once, Next, then_task, joined, after_step, still}
+use Rattle.wap_world.specs.Steps.{Scene, Step, Once, Next, then_task, then_step, after_step, still}
 use Rattle.wap_world.specs.Steps.{quiet, followed, settled, behind, and_then}
 use Rattle.wap_world.specs.History.{pushed, entry_of, earlier_entry, in_deck, back_at}
 use Rattle.wap_world.specs.Timers.{start_timer, end_timer}
@@ -48,9 +48,9 @@ use Rattle.wap_world.specs.Requests.{Request, plain_get, request_of, test_of, as
 use Rattle.wap_world.specs.Setting.{set_variables, fault_lines}
 use Rattle.wap_world.specs.Sites.{External, Call, End, done, failed, unanswered, Ran, Site}
 use Rattle.wap_world.specs.Starting.{in_world, or_show, rest, end_done, end_by, ended_script}
-use Rattle.wap_world.specs.Starting.{prepared, script_line, is_too_long, started, start_external}
+use Rattle.wap_world.specs.Starting.{prepared, script_line, is_too_long, external_started, start_external}
 use Rattle.wap_world.specs.Starting.{start_call, start_if, not_started}
-use Rattle.wap_world.specs.Tasks.{refused, leave_and_set, with_url, with_turn, card_for, in_context}
+use Rattle.wap_world.specs.Tasks.{refusing, leave_and_set, with_url, with_turn, card_for, in_context}
 use Rattle.wap_world.specs.Tasks.{arrive, arrive_if, answered, request, is_here}
 use Rattle.wap_world.specs.Tasks.{here_with, stay_or_ask, go, open_url, return, returned, ask_back}
 use Rattle.wap_world.specs.Tasks.{card_here, back_from, back_to, prev, refresh_place, refresh}
@@ -82,8 +82,8 @@ module _ (among : List ℕ → Bool) where
       ((a ≡ b) × Clear among b.step.world) ⊎ (Lost among a.step × Lost among b.step)
 
   -- a step before both
-  joined_alike : (step a b : Step) → StepAlike a b → StepAlike (joined step a) (joined step b)
-  joined_alike step a b (inl is) = inl (ap (joined step) is.0, is.1)
+  joined_alike : (step a b : Step) → StepAlike a b → StepAlike (then_step step a) (then_step step b)
+  joined_alike step a b (inl is) = inl (ap (then_step step) is.0, is.1)
   joined_alike step a b (inr lost) =
       inr (second among step.asked a.asked lost.0, second among step.asked b.asked lost.1)
 
@@ -185,7 +185,7 @@ module _ (among : List ℕ → Bool) where
 
     -- a navigation that is refused
     refused_alike : (keys : List Key) (why : Refusal) (w : World) → Clear among w
-        → OnceAlike (refused shelf keys why w) (refused bared keys why w)
+        → OnceAlike (refusing shelf keys why w) (refusing bared keys why w)
     refused_alike keys why w clear =
         settled_alike (λ s. settled (quiet keys (behind (refusal_line why ∷ []) s))) (λ s. refl)
         (show shelf w) (show bared w) (show_alike among shelf w clear)
@@ -463,8 +463,8 @@ module _ (among : List ℕ → Bool) where
       started_alike : (keys : List Key) (sets : Pairs) (caller : Option Url) (url : Url)
           (w : World) (index : ℕ) (arguments : List Value) → among (name_for url) ≡ false
           → Clear among w
-          → OnceAlike (started site keys sets caller url w index arguments)
-          (started site' keys sets caller url w index arguments)
+          → OnceAlike (external_started site keys sets caller url w index arguments)
+          (external_started site' keys sets caller url w index arguments)
       started_alike keys sets caller url w index arguments off clear =
           let set = set_variables sets w in
           let base = without_fragment url in
@@ -487,10 +487,10 @@ module _ (among : List ℕ → Bool) where
         where
           by : (b c : Bool) → OnceAlike
               (cond b (cond c (not_started shelf keys fatal.TooLong w)
-              (started site keys sets caller url w one.index arguments))
+              (external_started site keys sets caller url w one.index arguments))
               (not_started shelf keys fatal.Arguments w))
               (cond b (cond c (not_started bared keys fatal.TooLong w)
-              (started site' keys sets caller url w one.index arguments))
+              (external_started site' keys sets caller url w one.index arguments))
               (not_started bared keys fatal.Arguments w))
           by true true = unstarted_alike keys fatal.TooLong w clear
           by true false = started_alike keys sets caller url w one.index arguments off clear

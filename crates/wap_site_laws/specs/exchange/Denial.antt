@@ -13,9 +13,9 @@ use Rattle.wap_world.specs.scripting.ScriptPages.{page_under}
 use Rattle.wap_world.specs.scripting.UnitSites.{Pages, shelf_of, units_site}
 
 -- a test of one of these names that wasn't a denial
-abbrev pub is_entered : (List ℕ → Bool) → List AccessTest → Bool
-is_entered among [] = false
-is_entered among (one ∷ tests) = (among one.page && one.allowed) || is_entered among tests
+abbrev pub is_let_in : (List ℕ → Bool) → List AccessTest → Bool
+is_let_in among [] = false
+is_let_in among (one ∷ tests) = (among one.page && one.allowed) || is_let_in among tests
 
 -- what the rules see of all names is the same, and outside of these names so are the pages
 pub record DifferWithin (among : List ℕ → Bool) (one other : Pages) : Type 0 where
@@ -28,7 +28,7 @@ abbrev pub DeniedMatterNot : Type 0
 DeniedMatterNot =
     (call : List ℕ → Option Call) (among : List ℕ → Bool) (one other : Pages)
     → DifferWithin among one other → (keys : List Key) (world : World)
-    → is_entered among (played (units_site call one) keys world).tests ≡ false
+    → is_let_in among (played (units_site call one) keys world).tests ≡ false
     → played (units_site call one) keys world ≡ played (units_site call other) keys world
 
 -- and with an inbox, however what is pushed is read
@@ -37,6 +37,6 @@ DeniedMatterNotWith =
     (read : List ℕ → Result Indication PushFault) (call : List ℕ → Option Call)
     (among : List ℕ → Bool) (one other : Pages) → DifferWithin among one other
     → (keys : List Key) (handset : Handset)
-    → is_entered among (played_with read (units_site call one) keys handset).step.tests ≡ false
+    → is_let_in among (played_with read (units_site call one) keys handset).step.tests ≡ false
     → played_with read (units_site call one) keys handset
     ≡ played_with read (units_site call other) keys handset

@@ -19,7 +19,7 @@ use Rattle.wap_push.proofs.Latest.{after, winner_here, winner_elsewhere}
 use Rattle.wap_push.proofs.Winner.{own_first, other_first}
 use Rattle.wap_world.specs.Sites.{Site}
 use Rattle.wap_world.specs.World.{World}
-use Rattle.wap_world.specs.Steps.{Step, joined}
+use Rattle.wap_world.specs.Steps.{Step, then_step}
 use Rattle.wap_world.specs.Keys.{renewed}
 use Rattle.wap_world.specs.inboxes.Winners.{winners_of, Alike}
 use Rattle.wap_world.specs.inboxes.Notices.{notice_line, notice_lines, entry_lines}
@@ -172,8 +172,8 @@ module _ (read : List ℕ → Result Indication PushFault) (site : Site) where
       let next =
       plays_alike_in count own.step.keys own.step.world own.pushes other.pushes first.pushes in
       record {
-        step = ap (joined own.step) next.step
-            ∙ ap (λ (s : Step). joined s (played_with_in read count site s.keys
+        step = ap (then_step own.step) next.step
+            ∙ ap (λ (s : Step). then_step s (played_with_in read count site s.keys
             (record { world = s.world; pushes = other.pushes })).step) first.step;
         pushes = next.pushes
             ∙ ap (λ (s : Step). winners_of (played_with_in read count site s.keys

@@ -8,7 +8,7 @@ use Rattle.wap_push.specs.declared.indication.Indication.{Indication}
 use Rattle.wap_push.specs.declared.fault.PushFault.{PushFault}
 use Rattle.wap_world.specs.Sites.{Site}
 use Rattle.wap_world.specs.World.{World}
-use Rattle.wap_world.specs.Steps.{joined}
+use Rattle.wap_world.specs.Steps.{then_step}
 use Rattle.wap_world.specs.Keys.{renewed, react}
 use Rattle.wap_world.proofs.Laws.{keys_fall}
 use Rattle.wap_world.specs.session_laws.Scripts.{MakesNoKeys}
@@ -66,7 +66,7 @@ module _ (read : List ℕ → Result Indication PushFault) (site : Site)
       let first = react_with read site one keys handset in
       let fewer = few_with one keys handset in
       ap (λ (others : Stepped). record {
-        step = joined first.step others.step;
+        step = then_step first.step others.step;
         pushes = others.pushes;
       })
       (plays_enough n m first.step.keys (after_step first) (omega (few, fewer, arith))
@@ -80,7 +80,7 @@ module _ (read : List ℕ → Result Indication PushFault) (site : Site)
   plays_first one keys handset =
       let first = react_with read site one keys handset in
       ap (λ (others : Stepped). record {
-        step = joined first.step others.step;
+        step = then_step first.step others.step;
         pushes = others.pushes;
       })
       (plays_enough (length keys) (length first.step.keys) first.step.keys (after_step first)

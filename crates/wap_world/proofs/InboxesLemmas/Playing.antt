@@ -8,7 +8,7 @@ use Rattle.wap_push.specs.declared.indication.Indication.{Indication}
 use Rattle.wap_push.specs.declared.fault.PushFault.{PushFault}
 use Rattle.wap_world.specs.site.Pages.{Pages}
 use Rattle.wap_world.specs.Decks.{decks_site}
-use Rattle.wap_world.specs.Steps.{Step, joined}
+use Rattle.wap_world.specs.Steps.{Step, then_step}
 use Rattle.wap_world.specs.Keys.{react}
 use Rattle.wap_world.specs.Sessions.{played_in, played}
 use Rattle.wap_world.proofs.SessionLawsLemmas.Following.{keys_left}
@@ -22,7 +22,7 @@ AreOthers keys = AllByRecursion (λ (one : Key). is_of_inbox one ≡ false) keys
 
 -- a step before others
 abbrev before : Step → Stepped → Stepped
-before step others = record { step = joined step others.step; pushes = others.pushes }
+before step others = record { step = then_step step others.step; pushes = others.pushes }
 
 module _ (read : List ℕ → Result Indication PushFault) (pages : Pages) where
   -- so many keys at most

@@ -11,7 +11,7 @@ use Rattle.wap_execution.specs.laws.Settings.{uncounted}
 use Rattle.wap_execution.specs.laws.Keyed.{gone_on}
 use Rattle.wap_execution.proofs.LawsLemmas.RunLaws.{resumed_follows}
 use Rattle.wap_world.specs.World.{World}
-use Rattle.wap_world.specs.Steps.{Scene, Step, Once, Next, joined, after_step, followed, quiet}
+use Rattle.wap_world.specs.Steps.{Scene, Step, Once, Next, then_step, after_step, followed, quiet}
 use Rattle.wap_world.specs.Steps.{still}
 use Rattle.wap_world.specs.Sites.{Call, Site}
 use Rattle.wap_world.specs.Starting.{ended_script}
@@ -70,11 +70,11 @@ module _ (call : List ℕ → Option Call) (pages : Pages) where
   -- one that leads on
   pub leads_means : (once : Once) (next : Next) (more : Fed) → once.next ≡ Some next
       → Means call pages more (λ keys. act site keys once.step.world next)
-      → Means call pages (record more { step = joined once.step more.step })
+      → Means call pages (record more { step = then_step once.step more.step })
       (λ keys. onward (act site) (once_before keys once))
   leads_means once next more is means keys =
       ap (go_on (act site) (once_before keys once).step) is
-      ∙ ap (joined once.step) (means keys)
+      ∙ ap (then_step once.step) (means keys)
       ∙ sym (joined_assoc once.step more.step
       (left_over call pages more.waiting keys more.step.world))
 
@@ -125,7 +125,7 @@ module _ (call : List ℕ → Option Call) (pages : Pages) where
       let over = left_over call pages one.waiting keys one.step.world in
       sym (played_is (suc (length keys)) (key ∷ keys) w (omega arith))
       ∙ ap (λ (step : Step). followed step (played_in (length keys) site)) (means keys)
-      ∙ ap (joined (joined one.step over)) (played_is (length keys) over.keys over.world
+      ∙ ap (then_step (then_step one.step over)) (played_is (length keys) over.keys over.world
       (left_few one.waiting keys one.step.world))
       ∙ joined_assoc one.step over (played site over.keys over.world)
   feeds_by (Some waits) w key one means keys =
@@ -142,14 +142,14 @@ module _ (call : List ℕ → Option Call) (pages : Pages) where
   pub plays_in_parts : (state : State) (keys : List Key) (feds : List Fed)
       → AreFed call pages state keys feds → (others : List Key)
       → played_from call pages state (keys ++ others)
-      ≡ joined (all_fed state feds) (played_from call pages (last_fed state feds) others)
+      ≡ then_step (all_fed state feds) (played_from call pages (last_fed state feds) others)
   plays_in_parts state [] [] fed others = refl
   plays_in_parts state [] (one ∷ more) fed others = absurd fed
   plays_in_parts state (key ∷ keys) [] fed others = absurd fed
   plays_in_parts state (key ∷ keys) (one ∷ more) fed others =
       let state' = after_fed one in
       feeds state key one fed.0 (keys ++ others)
-      ∙ ap (joined one.step) (plays_in_parts state' keys more fed.1 others)
+      ∙ ap (then_step one.step) (plays_in_parts state' keys more fed.1 others)
       ∙ sym (joined_assoc one.step (all_fed state' more)
       (played_from call pages (last_fed state' more) others))
 

@@ -37,7 +37,7 @@ use Rattle.wap_world.specs.declared.refusal.Refusal.{Refusal}
 use Rattle.wap_world.specs.Shelves.{Shelf, Shelved, deck_page, script_page, text_page, refused_page}
 use Rattle.wap_world.specs.Shelves.{no_page}
 use Rattle.wap_world.specs.World.{World, Place}
-use Rattle.wap_world.specs.Steps.{Step, still, behind, quiet, joined}
+use Rattle.wap_world.specs.Steps.{Step, still, behind, quiet, then_step}
 use Rattle.wap_world.specs.History.{KeepsToLimit}
 use Rattle.std.proofs.Common.{arith, length, ◌≤◌}
 use Rattle.wap_world.specs.Urls.{target_of, page_url}
@@ -62,7 +62,7 @@ use Rattle.wap_world.proofs.Joining.{before, joined_assoc, or_false}
 
 -- the same answer, with a step before it
 abbrev pub fronted : {A : Type 0} → Step → A × Step → A × Step
-fronted p gave = (gave.0, joined p gave.1)
+fronted p gave = (gave.0, then_step p gave.1)
 
 -- the same answer, with other keys left
 abbrev pub rekeyed : {A : Type 0} → List Key → A × Step → A × Step
@@ -71,7 +71,7 @@ rekeyed keys gave = (gave.0, before keys gave.1)
 -- what a row of the host does not see, and what it leaves
 pub record IsPlain {A : Type 0} (f : Step → A × Step) : Type 0 where
   pub unread : (keys : List Key) (s : Step) → f (before keys s) ≡ rekeyed keys (f s)
-  pub behind : (p s : Step) → f (joined p s) ≡ fronted p (f s)
+  pub behind : (p s : Step) → f (then_step p s) ≡ fronted p (f s)
   pub shut : (s : Step) → (f s).1.is_open ≡ s.is_open
   pub keys : (s : Step) → (f s).1.keys ≡ s.keys
   pub turns : (s : Step) → (f s).1.world.turns ≡ s.world.turns

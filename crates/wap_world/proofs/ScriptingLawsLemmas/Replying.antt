@@ -15,7 +15,7 @@ use Rattle.wap_world.specs.declared.timer.Timer.{Timer}
 use Rattle.wap_world.specs.declared.timer.Timer.TheVariants.{NotStarted, Running, Off, Expired}
 use Rattle.wap_world.specs.Shelves.{Shelf}
 use Rattle.wap_world.specs.World.{World, Place, place_now}
-use Rattle.wap_world.specs.Steps.{Step, Once, joined, quiet, still}
+use Rattle.wap_world.specs.Steps.{Step, Once, then_step, quiet, still}
 use Rattle.wap_world.specs.Timers.{store_under}
 use Rattle.wap_world.specs.Screens.{at_place}
 use Rattle.wap_world.specs.Sites.{Call, failed}
@@ -156,9 +156,9 @@ module _ (call : List ℕ → Option Call) (pages : Pages) (one : Waits) (w : Wo
       ∙ ap (λ (t : Step). on (ended (go (answered_by shelf one.dialog keys t))))
       (sym (joined_nothing (quiet [] scene) keys))
       ∙ ap (λ g. on (ended (go g))) (answered_front shelf p one.dialog keys s)
-      ∙ ap on (ran_front pages one.base one.limits p (go got) (go (got.0, joined p got.1))
+      ∙ ap on (ran_front pages one.base one.limits p (go got) (go (got.0, then_step p got.1))
       (gone_alike pages one.base one.limits p one.frames got.0 w.turns got.1))
       ∙ onward_after (act (units_site call pages)) p (ended (go got))
-      ∙ ap (λ (v : World). joined p
+      ∙ ap (λ (v : World). then_step p
       (on (ended (go (answered_by shelf one.dialog keys (quiet keys (still v)))))))
       (ap (λ (t : ℕ). record scene.world { turns = t }) (meanwhile_turns shelf one_key (inside w)))

@@ -22,7 +22,7 @@ use Rattle.wap_world.specs.declared.timer.Timer.{Timer}
 use Rattle.wap_world.specs.declared.timer.Timer.TheVariants.{NotStarted, Running, Off, Expired}
 use Rattle.wap_world.specs.Shelves.{Shelf}
 use Rattle.wap_world.specs.World.{World, place_now}
-use Rattle.wap_world.specs.Steps.{Scene, Step, Once, joined, after_step, still, quiet, settled}
+use Rattle.wap_world.specs.Steps.{Scene, Step, Once, then_step, after_step, still, quiet, settled}
 use Rattle.wap_world.specs.Sites.{End, done, failed, unanswered}
 use Rattle.wap_world.specs.Starting.{script_line, in_world, or_show, rest, end_done, ended_script}
 use Rattle.wap_world.specs.scripting.Additions.{with_scene}
@@ -90,13 +90,13 @@ module _ (pages : Pages) (keys : List Key) where
 
 -- a scene behind a step
 scene_front : (p : Step) (scene : Scene) (s : Step)
-    → with_scene scene (joined p s) ≡ joined p (with_scene scene s)
+    → with_scene scene (then_step p s) ≡ then_step p (with_scene scene s)
 scene_front p scene s = joined_assoc p s (quiet s.keys scene)
 
 -- a reply behind a step
 reply_front : (shelf : Shelf) (p : Step) (reply : Reply) (key : Key) (keys : List Key) (s : Step)
-    (later : Step → HostOut × Step) → ((t : Step) → later (joined p t) ≡ fronted p (later t))
-    → after_reply shelf reply key keys (joined p s) later
+    (later : Step → HostOut × Step) → ((t : Step) → later (then_step p t) ≡ fronted p (later t))
+    → after_reply shelf reply key keys (then_step p s) later
     ≡ fronted p (after_reply shelf reply key keys s later)
 reply_front shelf p (answers v) key keys s later same = refl
 reply_front shelf p ends_it key keys s later same = refl
@@ -106,7 +106,7 @@ reply_front shelf p passes key keys s later same =
 
 -- keys in a dialog behind a step
 pub answered_front : (shelf : Shelf) (p : Step) (dialog : Dialog) (keys : List Key) (s : Step)
-    → answered_by shelf dialog keys (joined p s) ≡ fronted p (answered_by shelf dialog keys s)
+    → answered_by shelf dialog keys (then_step p s) ≡ fronted p (answered_by shelf dialog keys s)
 answered_front shelf p dialog [] s = refl
 answered_front shelf p dialog (key ∷ keys) s =
     reply_front shelf p (reply_to dialog key) key keys s (answered_by shelf dialog keys)
@@ -114,7 +114,7 @@ answered_front shelf p dialog (key ∷ keys) s =
 
 -- an answer behind a step
 in_front : (shelf : Shelf) (p : Step) (gave : HostOut) (s : Step)
-    → answered_in (by_keys shelf) gave (joined p s)
+    → answered_in (by_keys shelf) gave (then_step p s)
     ≡ fronted p (answered_in (by_keys shelf) gave s)
 in_front shelf p (out.Value v) s = refl
 in_front shelf p (out.Exit v) s = refl
@@ -123,7 +123,7 @@ in_front shelf p (out.Asks dialog) s = answered_front shelf p dialog s.keys s
 
 module _ (pages : Pages) (p : Step) where
   pub record IsBehind (s t : Step) : Type 0 where
-    pub is : t ≡ joined p s
+    pub is : t ≡ then_step p s
 
   -- the same answer behind a step
   given : {A : Type 0} (a b : A × Step) → b ≡ fronted p a → Both IsBehind Never Never a b
@@ -137,7 +137,7 @@ module _ (pages : Pages) (p : Step) where
   -- it doesn't see what stands before
   library_front : (base : Url) (referer : Option Url) (number index : ℕ) (arguments : List Value)
       (s : Step)
-      → asked (joined p s) base referer number index arguments
+      → asked (then_step p s) base referer number index arguments
       ≡ fronted p (asked s base referer number index arguments)
   library_front base referer number index arguments s =
       let gave = (host_of pages).library s base referer number index arguments in
@@ -212,7 +212,7 @@ keys_fatal shelf base why turns other step =
 
 -- the end of a script that is done, behind a step
 front_done : (p : Step) (shelf : Shelf) (base : Url) (pending : Option Task) (step : Step)
-    → end_done shelf base pending (joined p step)
+    → end_done shelf base pending (then_step p step)
     ≡ after_step p (end_done shelf base pending step)
 front_done p shelf base None step =
     after_assoc p step (rest shelf step.keys step.world.timer step.world)
@@ -220,7 +220,7 @@ front_done p shelf base (Some task) step = refl
 
 -- any end behind a step
 pub front_ended : (p : Step) (shelf : Shelf) (base : Url) (end : End) (turns : ℕ) (step : Step)
-    → ended_script shelf base (record { end = end; turns = turns; step = joined p step })
+    → ended_script shelf base (record { end = end; turns = turns; step = then_step p step })
     ≡ after_step p
     (ended_script shelf base (record { end = end; turns = turns; step = step }))
 front_ended p shelf base done turns step =
@@ -230,12 +230,12 @@ front_ended p shelf base (failed why) turns step =
     let late = in_world world step in
     let last = rest shelf step.keys world.timer world in
     ap (λ s. after_step s last)
-    (λ i. record (joined p late) {
+    (λ i. record (then_step p late) {
       lines = append_assoc p.lines step.lines (script_line why ∷ []) i;
     })
     ∙ after_assoc p (record late { lines = step.lines ++ script_line why ∷ [] }) last
 front_ended p shelf base unanswered turns step =
-    ap (λ b. settled (record (joined p (in_world (record step.world { turns = turns }) step)) {
+    ap (λ b. settled (record (then_step p (in_world (record step.world { turns = turns }) step)) {
       is_open = b;
     })) (sym (or_true p.is_open))
 
@@ -252,10 +252,10 @@ module _ (pages : Pages) (base : Url) (limits : Limits) where
   pub gone_alike : (p : Step) (frames : List Frame) (gave : HostOut) (turns : ℕ) (s : Step)
       → Alike p
       (gone_on (uncounted limits (keyed_host pages)) (λ end. end) frames gave turns s)
-      (gone_on (uncounted limits (keyed_host pages)) (λ end. end) frames gave turns (joined p s))
+      (gone_on (uncounted limits (keyed_host pages)) (λ end. end) frames gave turns (then_step p s))
   gone_alike p frames (out.Value v) turns s =
       (sim_laws.agrees (IsBehind pages p) Never Never limits (keyed_host pages) (keyed_host pages)
-      (front_alike pages p)).resuming frames v turns s (joined p s) (record { is = refl })
+      (front_alike pages p)).resuming frames v turns s (then_step p s) (record { is = refl })
   gone_alike p frames (out.Exit v) turns s =
       inl (record { outcome = refl; turns = refl; state = record { is = refl } })
   gone_alike p frames (out.Fatal why) turns s =
@@ -292,9 +292,9 @@ module _ (pages : Pages) (base : Url) (limits : Limits) where
       let w : World = inside p.world in
       let s : Step = quiet keys (still w) in
       let same_world : step.world ≡ w = ap (λ (t : ℕ). record step.world { turns = t }) none in
-      let same : before keys step ≡ joined p s =
+      let same : before keys step ≡ then_step p s =
       sym (joined_nothing (before keys step) keys)
-      ∙ ap (λ (v : World). joined p (quiet keys (still v))) same_world in
+      ∙ ap (λ (v : World). then_step p (quiet keys (still v))) same_world in
       let go_with : HostOut × Step → Once = λ got.
       ended_script shelf base
       (ran_of (gone_on (uncounted limits (keyed_host pages)) (λ end. end) frames got.0 turns got.1))
@@ -305,7 +305,7 @@ module _ (pages : Pages) (base : Url) (limits : Limits) where
       ∙ ran_front p
       (gone_on (uncounted limits (keyed_host pages)) (λ end. end) frames got.0 turns got.1)
       (gone_on (uncounted limits (keyed_host pages)) (λ end. end) frames got.0 turns
-      (joined p got.1)) (gone_alike p frames got.0 turns got.1)
+      (then_step p got.1)) (gone_alike p frames got.0 turns got.1)
 
   -- the end of a script by the keyed host
   abbrev unrolls : Ended Step → Once

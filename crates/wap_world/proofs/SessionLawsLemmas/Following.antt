@@ -11,7 +11,7 @@ use Rattle.wap_world.specs.site.Pages.{Pages}
 use Rattle.wap_world.specs.Sites.{Site}
 use Rattle.wap_world.specs.Decks.{decks_site}
 use Rattle.wap_world.specs.World.{World}
-use Rattle.wap_world.specs.Steps.{Step, Once, Next, still, quiet, followed, joined}
+use Rattle.wap_world.specs.Steps.{Step, Once, Next, still, quiet, followed, then_step}
 use Rattle.wap_world.specs.Tasks.{go, prev, base_now, with_turn, open_url, task_by, task_once}
 use Rattle.wap_world.specs.Tasks.{go_on, onward, act_in, act, visit}
 use Rattle.wap_world.specs.Keys.{react}
@@ -69,7 +69,7 @@ goes_on_same : (f g : Rule) (step : Step) (next : Option Next)
     → IfSome next (λ one. f step.keys step.world one ≡ g step.keys step.world one)
     → go_on f step next ≡ go_on g step next
 goes_on_same f g step None same = refl
-goes_on_same f g step (Some one) same = ap (joined step) same
+goes_on_same f g step (Some one) same = ap (then_step step) same
 
 if_some : {X : Type 0} (o : Option X) (P Q : X → Type 0) → IfSome o P → ((x : X) → P x → Q x)
     → IfSome o Q
@@ -165,7 +165,7 @@ module _ (site : Site) (falls : MakesNoKeys site) where
   plays_enough (suc n) (suc m) (one ∷ keys) world few other =
       let step = react site one keys world in
       let fewer = keys_fall site falls one keys world in
-      ap (joined step)
+      ap (then_step step)
       (plays_enough n m step.keys step.world (omega (few, fewer, arith)) (omega (other, fewer, arith)))
 
   -- a key, and then those that it leaves
@@ -174,7 +174,7 @@ module _ (site : Site) (falls : MakesNoKeys site) where
   unfolding played
   plays_first one keys world =
       let step = react site one keys world in
-      ap (joined step)
+      ap (then_step step)
       (plays_enough (length keys) (length step.keys) step.keys step.world
       (keys_fall site falls one keys world) (omega arith))
 

@@ -6,7 +6,7 @@ use Rattle.wap_push.specs.declared.indication.Indication.{Indication}
 use Rattle.wap_push.specs.declared.fault.PushFault.{PushFault}
 use Rattle.wap_layout.specs.buffer.Written.{lines_bytes}
 use Rattle.wap_world.specs.Sites.{Site}
-use Rattle.wap_world.specs.Steps.{still, quiet, joined}
+use Rattle.wap_world.specs.Steps.{still, quiet, then_step}
 use Rattle.wap_world.specs.Sessions.{Begun, world_of, shown_by}
 use Rattle.wap_world.specs.inboxes.Winners.{Alike}
 use Rattle.wap_world.specs.inboxes.Inboxes.{Handset, Stepped, taking_none, react_with}
@@ -19,7 +19,7 @@ after_step one = record { world = one.step.world; pushes = one.pushes }
 abbrev pub followed_with : Stepped → (List Key → Handset → Stepped) → Stepped
 followed_with one next =
     let others = next one.step.keys (after_step one) in
-    record { step = joined one.step others.step; pushes = others.pushes }
+    record { step = then_step one.step others.step; pushes = others.pushes }
 
 -- what is pushed is read like this
 module _ (read : List ℕ → Result Indication PushFault) where

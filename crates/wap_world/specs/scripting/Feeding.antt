@@ -3,7 +3,7 @@
 use Rattle.std.specs.Prelude.{◌≡◌, ⊤, ℕ, List, [], ◌∷◌, Option, Some, None}
 use Rattle.wap_base.specs.declared.key.Key.{Key}
 use Rattle.wap_world.specs.World.{World}
-use Rattle.wap_world.specs.Steps.{Step, still, quiet, joined}
+use Rattle.wap_world.specs.Steps.{Step, still, quiet, then_step}
 use Rattle.wap_world.specs.Sites.{Call}
 use Rattle.wap_world.specs.Keys.{react}
 use Rattle.wap_world.specs.scripting.UnitSites.{Pages, units_site}
@@ -17,7 +17,7 @@ pub record Fed : Type 0 where
 module _ (call : List ℕ → Option Call) (pages : Pages) where
   -- what was done, and then what is left to further keys
   abbrev pub meaning : Fed → List Key → Step
-  meaning one keys = joined one.step (left_over call pages one.waiting keys one.step.world)
+  meaning one keys = then_step one.step (left_over call pages one.waiting keys one.step.world)
 
   -- a rule for a key and those after it: this was done without these
   abbrev pub Means : Fed → (List Key → Step) → Type 0
@@ -36,7 +36,7 @@ module _ (call : List ℕ → Option Call) (pages : Pages) where
   -- key and these show from the state before
   abbrev pub Feeds : State → Key → Fed → Type 0
   Feeds state key one = (keys : List Key) → played_from call pages state (key ∷ keys)
-      ≡ joined one.step
+      ≡ then_step one.step
       (played_from call pages (record { world = one.step.world; waiting = one.waiting }) keys)
 
 -- the state after a key
@@ -51,7 +51,7 @@ last_fed state (one ∷ more) = last_fed (after_fed one) more
 -- what keys did, one after the other
 abbrev pub all_fed : State → List Fed → Step
 all_fed state [] = quiet [] (still state.world)
-all_fed state (one ∷ more) = joined one.step (all_fed (after_fed one) more)
+all_fed state (one ∷ more) = then_step one.step (all_fed (after_fed one) more)
 
 module _ (call : List ℕ → Option Call) (pages : Pages) where
   -- each of these keys did this without those after it, and left the rest to them

@@ -1,6 +1,6 @@
 use Rattle.std.proofs.Common.{sym, subst}
 use Rattle.wap_cli.specs.declared.status.Status.TheVariants.{NoMemory}
-use Rattle.wap_cli.specs.browse.Plays.{ArePagesOf, opened}
+use Rattle.wap_cli.specs.browse.Plays.{AreUnitPages, opened}
 use Rattle.wap_cli.proofs.BrowseLemmas.Exits.{nothing_browses}
 use Rattle.wap_cli.proofs.BrowseLemmas.Summary.{browses_by}
 use Rattle.wap_cli.proofs.BrowseLemmas.Forgetting.{browsed_over, outside_over}
@@ -43,7 +43,7 @@ returns g c =
       sink = sink_after;
     } in
     browses_over (begun_by begun) begun.cache old new status
-    (browsed_over g.S.Store.seen (ArePagesOf (browsed begun.cache old).pages)
+    (browsed_over g.S.Store.seen (AreUnitPages (browsed begun.cache old).pages)
     (opened (begun_by begun)) c.in-Ok.pages played.pages c.args.store c.into_store.result begun.cache
     source source_after sink sink_after status c.in-Ok.ensures.store c.in-Ok.ensures.kept
     c.in-Ok.ensures.capacity c.into_store.ensures

@@ -10,7 +10,7 @@ use Rattle.wap_cli.specs.prepare.Fetching.{Job, page_of}
 use Rattle.wap_world.specs.Sessions.{Begun}
 use Rattle.wap_world.specs.scripting.UnitSites.{unit_pages}
 use Rattle.wap_context.specs.Sites.{site_of}
-use Rattle.wap_cli.specs.replay.Texts.{list_text, replayed, site_over}
+use Rattle.wap_cli.specs.replay.Texts.{list_text, replayed, site_of_store}
 
 -- ---- pages
 
@@ -52,4 +52,4 @@ text_on stage one = list_text (site_of (unit_pages stage.pages)) stage.begun one
 -- what there is to be written of lists, where the pages of the store are known
 abbrev pub TellsOf : Begun → List (List Key) → Option Contents → (List ℕ → Type 0) → Type 0
 TellsOf begun lists contents Wrote =
-    IfSome contents (λ pages. Wrote (replayed (site_over pages) begun lists))
+    IfSome contents (λ pages. Wrote (replayed (site_of_store pages) begun lists))
