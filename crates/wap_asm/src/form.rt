@@ -6,7 +6,7 @@ use wap_unit::{Instr, OpName};
 
 /// A piece of code: an instruction, a jump, or a place that jumps lead to. It names an operation,
 /// by any of its spellings.
-#[derive(Clone, Copy, Debug, PartialEq, Eq)]
+#[derive(Clone, Copy)]
 pub enum Form {
     /// An instruction that is no jump. Where it ends isn't looked at.
     Op(Instr),

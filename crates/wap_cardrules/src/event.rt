@@ -1,7 +1,7 @@
 //! The events of a card (WAP-191, section 9.10).
 
 /// What sets off a task by itself.
-#[derive(Clone, Copy, Debug, PartialEq, Eq)]
+#[derive(Clone, Copy)]
 pub enum Event {
     /// The card is entered by a go: `onenterforward`.
     Forward,

@@ -5,7 +5,7 @@ ghost use Rattle.wap_devices.specs.Fakes.{fresh, called, fails_next};
 use std::marker::Model;
 
 /// The calls of a fake so far, and those that are to fail.
-#[derive(Debug, Drop)]
+#[derive(Drop)]
 pub(crate) struct Calls {
     fail: Vec<u64>,
     made: u64,

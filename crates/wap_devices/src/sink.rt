@@ -37,7 +37,7 @@ pub fn write_all<O: Sink>(out: &mut O, piece: &[u8]) -> Result<(), Failed>
 }
 
 /// A sink in memory.
-#[derive(Debug, Drop)]
+#[derive(Drop)]
 pub struct MemSink {
     written: Vec<u8>,
     room: usize,

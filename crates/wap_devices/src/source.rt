@@ -23,7 +23,7 @@ pub trait Source {
 }
 
 /// A source in memory.
-#[derive(Debug, Drop)]
+#[derive(Drop)]
 pub struct MemSource {
     bytes: Bytes,
     at: usize,

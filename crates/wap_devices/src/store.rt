@@ -99,7 +99,7 @@ pub trait Store {
 }
 
 /// A store in memory.
-#[derive(Debug, Drop)]
+#[derive(Drop)]
 pub struct MemStore {
     pages: Vec<(Text, Bytes)>,
     calls: Calls,

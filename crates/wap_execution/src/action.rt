@@ -2,7 +2,7 @@
 use wap_value::{BinOp, UnOp};
 
 /// What an operation does. Operations that differ only in an operator or in a literal share one.
-#[derive(Clone, Copy, Debug, PartialEq, Eq)]
+#[derive(Clone, Copy)]
 pub enum Action {
     /// Jumps forward.
     Jump,

@@ -3,7 +3,7 @@ use crate::Fatal;
 use wap_url::Url;
 
 /// What the search for a function of another unit came to.
-#[derive(Debug, Drop)]
+#[derive(Drop)]
 pub enum Found<U> {
     /// A unit, its URL, and the function's index.
     Callee(U, Url, u8),

@@ -1,7 +1,7 @@
 //! The functions, library by library, and their numbers (WAP-194, "Library Summary").
 
 /// A function of the library Lang.
-#[derive(Clone, Copy, Debug, PartialEq, Eq)]
+#[derive(Clone, Copy)]
 pub enum LangFunction {
     /// `abs`
     Abs,
@@ -36,7 +36,7 @@ pub enum LangFunction {
 }
 
 /// A function of the library Float.
-#[derive(Clone, Copy, Debug, PartialEq, Eq)]
+#[derive(Clone, Copy)]
 pub enum FloatFunction {
     /// `int`
     Int,
@@ -57,7 +57,7 @@ pub enum FloatFunction {
 }
 
 /// A function of the library String.
-#[derive(Clone, Copy, Debug, PartialEq, Eq)]
+#[derive(Clone, Copy)]
 pub enum StringFunction {
     /// `length`
     Length,
@@ -94,7 +94,7 @@ pub enum StringFunction {
 }
 
 /// A function of the library URL that needs no browser.
-#[derive(Clone, Copy, Debug, PartialEq, Eq)]
+#[derive(Clone, Copy)]
 pub enum UrlFunction {
     /// `isValid`
     IsValid,
@@ -121,7 +121,7 @@ pub enum UrlFunction {
 }
 
 /// A function of one of the libraries, in the order of their numbers.
-#[derive(Clone, Copy, Debug, PartialEq, Eq)]
+#[derive(Clone, Copy)]
 pub enum Function {
     Lang(LangFunction),
     Float(FloatFunction),

@@ -10,7 +10,7 @@ use std::marker::Model;
 /// A session's generator of random numbers. It keeps the session's seed, the seed from which it
 /// started last and how many words were drawn since, so that its place can be named and found
 /// again.
-#[derive(Debug, Drop)]
+#[derive(Drop)]
 pub struct Gen {
     seed: u32,
     start: u32,

@@ -1,7 +1,7 @@
 //! What the format of `String.format` is made of.
 
 /// How a specifier writes its value.
-#[derive(Clone, Copy, Debug, PartialEq, Eq)]
+#[derive(Clone, Copy)]
 pub enum Conversion {
     /// `d`, an Integer in decimal.
     Decimal,
@@ -12,7 +12,7 @@ pub enum Conversion {
 }
 
 /// A place where a value is written.
-#[derive(Clone, Copy, Debug, PartialEq, Eq)]
+#[derive(Clone, Copy)]
 pub struct Specifier {
     /// How many characters are written at least.
     pub width: u16,
@@ -24,7 +24,7 @@ pub struct Specifier {
 }
 
 /// A piece of a format.
-#[derive(Clone, Copy, Debug, PartialEq, Eq)]
+#[derive(Clone, Copy)]
 pub enum Piece {
     /// A character that stands for itself.
     Character(char),

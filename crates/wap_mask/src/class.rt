@@ -2,7 +2,7 @@
 
 /// The characters that a letter of a mask stands for (WAP-191, section 11.6.3). A mark is a
 /// character of ASCII, the space among them, that is no letter, no digit and no control character.
-#[derive(Clone, Copy, Debug, PartialEq, Eq)]
+#[derive(Clone, Copy)]
 pub enum Class {
     /// `A`
     UpperOrMark,

@@ -10,7 +10,7 @@ use std::marker::Model;
 use wap_base::{NoMemory, Rows, Text};
 
 /// What an input field takes. A contract sees the mask as the list of its symbols.
-#[derive(Debug, Drop)]
+#[derive(Drop)]
 pub struct Mask {
     symbols: Rows<Symbol>,
 }

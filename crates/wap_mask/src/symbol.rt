@@ -8,7 +8,7 @@ use crate::run::{after_all, after_up_to};
 use crate::scan::{first_of, is_at_end};
 
 /// What a mask is made of. The last two repeat, and stand at a mask's end alone.
-#[derive(Clone, Copy, Debug, PartialEq, Eq)]
+#[derive(Clone, Copy)]
 pub enum Symbol {
     /// One character of the class.
     One(Class),

@@ -16,7 +16,7 @@ use wap_base::{NoMemory, Text};
 
 /// The indications that were pushed and count. A contract sees the winner of each identifier, also
 /// where that is a delete, in ascending order of identifiers.
-#[derive(Debug, Drop)]
+#[derive(Drop)]
 pub struct Inbox {
     alloc: Global,
     winners: BTreeMap<Text, Indication>,

@@ -2,7 +2,7 @@
 use wap_base::Text;
 
 /// How an indication is to be met (WAP-167, section 5.2).
-#[derive(Clone, Copy, Debug, PartialEq, Eq)]
+#[derive(Clone, Copy)]
 pub enum Action {
     /// It is kept, and isn't shown when it comes.
     Quiet,
@@ -17,7 +17,7 @@ pub enum Action {
 }
 
 /// A notice that a site pushes to a handset.
-#[derive(Debug, Drop, PartialEq, Eq)]
+#[derive(Drop)]
 pub struct Indication {
     /// What tells indications apart: a later one of the same identifier stands for an earlier one.
     pub id: Text,

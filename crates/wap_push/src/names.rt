@@ -1,7 +1,7 @@
 //! The names of an indication's elements and attributes (WAP-167, section 8.3).
 
 /// An element's name.
-#[derive(Clone, Copy, Debug, PartialEq, Eq)]
+#[derive(Clone, Copy, PartialEq, Eq)]
 pub enum PushTag {
     Si,
     Indication,
@@ -10,7 +10,7 @@ pub enum PushTag {
 }
 
 /// An attribute's name.
-#[derive(Clone, Copy, Debug, PartialEq, Eq)]
+#[derive(Clone, Copy, PartialEq, Eq)]
 pub enum PushField {
     Action,
     Created,

@@ -2,7 +2,7 @@
 use crate::row::OpName;
 
 /// An instruction. Operands that it doesn't have are 0.
-#[derive(Clone, Copy, Debug, PartialEq, Eq)]
+#[derive(Clone, Copy)]
 pub struct Instr {
     /// The name of its spelling, as its row has it.
     pub name: OpName,

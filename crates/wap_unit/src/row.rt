@@ -1,7 +1,7 @@
 //! The instructions as rows of a table (WAP-193, section 10).
 
 /// The names of instructions. A short form has a name of its own.
-#[derive(Clone, Copy, Debug, PartialEq, Eq)]
+#[derive(Clone, Copy, PartialEq, Eq)]
 pub enum OpName {
     JumpFwS,
     JumpFw,
@@ -75,7 +75,7 @@ pub enum OpName {
 }
 
 /// Where an operand stands.
-#[derive(Clone, Copy, Debug, PartialEq, Eq)]
+#[derive(Clone, Copy)]
 pub enum Slot {
     /// There is none.
     Absent,
@@ -88,7 +88,7 @@ pub enum Slot {
 }
 
 /// What the operands are.
-#[derive(Clone, Copy, Debug, PartialEq, Eq)]
+#[derive(Clone, Copy)]
 pub enum Operands {
     /// A distance, or none.
     Plain,
@@ -105,7 +105,7 @@ pub enum Operands {
 }
 
 /// How many values an instruction takes.
-#[derive(Clone, Copy, Debug, PartialEq, Eq)]
+#[derive(Clone, Copy)]
 pub enum Takes {
     /// So many.
     Values(u8),
@@ -114,7 +114,7 @@ pub enum Takes {
 }
 
 /// Where it goes on after an instruction.
-#[derive(Clone, Copy, Debug, PartialEq, Eq)]
+#[derive(Clone, Copy)]
 pub enum After {
     /// After it.
     On,
@@ -133,7 +133,7 @@ pub enum After {
 }
 
 /// One spelling of an operation: its codes are `count` from `first` on.
-#[derive(Clone, Copy, Debug)]
+#[derive(Clone, Copy)]
 pub struct Row {
     /// The least of its codes.
     pub first: u8,

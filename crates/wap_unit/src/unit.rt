@@ -3,7 +3,7 @@
 use wap_base::{Bytes, Rows, Text};
 
 /// A compiled unit.
-#[derive(Debug, Drop)]
+#[derive(Drop)]
 pub struct Unit {
     /// The version byte: the major number minus one, and the minor number, in four bits each.
     pub version: u8,
@@ -20,7 +20,7 @@ pub struct Unit {
 }
 
 /// A constant of the pool.
-#[derive(Debug, Drop)]
+#[derive(Drop)]
 pub enum Constant {
     Int8(i8),
     Int16(i16),
@@ -36,7 +36,7 @@ pub enum Constant {
 }
 
 /// A pragma. Its texts are constants, named by their indexes.
-#[derive(Clone, Copy, Debug)]
+#[derive(Clone, Copy)]
 pub enum Pragma {
     /// The domain of an access rule.
     Domain(u32),
@@ -50,7 +50,7 @@ pub enum Pragma {
 
 /// A function: how many arguments it takes, how many variables it has besides, and its
 /// instructions.
-#[derive(Debug, Drop)]
+#[derive(Drop)]
 pub struct Code {
     /// How many arguments it takes; they are its first variables.
     pub args: u8,

@@ -11,7 +11,7 @@ use wap_base::Text;
 
 /// Who may enter a page: callers whose host ends in the labels of `domain` and whose path begins
 /// with the segments of `path`.
-#[derive(Debug, Drop)]
+#[derive(Drop)]
 pub struct Access {
     /// Labels in which a caller's host has to end.
     pub domain: Text,

@@ -1,7 +1,7 @@
 //! The operators.
 
 /// An operator of one operand.
-#[derive(Clone, Copy, Debug, PartialEq, Eq)]
+#[derive(Clone, Copy)]
 pub enum UnOp {
     /// `+`
     Plus,
@@ -24,7 +24,7 @@ pub enum UnOp {
 }
 
 /// An operator of two operands.
-#[derive(Clone, Copy, Debug, PartialEq, Eq)]
+#[derive(Clone, Copy)]
 pub enum BinOp {
     /// `*`
     Mul,

@@ -12,7 +12,7 @@ use wap_asm::{args_of, read_row, row_of};
 use wap_unit::{After, Code, Instr, Operands, Row, Takes, Unit};
 
 /// A place where it may go on, and how many values are given on the way there.
-#[derive(Clone, Copy, Debug, PartialEq, Eq)]
+#[derive(Clone, Copy)]
 pub struct Way {
     /// The place where it goes on.
     pub to: usize,
@@ -21,7 +21,7 @@ pub struct Way {
 }
 
 /// One instruction, or a short-circuit and its jump.
-#[derive(Clone, Copy, Debug, PartialEq, Eq)]
+#[derive(Clone, Copy)]
 pub struct Step {
     /// How many values it takes.
     pub takes: u32,

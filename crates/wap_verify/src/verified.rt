@@ -20,7 +20,7 @@ use wap_base::{Charset, Rows, Text};
 use wap_unit::{Constant, Unit};
 
 /// A unit that may be run. A contract sees the unit.
-#[derive(Debug, Drop)]
+#[derive(Drop)]
 pub struct Verified {
     unit: Unit,
     /// The texts of coded strings, each at its constant's index.

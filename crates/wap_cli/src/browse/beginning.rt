@@ -2,7 +2,7 @@
 use wap_base::{Limits, Text};
 
 /// What a session is begun with.
-#[derive(Debug, Drop)]
+#[derive(Drop)]
 pub struct Beginning {
     /// The URL that is opened first.
     pub url: Text,

@@ -2,7 +2,7 @@
 use wap_base::Text;
 
 /// What a constant holds: an integer or a text.
-#[derive(Debug, Drop, PartialEq, Eq, Hash)]
+#[derive(Drop, PartialEq, Eq, Hash)]
 pub(crate) enum Content {
     Integer(i32),
     Text(Text),

@@ -12,7 +12,7 @@ use wap_unit::Pragma;
 use wap_verify::Verified;
 
 /// An external function of a unit.
-#[derive(Debug, Drop)]
+#[derive(Drop)]
 pub struct External {
     /// Its index.
     pub index: u8,

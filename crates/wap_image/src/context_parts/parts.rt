@@ -2,7 +2,7 @@
 use wap_base::{Limits, Rows, Text};
 
 /// What a context at rest keeps, with the generator by how far it was drawn.
-#[derive(Debug, Drop)]
+#[derive(Drop)]
 pub struct ContextParts {
     /// The variables, each with its text, in the order of their names.
     pub vars: Rows<(Text, Text)>,
@@ -22,7 +22,7 @@ pub struct ContextParts {
 }
 
 /// The timer of a card while no script is at work.
-#[derive(Clone, Copy, Debug, PartialEq, Eq)]
+#[derive(Clone, Copy)]
 pub enum SavedTimer {
     /// It hasn't started since the card was entered.
     NotStarted,

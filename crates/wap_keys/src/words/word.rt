@@ -8,7 +8,7 @@ ghost use Rattle.wap_keys.specs.words.inside.Matching.{by_name};
 use crate::words::PageCommand;
 
 /// What a command's word says.
-#[derive(Clone, Copy, Debug, PartialEq, Eq)]
+#[derive(Clone, Copy)]
 pub(crate) enum Word {
     Browse,
     Image,

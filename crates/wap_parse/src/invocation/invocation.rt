@@ -3,7 +3,7 @@ use wap_base::{Rows, Text};
 use wap_value::Value;
 
 /// What a fragment calls.
-#[derive(Debug, Drop, PartialEq, Eq)]
+#[derive(Drop)]
 pub struct Invocation {
     /// The name of the function.
     pub function: Text,
