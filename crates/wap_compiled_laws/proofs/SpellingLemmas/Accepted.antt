@@ -1,6 +1,6 @@
 -- What an accepted source says can be spelled, and so the unit of its program has a spelling.
-use Rattle.std.proofs.Common.{◌≡◌, ℕ, ◌+◌, ◌<◌, ◌≤◌, ◌⊎◌, inl, inr, Bool, true, false, ◌||◌, cond}
-use Rattle.std.proofs.Common.{List, [], ◌∷◌, ◌++◌, length, Some, None, refl, sym, ap, subst}
+use Rattle.std.proofs.Common.{◌≡◌, ℕ, ◌+◌, ◌^◌, ◌<◌, ◌≤◌, ◌⊎◌, inl, inr, Bool, true, false, ◌||◌}
+use Rattle.std.proofs.Common.{cond, List, [], ◌∷◌, ◌++◌, length, Some, None, refl, sym, ap, subst}
 use Rattle.std.proofs.Common.{arith}
 use Rattle.std.specs.List.{AllByRecursion, flat_map, filter_map, sum_by}
 use Rattle.std.specs.Str.{all_scalars}
@@ -23,7 +23,8 @@ use Rattle.wap_grammar.specs.Statements.{IsStatement}
 use Rattle.wap_grammar.specs.Programs.{IsUse, IsFunction, IsProgramOf}
 use Rattle.wap_grammar.specs.Programs as formed
 use Rattle.wap_grammar.specs.Lexemes.{lexemes_of}
-use Rattle.wap_unit.specs.Spelling.{HasSpelling}
+use Rattle.wap_unit.specs.Units.{IsUnit}
+use Rattle.wap_unit.specs.Spelling.{spelling, HasSpelling}
 use Rattle.wap_meaning.specs.Names.{Names, url_of, url_in, names_in}
 use Rattle.wap_meaning.specs.coding.Constants.{is_in, same_literal, with_literal, pooled}
 use Rattle.wap_meaning.specs.coding.Needs.{Need, Constant, Operator, Variable, Local, Other}
@@ -41,7 +42,7 @@ use Rattle.wap_meaning.specs.compiled.Accepted.{IsAccepted}
 use Rattle.wap_compiled_laws.proofs.CodeSizes.Each.{each_front, each_back, each_both, each_then}
 use Rattle.wap_compiled_laws.proofs.SpellingLemmas.Written.{pragma_size}
 use Rattle.wap_compiled_laws.proofs.SourceSizes.Sizes.{text_size, CanBeSaid}
-use Rattle.wap_compiled_laws.proofs.SpellingLemmas.Units.{CanBeSpelled, has_spelling}
+use Rattle.wap_compiled_laws.proofs.SpellingLemmas.Units.{CanBeSpelled, is_spelled}
 use Rattle.wap_compiled_laws.proofs.SourceSizes.Tokens.{weight, Sound, tokens_weigh, lexemes_sound}
 use Rattle.wap_compiled_laws.proofs.SourceSizes.Weights.{need_size, IsSaid, drawn_said, sound_after}
 use Rattle.wap_compiled_laws.proofs.SourceSizes.Weights.{use_bytes}
@@ -451,8 +452,12 @@ module _ (source : List ℕ) (p : Program) (is : IsAccepted source p) where
         );
       }
 
+pub accepted_unit : (source : List ℕ) (p : Program) → IsAccepted source p
+    → IsUnit (spelling (compiled p)) (compiled p) × (length (spelling (compiled p)) < 2 ^ 32)
+accepted_unit source p is =
+    is_spelled p is.scoped (operators source is.spells.tokens p (LEVEL_LIMIT, is.spells.spells))
+    is.room (can_be_spelled source p is)
+
 pub accepted_spelling : (source : List ℕ) (p : Program) → IsAccepted source p
     → HasSpelling (compiled p)
-accepted_spelling source p is =
-    has_spelling p is.scoped (operators source is.spells.tokens p (LEVEL_LIMIT, is.spells.spells))
-    is.room (can_be_spelled source p is)
+accepted_spelling source p is = (spelling (compiled p), (accepted_unit source p is).0)

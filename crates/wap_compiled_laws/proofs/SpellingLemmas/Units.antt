@@ -8,7 +8,7 @@ use Rattle.std.specs.List.{cons_option}
 use Rattle.std.specs.Str.{all_scalars}
 use Rattle.std.proofs.lemmas.Bool.{ltb-true}
 use Rattle.std.proofs.Math.Nat.{mul-suc}
-use Rattle.std.proofs.lemmas.List.{length-map}
+use Rattle.std.proofs.lemmas.List.{length-map, length-append}
 use Rattle.std.proofs.lemmas.List.Elements.{recursion_from_All}
 use Rattle.std.proofs.lemmas.List.Sums.{sum_by-cons}
 use Rattle.wap_base.specs.Numbers.{IsMb, mb_spelling}
@@ -29,10 +29,10 @@ use Rattle.wap_meaning.specs.coding.Constants.{constant_for}
 use Rattle.wap_unit.specs.Sequences.{InTurn, IsRow, IsCounted}
 use Rattle.wap_unit.specs.Units.{IsConstant, AreConstants, IsPragma, IsName, IsFunction}
 use Rattle.wap_unit.specs.Units.{AreFunctions}
-use Rattle.wap_unit.specs.Units.{IsBody}
+use Rattle.wap_unit.specs.Units.{IsBody, IsUnit}
 use Rattle.wap_unit.specs.Spelling.{counted, constant_spelling, pragma_spelling, name_spelling}
 use Rattle.wap_unit.specs.Spelling.{function_spelling, constants_spelling, functions_spelling}
-use Rattle.wap_unit.specs.Spelling.{body_spelling, spelling, HasSpelling}
+use Rattle.wap_unit.specs.Spelling.{body_spelling, spelling}
 use Rattle.wap_meaning.specs.compiled.Pool.{use_literals, pool}
 use Rattle.wap_meaning.specs.compiled.Units.{pragmas_of, text_place, is_short, entry_of, entries}
 use Rattle.wap_meaning.specs.compiled.Units.{forms_of}
@@ -328,13 +328,14 @@ module _ (p : Program) (scoped : IsScoped p) (takes : AllTake p) (room : HasRoom
         short = omega (arith, whole.short, constants_size (pool p), room.constants, can.short);
       }
 
-  pub has_spelling : HasSpelling (compiled p)
+  -- its bytes are the unit, and fewer than 2^32
+  pub is_spelled : IsUnit (spelling (compiled p)) (compiled p)
+      × (length (spelling (compiled p)) < 2 ^ 32)
   unfolding spelling compiled
-  has_spelling =
+  is_spelled =
       let u = compiled p in
       let body = body_spelling u in
       let size = number (length body) (omega (arith, body_part.short)) in (
-        spelling u,
         record {
           bytes_are =
               (omega arith, bytes_both (mb_spelling (length body)) body size.are body_part.are);
@@ -347,4 +348,5 @@ module _ (p : Program) (scoped : IsScoped p) (takes : AllTake p) (room : HasRoom
           };
           body_is = body_part.is;
         },
+        omega (arith, size.short, body_part.short, length-append (mb_spelling (length body)) body),
       )

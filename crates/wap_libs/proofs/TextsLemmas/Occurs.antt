@@ -1,11 +1,13 @@
 -- Where a text occurs in another, by bytes and by characters.
-use Rattle.std.proofs.Common.{◌≡◌, ◌≢◌, ℕ, suc, ◌-◌, ◌<◌, ◌≤◌, true, false, List, [], ◌∷◌}
-use Rattle.std.proofs.Common.{◌++◌, length, take, drop, Some, None, refl, ap, ap₂, sym}
-use Rattle.std.proofs.Common.{◌∙◌, subst, inl, inr, arith, encode_utf8_all}
+use Rattle.std.proofs.Common.{◌≡◌, ◌≢◌, ℕ, zero, suc, ◌+◌, ◌<◌, ◌≤◌, true, false, List, [], ◌∷◌}
+use Rattle.std.proofs.Common.{◌++◌, length, take, drop, Option, Some, None, refl, ap, ap₂, sym}
+use Rattle.std.proofs.Common.{◌∙◌, subst, inl, inr, arith, encode_utf8_all, append_assoc}
+use Rattle.std.proofs.Common.{append-nil}
 use Rattle.std.specs.Prelude.{nat_eq, option_map}
-use Rattle.std.specs.List.{starts_with}
+use Rattle.std.specs.List.{starts_with, flat_map, join_by}
 use Rattle.std.specs.Str.{IsUtf8, IsCharBoundary, chars}
 use Rattle.std.specs.Str.Pattern.{FindsText, HasTextAt, SplitsAroundMatch}
+use Rattle.std.proofs.Math.Seq.{take-append_seam}
 use Rattle.std.proofs.lemmas.Bool.{cases_Bool, cases_lt, cond-true, cond-false}
 use Rattle.std.proofs.lemmas.List.{drop_at, length-append, length-drop}
 use Rattle.std.proofs.lemmas.List.{length-take-le, take-append-drop}
@@ -15,7 +17,7 @@ use Rattle.std.proofs.lemmas.Slice.Eq.{starts_is}
 use Rattle.std.proofs.lemmas.Bool.Decides.{Decides-eqb}
 use Rattle.wap_base.specs.Utf8.{utf8_len}
 use Rattle.wap_base.proofs.Utf8Lengths.{length-encode_utf8_all, utf8_len-bounds}
-use Rattle.wap_libs.specs.Occurrences.{place_of, replaced, replaced_behind}
+use Rattle.wap_libs.specs.Occurrences.{place_of, cut_at, pieces, replaced}
 
 -- the text p occurs nowhere in s
 pub record Lacks (p s : List ℕ) : Type 0 where
@@ -166,43 +168,79 @@ place_of-IsFirst d q (e ∷ s) (c ∷ front) back is =
     ∙ sym (cond-false (starts_with nat_eq (e ∷ s) (d ∷ q)) (Some 0)
     (option_map (λ k. suc k) (place_of (d ∷ q) s)) (not_here (d ∷ q) (e ∷ s) front back c is))
 
+-- a text in which nothing occurs is one piece
+pieces_none : (most : ℕ) (p s : List ℕ) → Lacks p s → pieces most p s ≡ s ∷ []
+pieces_none zero p s none = refl
+pieces_none (suc most) p s none =
+    ap (cut_at (pieces most p) (length p) s) (sym (place_of-Lacks p s none))
+
 -- nothing is replaced where nothing occurs
 pub replaced-Lacks : (p new s : List ℕ) → Lacks p s → replaced p new s ≡ s
-replaced-Lacks p new [] none = refl
-replaced-Lacks p new (c ∷ s) none =
-    cond-false (starts_with nat_eq (c ∷ s) p) (new ++ replaced_behind p new s (length p - 1))
-    (c ∷ replaced p new s) (never_begins (c ∷ s) p (λ rest. none.nowhere [] rest))
-    ∙ ap (λ t. c ∷ t) (replaced-Lacks p new s (rest_lacks p s c none))
+replaced-Lacks p new s none =
+    ap (join_by (λ (piece : List ℕ). piece) new) (pieces_none (length s) p s none) ∙ append-nil s
 
--- what is to be passed over is passed over
-passed : (p new q back : List ℕ)
-    → replaced_behind p new (q ++ back) (length q) ≡ replaced p new back
-passed p new [] back = refl
-passed p new (c ∷ q) back = passed p new q back
+-- the first piece ends at the first occurrence
+pieces_first : (most d : ℕ) (q s front back : List ℕ) → IsFirst (d ∷ q) s front back
+    → pieces (suc most) (d ∷ q) s ≡ front ∷ pieces most (d ∷ q) back
+pieces_first most d q s front back is =
+    let p : List ℕ = d ∷ q in
+    let taken : take (length front) s ≡ front =
+    ap (take (length front)) is.split ∙ take-append_seam front (p ++ back) in
+    let left : drop (length front + length p) s ≡ back =
+    ap (drop (length front + length p)) (is.split ∙ sym (append_assoc front p back))
+    ∙ drop_at (front ++ p) back (length front + length p) (length-append front p) in
+    ap (cut_at (pieces most p) (length p) s) (sym (place_of-IsFirst d q s front back is))
+    ∙ ap₂ (λ (a b : List ℕ). a ∷ pieces most p b) taken left
 
-replaced_here : (d : ℕ) (q new back : List ℕ)
-    → replaced (d ∷ q) new ((d ∷ q) ++ back) ≡ new ++ replaced (d ∷ q) new back
-replaced_here d q new back =
-    cond-true (starts_with nat_eq ((d ∷ q) ++ back) (d ∷ q))
-    (new ++ replaced_behind (d ∷ q) new (q ++ back) (length (d ∷ q) - 1))
-    (d ∷ replaced (d ∷ q) new (q ++ back)) (begins_with (d ∷ q) back)
-    ∙ ap (λ k. new ++ replaced_behind (d ∷ q) new (q ++ back) k) (less (length q))
-    ∙ ap (λ t. new ++ t) (passed (d ∷ q) new q back) where
-      less : (n : ℕ) → suc n - 1 ≡ n
-      less n = omega arith
+-- a text has no more occurrences than characters
+enough : (one two d : ℕ) (q s : List ℕ) → length s ≤ one → length s ≤ two
+    → pieces one (d ∷ q) s ≡ pieces two (d ∷ q) s
+enough zero zero d q s few fewer = refl
+enough zero (suc two) d q [] few fewer = refl
+enough zero (suc two) d q (c ∷ s) few fewer = absurd (omega (arith, few))
+enough (suc one) zero d q [] few fewer = refl
+enough (suc one) zero d q (c ∷ s) few fewer = absurd (omega (arith, fewer))
+enough (suc one) (suc two) d q s few fewer =
+    by (place_of (d ∷ q) s) (λ k. enough one two d q (drop (k + length (d ∷ q)) s)
+    (omega (arith, few, length-drop (k + length (d ∷ q)) s))
+    (omega (arith, fewer, length-drop (k + length (d ∷ q)) s)))
+  where
+    by : (o : Option ℕ)
+        → ((k : ℕ) → pieces one (d ∷ q) (drop (k + length (d ∷ q)) s)
+        ≡ pieces two (d ∷ q) (drop (k + length (d ∷ q)) s))
+        → cut_at (pieces one (d ∷ q)) (length (d ∷ q)) s o
+        ≡ cut_at (pieces two (d ∷ q)) (length (d ∷ q)) s o
+    by None same = refl
+    by (Some k) same = ap (λ (others : List (List ℕ)). take k s ∷ others) (same k)
+
+-- there is a piece, so the new text stands before those that come next
+next_joined : (most : ℕ) (p new s : List ℕ)
+    → flat_map (λ (piece : List ℕ). new ++ piece) (pieces most p s)
+    ≡ new ++ join_by (λ (piece : List ℕ). piece) new (pieces most p s)
+next_joined zero p new s = append_assoc new s []
+next_joined (suc most) p new s = by (place_of p s)
+  where
+    by : (o : Option ℕ)
+        → flat_map (λ (piece : List ℕ). new ++ piece) (cut_at (pieces most p) (length p) s o)
+        ≡ new ++ join_by (λ (piece : List ℕ). piece) new (cut_at (pieces most p) (length p) s o)
+    by None = append_assoc new s []
+    by (Some k) =
+        append_assoc new (take k s)
+        (flat_map (λ (piece : List ℕ). new ++ piece) (pieces most p (drop (k + length p) s)))
 
 pub replaced-IsFirst : (d : ℕ) (q new s front back : List ℕ) → IsFirst (d ∷ q) s front back
     → replaced (d ∷ q) new s ≡ front ++ (new ++ replaced (d ∷ q) new back)
-replaced-IsFirst d q new s [] back is =
-    ap (replaced (d ∷ q) new) is.split ∙ replaced_here d q new back
-replaced-IsFirst d q new [] (c ∷ front) back is = absurd (let whole = is.split in cc)
-replaced-IsFirst d q new (e ∷ s) (c ∷ front) back is =
-    let same : e ≡ c = (let whole = is.split in cc) in
-    let P : ℕ → Type 0 = λ k. IsFirst (d ∷ q) (e ∷ s) (k ∷ front) back in
-    cond-false (starts_with nat_eq (e ∷ s) (d ∷ q)) (new ++ replaced_behind (d ∷ q) new s
-    (length (d ∷ q) - 1)) (e ∷ replaced (d ∷ q) new s) (not_here (d ∷ q) (e ∷ s) front back c is)
-    ∙ ap₂ (λ k t. k ∷ t) same (replaced-IsFirst d q new s front back
-    (rest_first (d ∷ q) s front back e (subst P (sym same) is)))
+replaced-IsFirst d q new [] front back is =
+    absurd (omega (arith, ap length is.split, length-append front ((d ∷ q) ++ back)))
+replaced-IsFirst d q new (e ∷ s) front back is =
+    let p : List ℕ = d ∷ q in
+    let size : length (e ∷ s) ≡ length front + length (p ++ back) =
+    ap length is.split ∙ length-append front (p ++ back) in
+    ap (join_by (λ (piece : List ℕ). piece) new)
+    (pieces_first (length s) d q (e ∷ s) front back is
+    ∙ ap (λ (others : List (List ℕ)). front ∷ others) (enough (length s) (length back) d q back
+    (omega (arith, size, length-append p back)) (omega arith)))
+    ∙ ap (λ (t : List ℕ). front ++ t) (next_joined (length back) p new back)
 
 pub place_of-first : (p s front back : List ℕ) → 0 < length p → IsFirst p s front back
     → Some (length front) ≡ place_of p s
