@@ -22,7 +22,7 @@ use Rattle.wap_grammar.specs.declared.program.program.Function.{Function}
 use Rattle.wap_grammar.specs.declared.program.program.Program.{Program}
 use Rattle.wap_scope.specs.declared.fault.ScopeFault.{ScopeFault}
 use Rattle.wap_scope.specs.declared.fault.ScopeFault.TheVariants as scope
-use Rattle.wap_scope.specs.Scoped.{IsScoped}
+use Rattle.wap_scope.specs.Scoped.{IsFault, IsScoped}
 use Rattle.wap_scope.specs.Faults.{faults, first_fault}
 use Rattle.wap_unit.specs.declared.unit.Unit.{Unit as CodeUnit}
 use Rattle.wap_meaning.specs.compiled.Pool.{pool}
@@ -84,42 +84,44 @@ parse_cause src tokens are parse.NoMemory only syntax nested first stops = tt
 
 -- of the names
 pub scope_cause : (src : List ℕ) (p : Program) → IsSourceOf src p → (fault : ScopeFault)
+    → (fault ≢ scope.NoMemory → IsFault p fault)
     → (fault ≢ scope.NoMemory → first_fault (faults p) ≡ Some fault)
-    → (fault ≢ scope.NoMemory → ¬ IsScoped p) → IsCompileFault src (scope_fault fault)
-scope_cause src p spelled fault first bad = by fault first bad where
-  unscoped : (fault : ScopeFault) → first_fault (faults p) ≡ Some fault → ¬ IsScoped p
+    → IsCompileFault src (scope_fault fault)
+scope_cause src p spelled fault found first = by fault found first where
+  unscoped : (fault : ScopeFault) → IsFault p fault → first_fault (faults p) ≡ Some fault
       → IsUnscoped src fault
-  unscoped fault first bad =
-      record { program = p; spelled = spelled; unscoped = bad; first = first }
+  unscoped fault found first =
+      record { program = p; spelled = spelled; found = found; first = first }
 
   by : (fault : ScopeFault)
+      → (fault ≢ scope.NoMemory → IsFault p fault)
       → (fault ≢ scope.NoMemory → first_fault (faults p) ≡ Some fault)
-      → (fault ≢ scope.NoMemory → ¬ IsScoped p) → IsCompileFault src (scope_fault fault)
-  by scope.NoMemory first bad = tt
-  by (scope.NoVariable span) first bad =
-      unscoped (scope.NoVariable span) (first (λ same. cc)) (bad (λ same. cc))
-  by (scope.TwoVariables span) first bad =
-      unscoped (scope.TwoVariables span) (first (λ same. cc)) (bad (λ same. cc))
-  by (scope.NoFunction span) first bad =
-      unscoped (scope.NoFunction span) (first (λ same. cc)) (bad (λ same. cc))
-  by (scope.TwoFunctions span) first bad =
-      unscoped (scope.TwoFunctions span) (first (λ same. cc)) (bad (λ same. cc))
-  by (scope.Arguments span) first bad =
-      unscoped (scope.Arguments span) (first (λ same. cc)) (bad (λ same. cc))
-  by (scope.NoUnit span) first bad =
-      unscoped (scope.NoUnit span) (first (λ same. cc)) (bad (λ same. cc))
-  by (scope.TwoUnits span) first bad =
-      unscoped (scope.TwoUnits span) (first (λ same. cc)) (bad (λ same. cc))
-  by (scope.NoLibrary span) first bad =
-      unscoped (scope.NoLibrary span) (first (λ same. cc)) (bad (λ same. cc))
-  by (scope.LoneBreak span) first bad =
-      unscoped (scope.LoneBreak span) (first (λ same. cc)) (bad (λ same. cc))
-  by (scope.TwoAccess span) first bad =
-      unscoped (scope.TwoAccess span) (first (λ same. cc)) (bad (λ same. cc))
-  by (scope.TooManyLocals span) first bad =
-      unscoped (scope.TooManyLocals span) (first (λ same. cc)) (bad (λ same. cc))
-  by (scope.TooManyFunctions span) first bad =
-      unscoped (scope.TooManyFunctions span) (first (λ same. cc)) (bad (λ same. cc))
+      → IsCompileFault src (scope_fault fault)
+  by scope.NoMemory found first = tt
+  by (scope.NoVariable span) found first =
+      unscoped (scope.NoVariable span) (found (λ same. cc)) (first (λ same. cc))
+  by (scope.TwoVariables span) found first =
+      unscoped (scope.TwoVariables span) (found (λ same. cc)) (first (λ same. cc))
+  by (scope.NoFunction span) found first =
+      unscoped (scope.NoFunction span) (found (λ same. cc)) (first (λ same. cc))
+  by (scope.TwoFunctions span) found first =
+      unscoped (scope.TwoFunctions span) (found (λ same. cc)) (first (λ same. cc))
+  by (scope.Arguments span) found first =
+      unscoped (scope.Arguments span) (found (λ same. cc)) (first (λ same. cc))
+  by (scope.NoUnit span) found first =
+      unscoped (scope.NoUnit span) (found (λ same. cc)) (first (λ same. cc))
+  by (scope.TwoUnits span) found first =
+      unscoped (scope.TwoUnits span) (found (λ same. cc)) (first (λ same. cc))
+  by (scope.NoLibrary span) found first =
+      unscoped (scope.NoLibrary span) (found (λ same. cc)) (first (λ same. cc))
+  by (scope.LoneBreak span) found first =
+      unscoped (scope.LoneBreak span) (found (λ same. cc)) (first (λ same. cc))
+  by (scope.TwoAccess span) found first =
+      unscoped (scope.TwoAccess span) (found (λ same. cc)) (first (λ same. cc))
+  by (scope.TooManyLocals span) found first =
+      unscoped (scope.TooManyLocals span) (found (λ same. cc)) (first (λ same. cc))
+  by (scope.TooManyFunctions span) found first =
+      unscoped (scope.TooManyFunctions span) (found (λ same. cc)) (first (λ same. cc))
 
 -- of the sizes of the unit
 pub unit_cause : (src : List ℕ) (p : Program) → IsSourceOf src p → IsScoped p
@@ -179,8 +181,8 @@ accepted_apart src p accepted (Parse fault) other is =
     (same_tokens src accepted.spells.tokens is.tokens accepted.spells.are_tokens is.are_tokens)
     accepted.spells.spells)
 accepted_apart src p accepted (Scope fault) other is =
-    is.unscoped (subst IsScoped (one_program src p is.program accepted.spells is.spelled)
-    accepted.scoped)
+    subst IsScoped (one_program src p is.program accepted.spells is.spelled) accepted.scoped fault
+    is.found
 accepted_apart src p accepted (TooManyConstants count) other is =
     let few = subst (λ (q : Program). length (pool q) ≤ most_constants)
     (one_program src p is.program accepted.spells is.spelled) accepted.room.constants in

@@ -6,9 +6,10 @@ use Rattle.std.specs.List.{filter_map}
 use Rattle.wap_grammar.specs.declared.program.program.Function.{Function}
 use Rattle.wap_grammar.specs.declared.program.program.Program.{Program}
 use Rattle.wap_scope.specs.Names.{Mention, Declares, Refers, Jumps, declared, names_declared, said}
-use Rattle.wap_scope.specs.Scoped.{IsScoped}
+use Rattle.wap_scope.specs.Scoped.{HasFunction, IsScoped}
 use Rattle.wap_scope.specs.declared.limits.TheConstants.{VARIABLE_LIMIT, FUNCTION_LIMIT}
 use Rattle.wap_scope.specs.accepted.Known.{variables}
+use Rattle.wap_scope.proofs.InOrder.{in_order}
 use Rattle.wap_scope.proofs.AcceptedLemmas.Places.{all_by_places}
 use Rattle.wap_codegen.proofs.PoolLemmas.Once.{variables_once}
 use Rattle.wap_compiled_laws.specs.Laws.{HasForms}
@@ -77,7 +78,8 @@ module _ (p : Program) (scoped : IsScoped p) where
   pub few_functions : length p.functions ≤ 255
   few_functions =
       let few = few_named named FUNCTION_LIMIT 0 p.functions (λ before here after n split is.
-      let fewer = scoped.too_many_functions before here (record { after = after; whole = split }) in
+      let has : HasFunction p before here = record { after = after; whole = split } in
+      let fewer = (in_order p scoped).too_many_functions before here has in
       let same = as_many before in
       omega (arith, fewer, same)) (omega arith) in
       let same = as_many p.functions in
@@ -88,7 +90,7 @@ module _ (p : Program) (scoped : IsScoped p) where
       (after : List Mention) (n : List ℕ) → said f ≡ before ++ here ∷ after
       → declared here ≡ Some n → 0 + length (names_declared before) < VARIABLE_LIMIT
   few_before earlier f later functions before (Declares v) after n split is =
-      from_zero _ VARIABLE_LIMIT (scoped.too_many_locals before v (record {
+      from_zero _ VARIABLE_LIMIT ((in_order p scoped).too_many_locals before v (record {
         earlier = earlier;
         function = f;
         later = later;

@@ -17,7 +17,7 @@ use Rattle.wap_grammar.specs.reading.Programs.{program_at}
 use Rattle.wap_grammar.specs.declared.program.program.Function.{Function}
 use Rattle.wap_grammar.specs.declared.program.program.Program.{Program}
 use Rattle.wap_scope.specs.declared.fault.ScopeFault.{ScopeFault}
-use Rattle.wap_scope.specs.Scoped.{IsScoped}
+use Rattle.wap_scope.specs.Scoped.{IsFault, IsScoped}
 use Rattle.wap_scope.specs.Faults.{faults, first_fault}
 use Rattle.wap_meaning.specs.compiled.Pool.{pool}
 use Rattle.wap_meaning.specs.compiled.Wide.{function_wide}
@@ -50,7 +50,7 @@ pub record HasNoProgram (src : List ℕ) (fault : ParseFault) : Type 0 where
 pub record IsUnscoped (src : List ℕ) (fault : ScopeFault) : Type 0 where
   pub program : Program
   pub spelled : IsSourceOf src program
-  pub unscoped : ¬ IsScoped program
+  pub found : IsFault program fault
   pub first : first_fault (faults program) ≡ Some fault
 
 -- its program needs so many constants, and that is too many

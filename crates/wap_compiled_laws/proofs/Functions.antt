@@ -30,6 +30,7 @@ use Rattle.wap_scope.specs.Names.{Mention, Declares, Refers, Jumps, said, declar
 use Rattle.wap_scope.specs.Names.{names_declared}
 use Rattle.wap_scope.specs.Scoped.{IsScoped}
 use Rattle.wap_scope.specs.accepted.Known.{variables, CanBeCoded}
+use Rattle.wap_scope.proofs.InOrder.{in_order}
 use Rattle.wap_scope.proofs.AcceptedLemmas.Known.{all_can_be}
 use Rattle.wap_meaning.specs.coding.Constants.{is_in}
 use Rattle.wap_meaning.specs.coding.Compiled.{function_code, numbers_in, IsCodeOf, IsCompiled}
@@ -110,7 +111,7 @@ few_names n before (m ∷ rest) less each =
 pub few_functions : (p : Program) → IsScoped p → length p.functions ≤ FUNCTION_LIMIT
 few_functions p scoped =
     few_items FUNCTION_LIMIT [] p.functions (omega arith) (λ before f after whole.
-    scoped.too_many_functions before f (record { after = after; whole = whole }))
+    (in_order p scoped).too_many_functions before f (record { after = after; whole = whole }))
 
 -- a function of a program
 pub record Among (p : Program) (f : Function) : Type 0 where
@@ -123,7 +124,7 @@ pub few_variables : (p : Program) → IsScoped p → (f : Function) → Among p 
     → length (variables f) ≤ VARIABLE_LIMIT
 few_variables p scoped f among =
     few_names VARIABLE_LIMIT [] (said f) (omega arith) (λ before v after whole.
-    scoped.too_many_locals before v (record {
+    (in_order p scoped).too_many_locals before v (record {
       earlier = among.earlier;
       function = f;
       later = among.later;
@@ -230,7 +231,7 @@ module _ (p : Program) (scoped : IsScoped p) (takes : AllTake p)
   unfolding place
   good =
       let said_all =
-      one_of (λ (f : Function). All (CanBeCoded p f) (said f)) (all_can_be p scoped) in
+      one_of (λ (f : Function). All (CanBeCoded p f) (said f)) (all_can_be p (in_order p scoped)) in
       body_good place f.body
       (each_back (CanBeCoded p f) (map Declares f.params)
       (flat_map (λ s. mentions s false) f.body)

@@ -1,7 +1,7 @@
 -- What the names of a function mean (WAP-193, sections 6.1.8, 6.2 and 6.4.2): variables and
 -- functions of the program by their places, units by their URLs, libraries by their numbers.
 use Rattle.std.specs.Prelude.{ℕ, false, List, [], ◌∷◌, Option, Some, None, if◌then◌else◌}
-use Rattle.std.specs.List.{position_or_len, filter_map, flat_map}
+use Rattle.std.specs.List.{filter_map, flat_map}
 use Rattle.wap_base.specs.Texts.{is_same_text}
 use Rattle.wap_unit.specs.Libraries.{lib_named}
 use Rattle.wap_grammar.specs.declared.program.program.Id.{Id}
@@ -11,6 +11,7 @@ use Rattle.wap_grammar.specs.declared.program.program.Function.{Function}
 use Rattle.wap_grammar.specs.declared.program.program.Program.{Program}
 use Rattle.wap_scope.specs.Names.{mentions, said, names_declared}
 use Rattle.wap_scope.specs.Meanings.{function_names}
+use Rattle.wap_scope.specs.accepted.Known.{place_of}
 use Rattle.wap_execution.specs.Effects.{Called, local, library, external}
 
 -- what the names in a function may mean
@@ -23,10 +24,6 @@ pub record Names : Type 0 where
   pub urls : List (List ℕ × List ℕ)
 
 -- ---- what one name means
-
--- the first place of a name, and that after the last where it has none
-abbrev pub place_of : List ℕ → List (List ℕ) → ℕ
-place_of name names = position_or_len (is_same_text name) names
 
 -- the URL that the name of a unit stands for, and the empty text where it stands for none
 abbrev pub url_of : List ℕ → List (List ℕ × List ℕ) → List ℕ

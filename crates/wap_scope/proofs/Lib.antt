@@ -1,4 +1,3 @@
-pub mod Lists
 pub mod Walking
 pub mod TreeNames
 pub mod ExpressionParts
@@ -7,9 +6,10 @@ pub mod Programs
 pub mod Scopes
 pub mod Counting
 pub mod Once
+pub mod InOrder
 pub mod OneMeaning
-pub mod Soundness
-pub mod Completeness
+pub mod Listed
 pub mod Ascending
+pub mod Ordered
 pub mod AcceptedLemmas
 pub mod OrderLemmas

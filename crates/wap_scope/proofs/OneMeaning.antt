@@ -20,7 +20,8 @@ use Rattle.wap_scope.specs.Names.{Variable, Local, External, Library, Mention}
 use Rattle.wap_scope.specs.Names.{Declares, Refers, Jumps, said, declared}
 use Rattle.wap_scope.specs.Names.{names_declared, function_named, unit_of, units}
 use Rattle.wap_scope.specs.Scoped.{is_among, arity_of, is_taken, Says}
-use Rattle.wap_scope.specs.Scoped.{HasFunction, HasUse, IsScoped}
+use Rattle.wap_scope.specs.Scoped.{HasFunction, HasUse}
+use Rattle.wap_scope.proofs.InOrder.{InOrder}
 use Rattle.wap_scope.specs.Meanings.{StandsOnce, function_names, parameter_counts, HaveMeanings}
 use Rattle.wap_scope.proofs.Once.{NoneTwice, split_at, stands_once}
 
@@ -222,7 +223,7 @@ row_taken count None some taken = absurd (cc some)
 row_taken count (Some row) some taken =
     (row.0, row.1, ap (λ count. Some (row.0, row.1, count)) (same_number row.2 count taken))
 
-module _ (p : Program) (scoped : IsScoped p) where
+module _ (p : Program) (scoped : InOrder p) where
   variables_once : (earlier : List Function) (f : Function) (later : List Function) →
       p.functions ≡ earlier ++ f ∷ later → NoneTwice (names_declared (said f))
   variables_once earlier f later functions before name after split =

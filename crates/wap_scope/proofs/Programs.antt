@@ -5,7 +5,7 @@ use Rattle.std.proofs.Common.{sym, ap, subst, ◌∙◌, append_assoc, arith}
 use Rattle.std.specs.List.{flat_map}
 use Rattle.std.specs.Option.{is_some}
 use Rattle.std.proofs.lemmas.Bool.Decides.{nat_tests}
-use Rattle.std.proofs.lemmas.List.{map-append}
+use Rattle.std.proofs.lemmas.List.{append-nil, map-append}
 use Rattle.std.proofs.lemmas.List.Elements.{filter_map-append}
 use Rattle.wap_base.specs.Outcome.{◌>>=◌, Meets}
 use Rattle.wap_base.specs.Texts.{is_same_text}
@@ -26,7 +26,6 @@ use Rattle.wap_scope.specs.Faults.{fault_if, Scope, scope_of, mention_rule, func
 use Rattle.wap_scope.specs.Faults.{use_rule, one_by_one, faults, first_fault}
 use Rattle.wap_scope.specs.inside.Walks.{unless, each, more, mention_at, walked, walked_each}
 use Rattle.wap_scope.specs.inside.Walks.{parameter_at, function_at, use_at}
-use Rattle.wap_scope.proofs.Lists.{append_none}
 use Rattle.wap_scope.specs.declared.globals.Globals.{Globals}
 use Rattle.wap_scope.specs.declared.fault.ScopeFault.TheVariants.{NoMemory}
 use Rattle.wap_scope.specs.inside.Globals.{Counts, scope_by}
@@ -63,7 +62,7 @@ module _ {S X : Type 0} (step : S → X → Result S ScopeFault) (rule : List X 
     step (state before) here ≡ unless (rule before here) (Ok (state (before ++ here ∷ [])))) where
   pub as_listed : (before items : List X) → each step (state before) items
       ≡ unless (one_by_one rule before items) (Ok (state (before ++ items)))
-  as_listed before [] = ap (λ (items : List X). Ok (state items)) (sym (append_none before))
+  as_listed before [] = ap (λ (items : List X). Ok (state items)) (sym (append-nil before))
   as_listed before (here ∷ after) =
       let with_here = before ++ here ∷ [] in
       let next : S → Result S ScopeFault = λ known. each step known after in
@@ -87,8 +86,8 @@ module _ {S X : Type 0} (step : S → X → Result S ScopeFault) (rule : List X 
 more_names : (known : List (List ℕ)) (here : Mention) →
     known ++ names_declared (here ∷ []) ≡ more known (declared here)
 more_names known (Declares v) = refl
-more_names known (Refers r) = append_none known
-more_names known (Jumps word inside) = append_none known
+more_names known (Refers r) = append-nil known
+more_names known (Jumps word inside) = append-nil known
 
 next_names : (before : List Mention) (here : Mention) →
     names_declared (before ++ here ∷ []) ≡ more (names_declared before) (declared here)
@@ -209,11 +208,11 @@ module _ (before : List Use) (here : Use) where
       next_state more [] ≡ next_known (units before ++ more) (is_limited before)
   unlimited more =
       ap (λ (some : List Span). (units before ++ more, nat_le 1 (length some)))
-      (append_none (accesses before))
+      (append-nil (accesses before))
 
   no_unit : (limited : Bool) → next_known (units before ++ []) limited
       ≡ next_known (units before) limited
-  no_unit limited = ap (λ (some : List (List ℕ)). (some, limited)) (append_none (units before))
+  no_unit limited = ap (λ (some : List (List ℕ)). (some, limited)) (append-nil (units before))
 
 one_use : (before : List Use) (here : Use) →
     use_at (state before) here ≡ unless (use_rule before here) (Ok (state (before ++ here ∷ [])))

@@ -1,5 +1,5 @@
 -- Where the names of a program stand, and those of its faults. This project's own.
-use Rattle.std.specs.Prelude.{ℕ, ◌≤◌, List, [], ◌∷◌, ◌++◌, Option, Some, None}
+use Rattle.std.specs.Prelude.{◌≡◌, ℕ, ◌<◌, ◌≤◌, ◌⊎◌, List, [], ◌∷◌, ◌++◌, Option, Some, None}
 use Rattle.std.specs.List.{filter_map, flat_map}
 use Rattle.wap_grammar.specs.declared.program.program.Span.{Span}
 use Rattle.wap_grammar.specs.declared.program.program.Use.{Use}
@@ -59,7 +59,37 @@ fault_place fault.NoMemory = None
 abbrev pub fault_places : List ScopeFault → List Span
 fault_places = filter_map fault_place
 
+-- ---- in which order they stand
+
 -- the first begins at a place or after it, and each other where the one before it does or after
 abbrev pub AscendFrom : ℕ → List Span → Type 0
 AscendFrom at [] = Unit {0}
 AscendFrom at (first ∷ others) = (at ≤ first.from) × AscendFrom first.from others
+
+-- one place begins before another
+abbrev pub IsLeftOf : Span → Span → Type 0
+IsLeftOf one other = one.from < other.from
+
+-- the number of a fault's kind in the list that `ScopeFault` is
+abbrev pub rank : ScopeFault → ℕ
+rank (fault.NoVariable span) = 0
+rank (fault.TwoVariables span) = 1
+rank (fault.NoFunction span) = 2
+rank (fault.TwoFunctions span) = 3
+rank (fault.Arguments span) = 4
+rank (fault.NoUnit span) = 5
+rank (fault.TwoUnits span) = 6
+rank (fault.NoLibrary span) = 7
+rank (fault.LoneBreak span) = 8
+rank (fault.TwoAccess span) = 9
+rank (fault.TooManyLocals span) = 10
+rank (fault.TooManyFunctions span) = 11
+rank fault.NoMemory = 12
+
+-- one fault comes before another: its place does, or it is the same and its kind is listed before
+pub record ComesBefore (one other : ScopeFault) : Type 0 where
+  pub place : Span
+  pub later : Span
+  pub here : fault_place one ≡ Some place
+  pub there : fault_place other ≡ Some later
+  pub order : IsLeftOf place later ⊎ ((place ≡ later) × (rank one < rank other))

@@ -1,9 +1,10 @@
--- When the names of a program are in order (WAP-193, sections 6.1.8, 6.2, 6.4, 6.5 and 6.7; the
--- numbers of variables, functions and arguments that a unit has room for are WAP-193, section 9).
-use Rattle.std.specs.Prelude.{◌≡◌, ℕ, ◌<◌, Bool, true, false, nat_eq, nat_le, List}
+-- What is wrong with the names of a program, and when they are in order (WAP-193, sections 6.1.8,
+-- 6.2, 6.4, 6.5 and 6.7; the numbers of variables, functions and arguments that a unit has room for
+-- are WAP-193, section 9).
+use Rattle.std.specs.Prelude.{◌≡◌, ◌≢◌, ℕ, ◌≤◌, Bool, true, false, nat_eq, nat_le, List}
 use Rattle.std.specs.Prelude.{[], ◌∷◌, ◌++◌, length, Option, Some, None}
 use Rattle.std.specs.List.{list_any}
-use Rattle.std.specs.Option.{option_map, IsSome}
+use Rattle.std.specs.Option.{option_map, IsSome, IsNone}
 use Rattle.wap_base.specs.Texts.{is_same_text}
 use Rattle.wap_unit.specs.Libraries.{lib_named}
 use Rattle.wap_grammar.specs.declared.program.program.Span.{Span}
@@ -14,6 +15,8 @@ use Rattle.wap_grammar.specs.declared.program.program.Function.{Function}
 use Rattle.wap_grammar.specs.declared.program.program.Program.{Program}
 use Rattle.wap_scope.specs.declared.limits.TheConstants.{VARIABLE_LIMIT, FUNCTION_LIMIT}
 use Rattle.wap_scope.specs.declared.limits.TheConstants.{ARGUMENT_LIMIT}
+use Rattle.wap_scope.specs.declared.fault.ScopeFault.{ScopeFault}
+use Rattle.wap_scope.specs.declared.fault.ScopeFault.TheVariants as fault
 use Rattle.wap_scope.specs.Names.{Reference, Variable, Local, External, Library}
 use Rattle.wap_scope.specs.Names.{Mention, Declares, Refers, Jumps, said}
 use Rattle.wap_scope.specs.Names.{names_declared, function_named, units, accesses}
@@ -42,6 +45,13 @@ takes functions (Local f count) = is_taken count (arity_of functions f.name)
 takes functions (External unit f count) = nat_le count ARGUMENT_LIMIT
 takes functions (Library library f count) = is_taken count (library_arity library.name f.name)
 
+-- what a reference names: a variable, or the function that is called
+abbrev pub name_of : Reference → Id
+name_of (Variable v) = v
+name_of (Local f count) = f
+name_of (External unit f count) = f
+name_of (Library library f count) = f
+
 -- ---- places
 
 -- a function of the program says this, after it has said that
@@ -65,41 +75,50 @@ pub record HasUse (p : Program) (before : List Use) (here : Use) : Type 0 where
 
 -- ---- the rules
 
+-- the faults of a program's names, each with the place at which it is seen; that memory ran out is
+-- none
+pub data IsFault (p : Program) : ScopeFault → Type 0 where
+  -- a variable is used that isn't declared before in the same function
+  no_variable : (before : List Mention) (v : Id) → Says p before (Refers (Variable v)) →
+      is_among v.name (names_declared before) ≡ false → IsFault p (fault.NoVariable v.span)
+  -- a variable or parameter of a function is declared again
+  two_variables : (before : List Mention) (v : Id) → Says p before (Declares v) →
+      is_among v.name (names_declared before) ≡ true → IsFault p (fault.TwoVariables v.span)
+  -- a call without `#` and `.` is of no function of the program
+  no_function : (before : List Mention) (f : Id) (count : ℕ) →
+      Says p before (Refers (Local f count)) → IsNone (function_named f.name p.functions) →
+      IsFault p (fault.NoFunction f.span)
+  -- an earlier function has the name of this one
+  two_functions : (before : List Function) (f : Function) → HasFunction p before f →
+      IsSome (function_named f.name.name before) → IsFault p (fault.TwoFunctions f.name.span)
+  -- a call has a number of arguments that its function doesn't take
+  arguments : (before : List Mention) (r : Reference) → Says p before (Refers r) →
+      takes p.functions r ≡ false → IsFault p (fault.Arguments (name_of r).span)
+  -- the unit of a call has no pragma
+  no_unit : (before : List Mention) (unit f : Id) (count : ℕ) →
+      Says p before (Refers (External unit f count)) →
+      is_among unit.name (units p.uses) ≡ false → IsFault p (fault.NoUnit unit.span)
+  -- an earlier unit has the name of this one
+  two_units : (before : List Use) (u : Id) (url : List ℕ) → HasUse p before (Url u url) →
+      is_among u.name (units before) ≡ true → IsFault p (fault.TwoUnits u.span)
+  -- a library that is called isn't there, or hasn't the function
+  no_library : (before : List Mention) (library f : Id) (count : ℕ) →
+      Says p before (Refers (Library library f count)) →
+      IsNone (lib_named library.name f.name) → IsFault p (fault.NoLibrary library.span)
+  -- a `break` or `continue` stands in no loop
+  lone_break : (before : List Mention) (word : Span) → Says p before (Jumps word false) →
+      IsFault p (fault.LoneBreak word)
+  -- who may call the unit is said again
+  two_access : (before : List Use) (domain path : Option (List ℕ)) (span : Span) →
+      HasUse p before (Access domain path span) → accesses before ≢ [] →
+      IsFault p (fault.TwoAccess span)
+  -- a function has so many variables and parameters before this one
+  too_many_locals : (before : List Mention) (v : Id) → Says p before (Declares v) →
+      VARIABLE_LIMIT ≤ length (names_declared before) → IsFault p (fault.TooManyLocals v.span)
+  -- a program has so many functions before this one
+  too_many_functions : (before : List Function) (f : Function) → HasFunction p before f →
+      FUNCTION_LIMIT ≤ length before → IsFault p (fault.TooManyFunctions f.name.span)
+
 -- the names of a program are in order
-pub record IsScoped (p : Program) : Type 0 where
-  -- a variable is used after its declaration in the same function
-  pub no_variable : (before : List Mention) (v : Id) → Says p before (Refers (Variable v)) →
-      is_among v.name (names_declared before) ≡ true
-  -- no variable or parameter of a function is declared again
-  pub two_variables : (before : List Mention) (v : Id) → Says p before (Declares v) →
-      is_among v.name (names_declared before) ≡ false
-  -- a call without `#` and `.` is of a function of the program
-  pub no_function : (before : List Mention) (f : Id) (count : ℕ) →
-      Says p before (Refers (Local f count)) → IsSome (function_named f.name p.functions)
-  -- no two functions have one name
-  pub two_functions : (before : List Function) (f : Function) → HasFunction p before f →
-      function_named f.name.name before ≡ None
-  -- a call has as many arguments as its function takes
-  pub arguments : (before : List Mention) (r : Reference) → Says p before (Refers r) →
-      takes p.functions r ≡ true
-  -- the unit of a call has its pragma
-  pub no_unit : (before : List Mention) (unit f : Id) (count : ℕ) →
-      Says p before (Refers (External unit f count)) → is_among unit.name (units p.uses) ≡ true
-  -- no two units have one name
-  pub two_units : (before : List Use) (u : Id) (url : List ℕ) → HasUse p before (Url u url) →
-      is_among u.name (units before) ≡ false
-  -- a library that is called is there, and has the function
-  pub no_library : (before : List Mention) (library f : Id) (count : ℕ) →
-      Says p before (Refers (Library library f count)) → IsSome (lib_named library.name f.name)
-  -- `break` and `continue` stand in loops
-  pub lone_break : (before : List Mention) (word : Span) (inside : Bool) →
-      Says p before (Jumps word inside) → inside ≡ true
-  -- who may call the unit is said once
-  pub two_access : (before : List Use) (domain path : Option (List ℕ)) (span : Span) →
-      HasUse p before (Access domain path span) → accesses before ≡ []
-  -- a function has at most so many variables and parameters
-  pub too_many_locals : (before : List Mention) (v : Id) → Says p before (Declares v) →
-      length (names_declared before) < VARIABLE_LIMIT
-  -- and a program at most so many functions
-  pub too_many_functions : (before : List Function) (f : Function) → HasFunction p before f →
-      length before < FUNCTION_LIMIT
+abbrev pub IsScoped : Program → Type 0
+IsScoped p = (why : ScopeFault) → ¬ IsFault p why

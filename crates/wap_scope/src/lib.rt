@@ -18,6 +18,6 @@ mod scoped;
 mod statements;
 
 pub use fault::ScopeFault;
-pub use laws::{faults_ascend, names_have_one_meaning, scoped_is_faultless};
+pub use laws::{faults_are_listed, faults_ascend, names_have_one_meaning, scoped_is_faultless};
 pub use limits::{ARGUMENT_LIMIT, FUNCTION_LIMIT, VARIABLE_LIMIT};
 pub use scoped::{Scoped, resolve};

@@ -1,6 +1,6 @@
 //! Programs whose names are in order, and what is wrong with those whose names aren't.
 ghost use Rattle.std.specs.Prelude.{◌≡◌, ◌≢◌, Some, IfOk, OnOk, IfErr};
-ghost use Rattle.wap_scope.specs.Scoped.{IsScoped};
+ghost use Rattle.wap_scope.specs.Scoped.{IsFault, IsScoped};
 ghost use Rattle.wap_scope.specs.Faults.{faults, first_fault};
 
 use crate::ScopeFault;
@@ -48,9 +48,10 @@ pub fn resolve(alloc: Global, program: Program) -> Result<Scoped, (Program, Scop
     ensures same { IfOk result (λ scoped. scoped ≡ program) }
     ensures scoped { OnOk result (IsScoped program) }
     ensures back { IfErr result (λ refused. refused.0 ≡ program) }
+    ensures fault { IfErr result (λ refused. refused.1 ≢ ScopeFault.NoMemory
+        → IsFault program refused.1) }
     ensures first { IfErr result (λ refused. refused.1 ≢ ScopeFault.NoMemory
         → first_fault (faults program) ≡ Some refused.1) }
-    ensures bad { IfErr result (λ refused. refused.1 ≢ ScopeFault.NoMemory → ¬ IsScoped program) }
 {
     match judge(alloc, &program) {
         Ok(()) => Ok(Scoped { program }),

@@ -17,8 +17,8 @@ use Rattle.wap_meaning.specs.coding.Needs.{literals_of, stmt_needs}
 use Rattle.wap_meaning.specs.compiled.Pool.{text_if, use_literals, function_literals}
 use Rattle.wap_meaning.specs.compiled.Pool.{literals_needed, pool}
 use Rattle.wap_codegen.specs.pool.Names.{names_of}
-use Rattle.wap_codegen.specs.pool.inside.Pools.{text_needs, use_needs, function_needs}
-use Rattle.wap_codegen.specs.pool.inside.Pools.{program_needs}
+use Rattle.wap_meaning.specs.needs.Drawn.{text_needs, function_needs}
+use Rattle.wap_codegen.specs.pool.inside.Pools.{use_needs, program_needs}
 
 -- what items need, one after the other
 flat_flat : {X : Type 0} (names : Names) (f : X → List Need) (g : X → List Literal)

@@ -1,6 +1,7 @@
 -- In a program whose names are in order, no name is collected twice.
 use Rattle.std.proofs.Common.{◌≡◌, ℕ, Bool, true, false, ◌||◌, cond, List, [], ◌∷◌, ◌++◌, map, Option}
-use Rattle.std.proofs.Common.{Some, None, refl, sym, ap, ◌∙◌, subst, append_assoc, All}
+use Rattle.std.proofs.Common.{Some, None, refl, sym, ap, ◌∙◌, subst, append_assoc}
+use Rattle.std.proofs.Common.{append-nil, All}
 use Rattle.std.specs.List.{filter_map}
 use Rattle.std.proofs.lemmas.List.{map-append}
 use Rattle.indexmap.specs.IndexMap.{insert_entry}
@@ -13,8 +14,8 @@ use Rattle.wap_grammar.specs.declared.program.program.Program.{Program}
 use Rattle.wap_scope.specs.Names.{Mention, Declares, Refers, Jumps, declared, names_declared, said}
 use Rattle.wap_scope.specs.Names.{function_named, units}
 use Rattle.wap_scope.specs.Scoped.{is_among, IsScoped}
+use Rattle.wap_scope.proofs.InOrder.{in_order}
 use Rattle.wap_scope.specs.Meanings.{function_names}
-use Rattle.wap_scope.proofs.Lists.{append_none}
 use Rattle.wap_scope.proofs.AcceptedLemmas.Places.{all_by_places}
 use Rattle.wap_meaning.specs.Names.{url_in}
 use Rattle.wap_codegen.specs.pool.Names.{with_name, with_names, AreOnce}
@@ -67,7 +68,7 @@ module _ {X : Type 0} (name : X → Option (List ℕ)) where
       ap (with_names names) (taken x xs n is)
       ∙ ap (λ (some : List (List ℕ)). with_names some (filter_map name xs))
       (added names n (subst (λ (some : List (List ℕ)). is_among n some ≡ false)
-      (append_none names) (new [] x xs n refl is)))
+      (append-nil names) (new [] x xs n refl is)))
       ∙ rest (names ++ n ∷ []) (λ before here after m split named.
       subst (λ (found : List (List ℕ)). is_among m found ≡ false)
       (ap (λ (found : List (List ℕ)). names ++ found) (taken x before n is)
@@ -79,7 +80,7 @@ module _ {X : Type 0} (name : X → Option (List ℕ)) where
   -- all are kept
   pub all_kept : (names : List (List ℕ)) (xs : List X) → NewAfter names xs
       → with_names names (filter_map name xs) ≡ names ++ filter_map name xs
-  all_kept names [] new = sym (append_none names)
+  all_kept names [] new = sym (append-nil names)
   all_kept names (x ∷ xs) new =
       by_name names x xs (name x) refl new (λ some. all_kept some xs)
 
@@ -127,12 +128,12 @@ NewUrls urls us = (before : List Use) (u : Id) (url : List ℕ) (after : List Us
 
 all_urls : (urls : List (List ℕ × List ℕ)) (us : List Use) → NewUrls urls us
     → with_urls urls (map url_in us) ≡ urls ++ filter_map url_in us
-all_urls urls [] new = sym (append_none urls)
+all_urls urls [] new = sym (append-nil urls)
 all_urls urls (Url u url ∷ us) new =
     let names = map (λ (pair : List ℕ × List ℕ). pair.0) urls in
     ap (λ (more : List (List ℕ × List ℕ)). with_urls more (map url_in us))
     (insert_new urls u.name url (subst (λ (some : List (List ℕ)). is_among u.name some ≡ false)
-    (append_none names) (new [] u url us refl)))
+    (append-nil names) (new [] u url us refl)))
     ∙ all_urls (urls ++ (u.name, url) ∷ []) us (λ before v other after split.
     subst (λ (some : List (List ℕ)). is_among v.name some ≡ false)
     (sym (append_assoc names (u.name ∷ []) (units before))
@@ -158,7 +159,7 @@ module _ (p : Program) (scoped : IsScoped p) where
   variables_new earlier f later functions before (Declares v) after n split is =
       subst (λ (name : List ℕ). is_among name (names_declared before) ≡ false)
       (only v.name n is)
-      (scoped.two_variables before v (record {
+      ((in_order p scoped).two_variables before v (record {
         earlier = earlier;
         function = f;
         later = later;
@@ -182,7 +183,7 @@ module _ (p : Program) (scoped : IsScoped p) where
       subst (λ (name : List ℕ). is_among name (filter_map named before) ≡ false)
       (only here.name.name n is)
       (not_among here.name.name before
-      (scoped.two_functions before here (record { after = after; whole = split })))
+      ((in_order p scoped).two_functions before here (record { after = after; whole = split })))
 
   -- the names of functions stand once
   pub functions_once : AreOnce (function_names p)
@@ -194,4 +195,4 @@ module _ (p : Program) (scoped : IsScoped p) where
   -- so do those of units, each with its URL
   pub urls_once : with_urls [] (map url_in p.uses) ≡ filter_map url_in p.uses
   urls_once = all_urls [] p.uses (λ before u url after split.
-      scoped.two_units before u url (record { after = after; whole = split }))
+      (in_order p scoped).two_units before u url (record { after = after; whole = split }))

@@ -18,7 +18,7 @@ use Rattle.wap_grammar.proofs.Unique.{one}
 use Rattle.wap_grammar.specs.declared.program.program.Function.{Function}
 use Rattle.wap_grammar.specs.declared.program.program.Program.{Program}
 use Rattle.wap_scope.specs.declared.fault.ScopeFault.{ScopeFault}
-use Rattle.wap_scope.specs.Scoped.{IsScoped}
+use Rattle.wap_scope.specs.Scoped.{IsFault, IsScoped}
 use Rattle.wap_scope.specs.Faults.{faults, first_fault}
 use Rattle.wap_meaning.specs.compiled.Pool.{pool}
 use Rattle.wap_meaning.specs.compiled.Wide.{function_wide}
@@ -108,10 +108,10 @@ module _ (source : List ℕ) where
       none.none p (over spells.tokens none.tokens spells.are_tokens none.are_tokens p spells.spells)
 
   -- one whose names are in order isn't one where they aren't
-  not_unscoped : (p q : Program) → IsSourceOf source p → IsSourceOf source q → IsScoped p
-      → ¬ IsScoped q → ⊥
-  not_unscoped p q first second scoped unscoped =
-      unscoped (subst IsScoped (one_program p q first second) scoped)
+  not_unscoped : (p q : Program) (why : ScopeFault) → IsSourceOf source p → IsSourceOf source q
+      → IsScoped p → IsFault q why → ⊥
+  not_unscoped p q why first second scoped found =
+      subst IsScoped (one_program p q first second) scoped why found
 
   -- one with few constants isn't one with many
   not_many : (p q : Program) (count : ℕ) → IsSourceOf source p → IsSourceOf source q
@@ -127,7 +127,7 @@ module _ (source : List ℕ) where
   apart_by p is (fault.Lex why) of = apart source is.spells.tokens why is.spells.are_tokens of.cause
   apart_by p is (fault.Parse why) of = not_none p why is.spells of.cause
   apart_by p is (fault.Scope why) of =
-      not_unscoped p of.cause.program is.spells of.cause.spelled is.scoped of.cause.unscoped
+      not_unscoped p of.cause.program why is.spells of.cause.spelled is.scoped of.cause.found
   apart_by p is (fault.TooManyConstants count) of =
       not_many p of.cause.program count is.spells of.cause.spelled is.room.constants
       of.cause.needed of.cause.past
@@ -200,18 +200,18 @@ module _ (source : List ℕ) where
       (same_scope is.cause.program so.cause.program f g is.cause.spelled so.cause.spelled
       is.cause.first so.cause.first)
   alike (fault.Scope f) (fault.TooManyConstants n) is so =
-      absurd (not_unscoped so.cause.program is.cause.program so.cause.spelled is.cause.spelled
-      so.cause.scoped is.cause.unscoped)
+      absurd (not_unscoped so.cause.program is.cause.program f so.cause.spelled is.cause.spelled
+      so.cause.scoped is.cause.found)
   alike (fault.Scope f) (fault.CodeTooLong i w) is so =
-      absurd (not_unscoped so.cause.program is.cause.program so.cause.spelled is.cause.spelled
-      so.cause.scoped is.cause.unscoped)
+      absurd (not_unscoped so.cause.program is.cause.program f so.cause.spelled is.cause.spelled
+      so.cause.scoped is.cause.found)
   alike (fault.TooManyConstants n) (fault.Lex g) is so =
       absurd (apart source is.cause.spelled.tokens g is.cause.spelled.are_tokens so.cause)
   alike (fault.TooManyConstants n) (fault.Parse g) is so =
       absurd (not_none is.cause.program g is.cause.spelled so.cause)
   alike (fault.TooManyConstants n) (fault.Scope g) is so =
-      absurd (not_unscoped is.cause.program so.cause.program is.cause.spelled so.cause.spelled
-      is.cause.scoped so.cause.unscoped)
+      absurd (not_unscoped is.cause.program so.cause.program g is.cause.spelled so.cause.spelled
+      is.cause.scoped so.cause.found)
   alike (fault.TooManyConstants n) (fault.TooManyConstants m) is so =
       ap (λ (count : ℕ). fault.TooManyConstants count)
       (is.cause.needed ∙ ap (λ (r : Program). length (pool r))
@@ -225,8 +225,8 @@ module _ (source : List ℕ) where
   alike (fault.CodeTooLong i w) (fault.Parse g) is so =
       absurd (not_none is.cause.program g is.cause.spelled so.cause)
   alike (fault.CodeTooLong i w) (fault.Scope g) is so =
-      absurd (not_unscoped is.cause.program so.cause.program is.cause.spelled so.cause.spelled
-      is.cause.scoped so.cause.unscoped)
+      absurd (not_unscoped is.cause.program so.cause.program g is.cause.spelled so.cause.spelled
+      is.cause.scoped so.cause.found)
   alike (fault.CodeTooLong i w) (fault.TooManyConstants n) is so =
       absurd (not_many is.cause.program so.cause.program n is.cause.spelled so.cause.spelled
       is.cause.few so.cause.needed so.cause.past)

@@ -1,7 +1,7 @@
 -- A source is accepted, or it has a fault.
 use Rattle.std.proofs.Common.{◌≡◌, ℕ, suc, ◌+◌, ◌<◌, ◌≤◌, ◌^◌, leb, List, []}
 use Rattle.std.proofs.Common.{◌∷◌, length, take, Option, Some, None, Result, Ok, Err, refl, sym}
-use Rattle.std.proofs.Common.{ap, ◌∙◌, ◌⊎◌, inl, inr, arith, All}
+use Rattle.std.proofs.Common.{◌∙◌, ◌⊎◌, inl, inr, arith, All}
 use Rattle.std.specs.Str.{IsUtf8, is_utf8}
 use Rattle.std.proofs.lemmas.Bool.{cases_Bool, leb-true, leb-false}
 use Rattle.std.proofs.lemmas.Str.{IsUtf8-from_is_utf8, is_utf8-from_IsUtf8}
@@ -27,8 +27,7 @@ use Rattle.wap_grammar.specs.declared.program.program.Program.{Program}
 use Rattle.wap_scope.specs.declared.fault.ScopeFault.{ScopeFault}
 use Rattle.wap_scope.specs.Scoped.{IsScoped}
 use Rattle.wap_scope.specs.Faults.{faults, first_fault}
-use Rattle.wap_scope.proofs.Soundness.{scoped_without_faults}
-use Rattle.wap_scope.proofs.Completeness.{faultless_where_scoped}
+use Rattle.wap_scope.proofs.Listed.{scoped_without_faults, first_is_fault}
 use Rattle.wap_meaning.specs.compiled.Pool.{pool}
 use Rattle.wap_meaning.specs.compiled.Wide.{function_wide}
 use Rattle.wap_meaning.specs.compiled.Accepted.{IsSourceOf, IsAccepted, most_constants, most_code}
@@ -149,7 +148,7 @@ module _ (source : List ℕ) (short : length source < 2 ^ 31) where
       cause = record {
         program = p;
         spelled = spells;
-        unscoped = λ scoped. cc (sym (ap first_fault (faultless_where_scoped p scoped)) ∙ some);
+        found = first_is_fault p why some;
         first = some;
       };
       some = λ e. cc;

@@ -1,6 +1,6 @@
 //! Names in order, each known by its place.
 ghost use Rattle.std.specs.Prelude.{◌≡◌, [], length, OnOk};
-ghost use Rattle.wap_meaning.specs.Names.{place_of};
+ghost use Rattle.wap_scope.specs.accepted.Known.{place_of};
 ghost use Rattle.wap_codegen.specs.pool.Names.{with_name};
 
 use indexmap::IndexSet;

@@ -1,8 +1,8 @@
 //! The constants that programs need.
 ghost use Rattle.std.specs.Prelude.{OnOk};
 ghost use Rattle.std.specs.List.{flat_map};
-ghost use Rattle.wap_codegen.specs.pool.inside.Pools.{Pools, text_needs, use_needs, function_needs};
-ghost use Rattle.wap_codegen.specs.pool.inside.Pools.{program_needs};
+ghost use Rattle.wap_meaning.specs.needs.Drawn.{text_needs, function_needs};
+ghost use Rattle.wap_codegen.specs.pool.inside.Pools.{Pools, use_needs, program_needs};
 
 use crate::pool::numbering::Numbering;
 use crate::pool::statements::add_statements;

@@ -26,8 +26,7 @@ use Rattle.wap_grammar.specs.declared.program.program.Function.{Function}
 use Rattle.wap_scope.specs.declared.fault.ScopeFault.{ScopeFault}
 use Rattle.wap_scope.specs.Scoped.{IsScoped}
 use Rattle.wap_scope.specs.Faults.{faults, first_fault}
-use Rattle.wap_scope.proofs.Soundness.{scoped_without_faults}
-use Rattle.wap_scope.proofs.Completeness.{faultless_where_scoped}
+use Rattle.wap_scope.proofs.Listed.{scoped_without_faults, faultless_where_scoped}
 use Rattle.wap_meaning.specs.compiled.Pool.{pool}
 use Rattle.wap_meaning.specs.compiled.Wide.{function_wide}
 use Rattle.wap_meaning.specs.compiled.Accepted.{most_constants, most_code, IsSourceOf, HasRoom}

@@ -14,7 +14,8 @@ use Rattle.wap_scope.specs.declared.limits.TheConstants.{ARGUMENT_LIMIT}
 use Rattle.wap_scope.specs.Names.{Reference, Variable, Local, External, Library}
 use Rattle.wap_scope.specs.Names.{Mention, Declares, Refers, Jumps, said, declared, mentions}
 use Rattle.wap_scope.specs.Names.{names_declared, function_named, units}
-use Rattle.wap_scope.specs.Scoped.{is_taken, Says, IsScoped}
+use Rattle.wap_scope.specs.Scoped.{is_taken, Says}
+use Rattle.wap_scope.proofs.InOrder.{InOrder}
 use Rattle.wap_scope.specs.accepted.Known.{variables, IsAmong, IsKnown, CanBeCoded, AllCanBeCoded}
 use Rattle.wap_scope.proofs.AcceptedLemmas.Places.{all_by_places, first_within, among_first}
 use Rattle.wap_scope.proofs.AcceptedLemmas.Places.{among_itself}
@@ -32,7 +33,7 @@ taken count size None some is = absurd (cc some)
 at_most : (a b : ℕ) → nat_le a b ≡ true → a ≤ b
 at_most a b is = grind (arith, nat_tests)
 
-module _ (p : Program) (scoped : IsScoped p) where
+module _ (p : Program) (scoped : InOrder p) where
   known : (before : List Mention) (r : Reference) (says : Says p before (Refers r)) →
       IsKnown p says.function r
   known before (Variable v) says =

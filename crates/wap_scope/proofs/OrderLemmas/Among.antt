@@ -1,13 +1,12 @@
 -- Places that stand in the order of some tokens.
-use Rattle.std.proofs.Common.{◌≡◌, ℕ, ◌≤◌, List, [], ◌∷◌, ◌++◌, map, sym, subst}
+use Rattle.std.proofs.Common.{◌≡◌, ℕ, suc, ◌≤◌, List, [], ◌∷◌, ◌++◌, map, sym, subst, arith}
 use Rattle.std.proofs.lemmas.List.{append-nil}
 use Rattle.std.specs.List.{flat_map}
 use Rattle.wap_grammar.specs.declared.program.program.Span.{Span}
 use Rattle.wap_grammar.specs.declared.lexeme.Lexeme.{Lexeme}
 use Rattle.wap_grammar.specs.Spellings.{Spelling, Several, IsAfterComma, AreListed}
 use Rattle.wap_grammar.specs.Spellings as spelled
-use Rattle.wap_scope.specs.Places.{AscendFrom}
-use Rattle.wap_scope.proofs.Ascending.{from_earlier}
+use Rattle.wap_scope.proofs.Ordered.{Apart, from_earlier}
 
 -- each place begins with one of the tokens from one place on up to another, in their order
 pub data Among : List Lexeme → List Span → List Lexeme → Type 0 where
@@ -44,21 +43,22 @@ pub past : (x : List Lexeme) (ps : List Span) (l : Lexeme) (y : List Lexeme) →
     Among x ps (l ∷ y) → Among x ps y
 past x ps l y among = up_to x ps (l ∷ y) y among (skip l y [] y (no_more y))
 
--- ---- what ascends
+-- ---- what stands one after the other
 
 -- where tokens begin
 abbrev pub spans : List Lexeme → List Span
 spans = map (λ (l : Lexeme). l.span)
 
--- where tokens ascend, places among them do
-pub places_ascend : (x : List Lexeme) (ps : List Span) (y : List Lexeme) → Among x ps y →
-    (at : ℕ) → AscendFrom at (spans x) → AscendFrom at ps
-places_ascend x ps y (no_more x') at up = tt
-places_ascend x' ps y (skip l x ps' y' among) at up =
-    places_ascend x ps y among at (from_earlier at l.span.from (spans x) up.0 up.1)
-places_ascend x' ps' y (here l p x ps y' is among) at up = (
+-- where tokens stand one after the other, places among them do
+pub places_apart : (x : List Lexeme) (ps : List Span) (y : List Lexeme) → Among x ps y →
+    (at : ℕ) → Apart at (spans x) → Apart at ps
+places_apart x ps y (no_more x') at up = tt
+places_apart x' ps y (skip l x ps' y' among) at up =
+    places_apart x ps y among at
+    (from_earlier at (suc l.span.from) (spans x) (omega (arith, up.0)) up.1)
+places_apart x' ps' y (here l p x ps y' is among) at up = (
   subst (λ (n : ℕ). at ≤ n) (sym is) up.0,
-  subst (λ (n : ℕ). AscendFrom n ps) (sym is) (places_ascend x ps y among l.span.from up.1),
+  subst (λ (n : ℕ). Apart (suc n) ps) (sym is) (places_apart x ps y among (suc l.span.from) up.1),
 )
 
 -- ---- items

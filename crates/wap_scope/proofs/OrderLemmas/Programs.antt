@@ -1,5 +1,6 @@
 -- The names of a program stand among the tokens that spell it, and so they ascend.
 use Rattle.std.proofs.Common.{◌≡◌, ℕ, Bool, false, List, [], ◌∷◌, ◌++◌, map, Option, refl, ap, ◌∙◌}
+use Rattle.std.proofs.Common.{AllPairs}
 use Rattle.std.proofs.lemmas.Grind.{flat_map-append}
 use Rattle.std.proofs.lemmas.List.Folds.{flat_map-map}
 use Rattle.std.specs.List.{flat_map}
@@ -20,14 +21,14 @@ use Rattle.wap_grammar.specs.Programs.{IsProgramOf, Spells}
 use Rattle.wap_grammar.specs.Programs as formed
 use Rattle.wap_scope.specs.Names.{Declares, mentions}
 use Rattle.wap_scope.specs.Places.{mention_places, use_places, function_places, places}
-use Rattle.wap_scope.specs.Places.{fault_places, AscendFrom}
+use Rattle.wap_scope.specs.Places.{IsLeftOf, ComesBefore}
 use Rattle.wap_scope.specs.Faults.{faults}
-use Rattle.wap_scope.proofs.Ascending.{ascend}
+use Rattle.wap_scope.proofs.Ordered.{pairs_apart, ordered}
 use Rattle.wap_scope.proofs.OrderLemmas.Among.{Among, no_more, skip, here, in_a_row, same, up_to}
 use Rattle.wap_scope.proofs.OrderLemmas.Among.{past}
 use Rattle.wap_scope.proofs.OrderLemmas.Among.{Finds, several, listed}
-use Rattle.wap_scope.proofs.OrderLemmas.Among.{places_ascend}
-use Rattle.wap_scope.proofs.OrderLemmas.Tokens.{tokens_ascend}
+use Rattle.wap_scope.proofs.OrderLemmas.Among.{places_apart}
+use Rattle.wap_scope.proofs.OrderLemmas.Tokens.{tokens_apart}
 use Rattle.wap_scope.proofs.OrderLemmas.Says.{flat_flat, stmt_places, said_places}
 use Rattle.wap_scope.proofs.OrderLemmas.Statements.{finds_statement}
 
@@ -140,13 +141,14 @@ module _ (src : List ℕ) (Statement : Spelling Stmt)
 
 -- ---- programs of sources
 
-pub names_ascend : (src : List ℕ) (tokens : List Token) (p : Program) → AreTokens src tokens →
-    Spells src p (lexemes_of src tokens) → AscendFrom 0 (places p)
-names_ascend src tokens p are (levels, spelled) =
-    places_ascend (lexemes_of src tokens) (places p) []
+pub names_apart : (src : List ℕ) (tokens : List Token) (p : Program) → AreTokens src tokens →
+    Spells src p (lexemes_of src tokens) → AllPairs IsLeftOf (places p)
+names_apart src tokens p are (levels, spelled) =
+    pairs_apart 0 (places p)
+    (places_apart (lexemes_of src tokens) (places p) []
     (finds_program src (IsStatement src levels) (finds_statement src levels)
-    (lexemes_of src tokens) p spelled) 0 (tokens_ascend src 0 src tokens are.lexed)
+    (lexemes_of src tokens) p spelled) 0 (tokens_apart src 0 src tokens are.lexed))
 
-pub faults_ascend : (src : List ℕ) (tokens : List Token) (p : Program) → AreTokens src tokens →
-    Spells src p (lexemes_of src tokens) → AscendFrom 0 (fault_places (faults p))
-faults_ascend src tokens p are spelled = ascend p (names_ascend src tokens p are spelled)
+pub faults_ordered : (src : List ℕ) (tokens : List Token) (p : Program) → AreTokens src tokens →
+    Spells src p (lexemes_of src tokens) → AllPairs ComesBefore (faults p)
+faults_ordered src tokens p are spelled = ordered p (names_apart src tokens p are spelled)

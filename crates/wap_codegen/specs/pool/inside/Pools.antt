@@ -1,14 +1,14 @@
 -- How the constants of a unit grow by what parts of its source need (WAP-193, section 9.4): in the
 -- order of the first token that needs each. The order is this project's own.
-use Rattle.std.specs.Prelude.{◌≡◌, ℕ, List, [], ◌∷◌, ◌++◌, Option, Some, None}
+use Rattle.std.specs.Prelude.{◌≡◌, List, [], ◌∷◌, ◌++◌}
 use Rattle.std.specs.List.{flat_map}
 use Rattle.wap_grammar.specs.declared.program.program.Use.{Use}
 use Rattle.wap_grammar.specs.declared.program.program.Use.TheVariants.{Url, Access, Agent, Note}
-use Rattle.wap_grammar.specs.declared.program.program.Function.{Function}
 use Rattle.wap_grammar.specs.declared.program.program.Program.{Program}
 use Rattle.wap_grammar.specs.declared.program.expression.Literal.TheVariants as literal
 use Rattle.wap_meaning.specs.coding.Constants.{Numbers, pooled}
-use Rattle.wap_meaning.specs.coding.Needs.{Need, Constant, stmt_needs, literals_of}
+use Rattle.wap_meaning.specs.coding.Needs.{Need, Constant, literals_of}
+use Rattle.wap_meaning.specs.needs.Drawn.{text_needs, function_needs}
 
 -- the constants of these needs are added one after the other, each where it isn't there yet, and
 -- names mean what they meant
@@ -18,11 +18,6 @@ pub record Pools (needs : List Need) (old new : Numbers) : Type 0 where
 
 -- ---- what programs need
 
--- a text that may be missing
-abbrev pub text_needs : Option (List ℕ) → List Need
-text_needs None = []
-text_needs (Some text) = Constant (literal.Str text) ∷ []
-
 -- a pragma: the texts that the unit keeps; a URL is one where a call needs it
 abbrev pub use_needs : Use → List Need
 use_needs (Url unit url) = []
@@ -30,10 +25,6 @@ use_needs (Access domain path span) = text_needs domain ++ text_needs path
 use_needs (Agent name content scheme) =
     Constant (literal.Str name) ∷ Constant (literal.Str content) ∷ text_needs scheme
 use_needs Note = []
-
--- a function
-abbrev pub function_needs : Function → List Need
-function_needs f = flat_map stmt_needs f.body
 
 -- a program: its pragmas stand before its functions
 abbrev pub program_needs : Program → List Need

@@ -1,6 +1,5 @@
 use Rattle.wap_scope.specs.Faults.{faults}
-use Rattle.wap_scope.proofs.Soundness.{scoped_without_faults}
-use Rattle.wap_scope.proofs.Completeness.{first_is_bad}
+use Rattle.wap_scope.proofs.Listed.{scoped_without_faults, first_is_fault}
 use Rattle.wap_scope.proofs.Programs.{no_fault, the_first}
 use Rattle.wap_scope.proofs.scoped.resolve.Goals as goal
 
@@ -14,6 +13,6 @@ returns-in-Ok-clause-scoped c =
     scoped_without_faults c.args.program
     (no_fault (faults c.args.program) c.args.program c.args.program c.in-Ok.ensures).0
 
-pub returns-in-Err-clause-bad : goal.returns-in-Err-clause-bad
-returns-in-Err-clause-bad c = λ other. first_is_bad c.args.program c.in-Err.fault
+pub returns-in-Err-clause-fault : goal.returns-in-Err-clause-fault
+returns-in-Err-clause-fault c = λ other. first_is_fault c.args.program c.in-Err.fault
     (the_first (faults c.args.program) c.args.program c.in-Err.fault (c.in-Err.ensures other))

@@ -2,7 +2,8 @@ use Rattle.std.proofs.Common.{◌++◌, List, ap, ◌∙◌}
 use Rattle.std.specs.List.{flat_map}
 use Rattle.wap_grammar.specs.declared.program.program.Use.{Use}
 use Rattle.wap_grammar.specs.declared.program.program.Function.{Function}
-use Rattle.wap_codegen.specs.pool.inside.Pools.{use_needs, function_needs, program_needs}
+use Rattle.wap_meaning.specs.needs.Drawn.{function_needs}
+use Rattle.wap_codegen.specs.pool.inside.Pools.{use_needs, program_needs}
 use Rattle.wap_codegen.proofs.PoolLemmas.Pooling.{after_same, after_both}
 use Rattle.wap_codegen.proofs.pool.programs.add_constants.Goals as goal
 

@@ -2,7 +2,7 @@ use Rattle.std.proofs.Common.{List, ap}
 use Rattle.std.specs.List.{flat_map}
 use Rattle.wap_grammar.specs.declared.program.statement.Stmt.{Stmt}
 use Rattle.wap_meaning.specs.coding.Needs.{stmt_needs}
-use Rattle.wap_codegen.specs.pool.inside.Pools.{function_needs}
+use Rattle.wap_meaning.specs.needs.Drawn.{function_needs}
 use Rattle.wap_codegen.proofs.PoolLemmas.Pooling.{pools_same, leaves_more, leaves_none}
 use Rattle.wap_codegen.proofs.pool.programs.add_functions.Goals as goal
 

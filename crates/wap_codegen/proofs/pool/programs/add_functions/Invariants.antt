@@ -1,4 +1,4 @@
-use Rattle.wap_codegen.specs.pool.inside.Pools.{function_needs}
+use Rattle.wap_meaning.specs.needs.Drawn.{function_needs}
 use Rattle.wap_codegen.specs.pool.inside.Leaves.{Leaves}
 use Rattle.wap_codegen.proofs.pool.programs.add_functions.Given as goal
 

@@ -1,7 +1,8 @@
 use Rattle.std.proofs.Common.{[], ◌∷◌, ◌++◌, refl, sym, ap}
 use Rattle.wap_grammar.specs.declared.program.expression.Literal.TheVariants as literal
 use Rattle.wap_meaning.specs.coding.Needs.{Constant}
-use Rattle.wap_codegen.specs.pool.inside.Pools.{text_needs, use_needs}
+use Rattle.wap_meaning.specs.needs.Drawn.{text_needs}
+use Rattle.wap_codegen.specs.pool.inside.Pools.{use_needs}
 use Rattle.wap_codegen.proofs.PoolLemmas.Pooling.{pools_none, pools_one, pools_same, after_same}
 use Rattle.wap_codegen.proofs.PoolLemmas.Pooling.{after_both}
 use Rattle.wap_codegen.proofs.pool.programs.add_use.Goals as goal

@@ -1,7 +1,7 @@
 -- place
 use Rattle.std.proofs.Common.{ap, ap₂, ◌∙◌, unwrap_or, List, ℕ}
 use Rattle.wap_base.specs.Texts.{is_same_text}
-use Rattle.wap_meaning.specs.Names.{place_of}
+use Rattle.wap_scope.specs.accepted.Known.{place_of}
 use Rattle.wap_codegen.proofs.PoolLemmas.Numbered.{found}
 use Rattle.wap_codegen.proofs.pool.named.Named.place.Goals as goal
 
