@@ -1,12 +1,10 @@
 -- Causes of faults, and sources that have none.
 use Rattle.std.proofs.Common.{◌≡◌, ◌≢◌, ℕ, ◌≤◌, List, length, Result, Ok, Err, refl, sym, ap, subst}
-use Rattle.std.proofs.Common.{◌∙◌, arith, All, Some, IfOk, IfErr}
+use Rattle.std.proofs.Common.{◌∙◌, arith, All, IfOk, IfErr}
 use Rattle.std.proofs.lemmas.Option.{slice_get_within, get_or_from_slice_get}
 use Rattle.wap_base.specs.Outcome.{Meets}
 use Rattle.wap_lex.specs.declared.token.Token.{Token}
-use Rattle.wap_lex.specs.declared.fault.LexFault.{LexFault}
-use Rattle.wap_lex.specs.declared.fault.LexFault.TheVariants as lex
-use Rattle.wap_lex.specs.Tokens.{AreTokens, IsRefused}
+use Rattle.wap_lex.specs.Tokens.{AreTokens}
 use Rattle.wap_lex.proofs.Unique.{one_list, apart}
 use Rattle.wap_grammar.specs.declared.fault.ParseFault.{ParseFault}
 use Rattle.wap_grammar.specs.declared.fault.ParseFault.TheVariants as parse
@@ -20,10 +18,8 @@ use Rattle.wap_grammar.specs.reading.Programs.{program_at}
 use Rattle.wap_grammar.proofs.Unique.{one}
 use Rattle.wap_grammar.specs.declared.program.program.Function.{Function}
 use Rattle.wap_grammar.specs.declared.program.program.Program.{Program}
-use Rattle.wap_scope.specs.declared.fault.ScopeFault.{ScopeFault}
-use Rattle.wap_scope.specs.declared.fault.ScopeFault.TheVariants as scope
-use Rattle.wap_scope.specs.Scoped.{IsFault, IsScoped}
-use Rattle.wap_scope.specs.Faults.{faults, first_fault}
+use Rattle.wap_scope.specs.Scoped.{IsScoped}
+use Rattle.wap_scope.specs.Faults.{faults}
 use Rattle.wap_unit.specs.declared.unit.Unit.{Unit as CodeUnit}
 use Rattle.wap_meaning.specs.compiled.Pool.{pool}
 use Rattle.wap_meaning.specs.compiled.Units.{compiled}
@@ -33,23 +29,12 @@ use Rattle.wap_codegen.specs.declared.fault.CompileFault.{CompileFault}
 use Rattle.wap_codegen.specs.declared.fault.CompileFault.TheVariants.{Lex, Parse, Scope}
 use Rattle.wap_codegen.specs.declared.fault.CompileFault.TheVariants.{TooManyConstants, CodeTooLong}
 use Rattle.wap_codegen.specs.declared.fault.CompileFault.TheVariants.{NoMemory}
-use Rattle.wap_codegen.specs.Turned.{lex_fault, parse_fault, scope_fault}
-use Rattle.wap_codegen.specs.Faults.{IsUnscoped, IsFirstLong}
+use Rattle.wap_codegen.specs.Turned.{parse_fault}
+use Rattle.wap_codegen.specs.Faults.{IsFirstLong}
 use Rattle.wap_codegen.specs.Faults.{IsCompileFault}
 use Rattle.wap_codegen.specs.inside.Units.{IsUnitCause}
 
 -- ---- faults of the layers below
-
--- of the tokens
-pub lex_cause : (src : List ℕ) (fault : LexFault)
-    → (fault ≢ lex.NoMemory → IsRefused src fault) → IsCompileFault src (lex_fault fault)
-lex_cause src lex.NotText is = is (λ same. cc)
-lex_cause src (lex.BadChar at) is = is (λ same. cc)
-lex_cause src (lex.OpenString at) is = is (λ same. cc)
-lex_cause src (lex.OpenComment at) is = is (λ same. cc)
-lex_cause src (lex.BadEscape at) is = is (λ same. cc)
-lex_cause src (lex.IntRange at) is = is (λ same. cc)
-lex_cause src lex.NoMemory is = tt
 
 -- of the parser
 pub parse_cause : (src : List ℕ) (tokens : List Token) → AreTokens src tokens
@@ -81,47 +66,6 @@ parse_cause src tokens are (parse.Nested at) only syntax nested first stops = re
   stops = stops (λ same. cc);
 }
 parse_cause src tokens are parse.NoMemory only syntax nested first stops = tt
-
--- of the names
-pub scope_cause : (src : List ℕ) (p : Program) → IsSourceOf src p → (fault : ScopeFault)
-    → (fault ≢ scope.NoMemory → IsFault p fault)
-    → (fault ≢ scope.NoMemory → first_fault (faults p) ≡ Some fault)
-    → IsCompileFault src (scope_fault fault)
-scope_cause src p spelled fault found first = by fault found first where
-  unscoped : (fault : ScopeFault) → IsFault p fault → first_fault (faults p) ≡ Some fault
-      → IsUnscoped src fault
-  unscoped fault found first =
-      record { program = p; spelled = spelled; found = found; first = first }
-
-  by : (fault : ScopeFault)
-      → (fault ≢ scope.NoMemory → IsFault p fault)
-      → (fault ≢ scope.NoMemory → first_fault (faults p) ≡ Some fault)
-      → IsCompileFault src (scope_fault fault)
-  by scope.NoMemory found first = tt
-  by (scope.NoVariable span) found first =
-      unscoped (scope.NoVariable span) (found (λ same. cc)) (first (λ same. cc))
-  by (scope.TwoVariables span) found first =
-      unscoped (scope.TwoVariables span) (found (λ same. cc)) (first (λ same. cc))
-  by (scope.NoFunction span) found first =
-      unscoped (scope.NoFunction span) (found (λ same. cc)) (first (λ same. cc))
-  by (scope.TwoFunctions span) found first =
-      unscoped (scope.TwoFunctions span) (found (λ same. cc)) (first (λ same. cc))
-  by (scope.Arguments span) found first =
-      unscoped (scope.Arguments span) (found (λ same. cc)) (first (λ same. cc))
-  by (scope.NoUnit span) found first =
-      unscoped (scope.NoUnit span) (found (λ same. cc)) (first (λ same. cc))
-  by (scope.TwoUnits span) found first =
-      unscoped (scope.TwoUnits span) (found (λ same. cc)) (first (λ same. cc))
-  by (scope.NoLibrary span) found first =
-      unscoped (scope.NoLibrary span) (found (λ same. cc)) (first (λ same. cc))
-  by (scope.LoneBreak span) found first =
-      unscoped (scope.LoneBreak span) (found (λ same. cc)) (first (λ same. cc))
-  by (scope.TwoAccess span) found first =
-      unscoped (scope.TwoAccess span) (found (λ same. cc)) (first (λ same. cc))
-  by (scope.TooManyLocals span) found first =
-      unscoped (scope.TooManyLocals span) (found (λ same. cc)) (first (λ same. cc))
-  by (scope.TooManyFunctions span) found first =
-      unscoped (scope.TooManyFunctions span) (found (λ same. cc)) (first (λ same. cc))
 
 -- of the sizes of the unit
 pub unit_cause : (src : List ℕ) (p : Program) → IsSourceOf src p → IsScoped p

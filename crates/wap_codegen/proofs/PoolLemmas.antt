@@ -1,5 +1,4 @@
 pub mod Numbered
-pub mod PoolNeeds
 pub mod Pooling
 pub mod Declared
 pub mod Once

@@ -9,7 +9,7 @@ use Rattle.std.specs.Prelude.{unwrap_or, option_map, option_and_then}
 use Rattle.std.specs.List.{AllByRecursion}
 use Rattle.std.specs.Option.{option_map_or}
 use Rattle.std.proofs.lemmas.Bool.{and_parts, ltb-false, le-leb, ltb-true, lt-ltb}
-use Rattle.std.proofs.lemmas.List.{length-reverse, length-take-le, length-set, get_or_past}
+use Rattle.std.proofs.lemmas.List.{length-reverse, length-take-le, length-set}
 use Rattle.std.proofs.lemmas.Option.{slice_get_cases}
 use Rattle.wap_base.proofs.Choices.{ok_same}
 use Rattle.wap_base.specs.declared.charset.Charset.{Charset}
@@ -657,13 +657,6 @@ module _ (string : ℕ) (function : Function) (place : ℕ) (variables : List Va
 
 -- ---- wherever a frame stands
 
-pub record AtInstruction (frame : Frame) (code : Code) : Type 0 where
-  pub row : Row
-  pub row_is : row_of (slice_index code.code frame.place) ≡ Some row
-  pub instr : Instr
-  pub read : read_row row code.code frame.place ≡ Ok instr
-  pub next_within : instr.next ≤ length code.code
-
 pub code_is : (frame : Frame) (coming : ℕ) (stands : Stands frame coming)
     → code_of frame.function ≡ stands.code.code
 code_is frame coming stands =
@@ -906,14 +899,6 @@ no_instr frame row fault stands within row_is short =
   where
     row_same : (x y : Row) → Some x ≡ Some y → x ≡ y
     row_same x y e = cc
-
--- ---- the jump after a short-circuit
-
-module _ (frame : Frame) (decides : Bool) (next : ℕ) where
-  past_end : length (code_of frame.function) ≤ next
-      → row_of (slice_index (code_of frame.function) next) ≡ None
-  unfolding row_of
-  past_end past = rw (get_or_past (code_of frame.function) next 0 past) refl
 
 -- ---- one instruction
 

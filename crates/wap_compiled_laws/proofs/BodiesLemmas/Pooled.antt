@@ -99,14 +99,6 @@ abbrev pub AllIn : List Literal → List Literal → Type 0
 AllIn pool [] = Unit {0}
 AllIn pool (l ∷ more) = (IsPoolable l → is_in l pool ≡ true) × AllIn pool more
 
--- what is in a pool is in one that has all of it
-in_longer : (pool : List Literal) (needed more : List Literal)
-    → ((l : Literal) → IsPoolable l → is_in l pool ≡ true → is_in l more ≡ true)
-    → AllIn pool needed → AllIn more needed
-in_longer pool [] more grows all = tt
-in_longer pool (l ∷ needed) more grows all =
-    (λ able. grows l able (all.0 able), in_longer pool needed more grows all.1)
-
 -- all that are added are in the pool
 pub all_in : (pool needed : List Literal) → AllIn (pooled pool needed) needed
 all_in pool [] = tt

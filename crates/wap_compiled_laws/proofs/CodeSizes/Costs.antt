@@ -136,13 +136,6 @@ module _ (inside : Bool) where
       costs_one (λ exits at. Jump op.JumpBw (at - count)) 3 (λ exits i. tt)
       (λ exits i allowed. refl)
 
-  -- what costs so many bytes anywhere does in a loop
-  pub costs_anywhere : (coded : Coded) (n : ℕ) → Costs false coded n → Costs inside coded n
-  costs_anywhere coded n costs = record {
-    fits = costs.fits;
-    costs = λ exits i allowed. costs.costs exits i tt;
-  }
-
   -- the body of a loop
   pub costs_within : (breaks continues : ℕ) (body : Coded) (n : ℕ) → Costs true body n
       → Costs inside (within breaks continues body) n

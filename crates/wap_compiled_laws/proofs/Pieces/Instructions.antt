@@ -142,10 +142,3 @@ module _ {S : Type 0} (site : Site S) where
       op_piece site (give v) op.Pop 0 0 0 (pushed v)
       (onto site nothing)
       (λ exits place i other variables operands turns state. refl)
-
-  -- the same, where nothing is given then
-  pub pop_unit : (v : Value) → IsPiece (give (tt {0})) (plain op.Pop) (pushed v) nothing
-  unfolding effect_of
-  pop_unit v =
-      op_piece site (give (tt {0})) op.Pop 0 0 0 (pushed v) (onto site nothing)
-      (λ exits place i other variables operands turns state. refl)

@@ -111,11 +111,6 @@ module _ (src : List ℕ) where
   no_needs : {A : Type 0} → A → List Need
   no_needs a = []
 
-  none_of : {A : Type 0} (xs : List A) → flat_map no_needs xs ≡ []
-  unfolding no_needs
-  none_of [] = refl
-  none_of (x ∷ xs) = none_of xs
-
   draws_parameter : Draws src no_needs (IsParameter src)
   unfolding no_needs
   draws_parameter x' v' y (formed.parameter v x) = one (name v) y y (no_more y)

@@ -6,10 +6,10 @@ use Rattle.wap_grammar.specs.declared.program.expression.Expr.{Expr}
 use Rattle.wap_meaning.specs.coding.Needs.{Variable, Local, Other, Library, literal_needs}
 use Rattle.wap_meaning.specs.coding.Needs.{assign_needs}
 use Rattle.wap_meaning.specs.coding.Needs.{expr_needs}
-use Rattle.wap_codegen.proofs.PoolLemmas.PoolNeeds.{of_literal, of_variable, of_assignment, of_step}
-use Rattle.wap_codegen.proofs.PoolLemmas.PoolNeeds.{of_unary}
-use Rattle.wap_codegen.proofs.PoolLemmas.PoolNeeds.{of_chain, of_choice, of_local, of_external}
-use Rattle.wap_codegen.proofs.PoolLemmas.PoolNeeds.{of_library}
+use Rattle.wap_meaning.proofs.NeedsLemmas.TreeNeeds.{of_literal, of_variable, of_assignment, of_step}
+use Rattle.wap_meaning.proofs.NeedsLemmas.TreeNeeds.{of_unary}
+use Rattle.wap_meaning.proofs.NeedsLemmas.TreeNeeds.{of_chain, of_choice, of_local, of_external}
+use Rattle.wap_meaning.proofs.NeedsLemmas.TreeNeeds.{of_library}
 use Rattle.wap_codegen.proofs.PoolLemmas.Pooling.{pools_none, pools_same, pools_variable}
 use Rattle.wap_codegen.proofs.PoolLemmas.Pooling.{pools_local}
 use Rattle.wap_codegen.proofs.PoolLemmas.Pooling.{pools_library, pools_assign, after_same}
