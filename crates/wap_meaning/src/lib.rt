@@ -6,7 +6,8 @@
 //! - `compiled`: The unit that a program of WMLScript is compiled to, by definitions that compute:
 //!   its constants, its code and all else, its size in wide code, and which programs have a unit.
 //! - `accepted`: The program of a source that is accepted, by calculation.
-//! - `needs`: Laws of what the programs of sources need: it is drawn from their tokens.
+//! - `needs`: Laws of what the programs of sources need: it is drawn from their tokens, and its
+//!   constants are those of the unit, each once.
 #![tactic(auto)]
 
 ghost use Rattle.wap_base.specs.declared.limits.Limits.{Limits as TheLimits};
