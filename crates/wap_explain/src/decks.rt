@@ -5,6 +5,7 @@ mod earlier;
 mod faults;
 mod names;
 mod order;
+mod texts;
 mod tree;
 mod values;
 mod way;

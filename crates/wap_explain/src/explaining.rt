@@ -5,7 +5,8 @@ ghost use Rattle.wap_pages.specs.declared.fault.PageFault.{PageFault};
 ghost use Rattle.wap_explain.specs.Explaining.{IsRight, IsRightOf, Explains};
 
 use crate::ending::Ending;
-use crate::refusals::{good_text, refusal_text};
+use crate::good::good_text;
+use crate::refusals::refusal_text;
 use std::alloc::Global;
 use wap_base::Text;
 use wap_devices::{Failed, Fetched, Sink, Store, StoreErr, write_all};

@@ -12,6 +12,7 @@ mod decks;
 mod documents;
 mod ending;
 mod explaining;
+mod good;
 mod pieces;
 mod refusals;
 mod sources;

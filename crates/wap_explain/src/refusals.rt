@@ -1,62 +1,17 @@
-//! The text that is shown of a good page, and of one that is refused.
+//! The text that is shown of a page that is refused.
 ghost use Rattle.std.specs.Prelude.{◌<◌, ◌^◌, length};
 
-use crate::decks::{add_deck, add_deck_words};
+use crate::decks::add_deck_words;
 use crate::documents::add_document_words;
+use crate::good::no_memory;
 use crate::pieces::{add_all, add_shown};
-use crate::sources::{add_all_lines, add_source_words, add_text_words};
-use crate::units::{add_unit, add_unit_fault, add_verify_fault};
+use crate::sources::{add_source_words, add_text_words};
+use crate::units::{add_unit_fault, add_verify_fault};
 use std::alloc::Global;
 use wap_base::{NoMemory, Text};
 use wap_deckcheck::DeckFault;
-use wap_pages::{Kind, PageErr, PageFault, deck_in, unit_in};
+use wap_pages::{PageFault, deck_in, unit_in};
 use wap_verify::VerifyFault;
-
-/// Out of memory, where a page that was read once is read again.
-fn no_memory(error: PageErr) -> Result<(), NoMemory> {
-    match error {
-        PageErr::NoMemory => Err(NoMemory),
-        PageErr::Refused(_) => Ok(()),
-    }
-}
-
-/// Adds the deck of bytes that are one.
-fn add_good_deck(alloc: Global, out: &mut Text, bytes: &[u8]) -> Result<(), NoMemory> {
-    match deck_in(alloc, bytes) {
-        Ok(deck) => add_deck(out, &deck, None),
-        Err(error) => no_memory(error),
-    }
-}
-
-/// Adds the listing of bytes that are a unit.
-fn add_good_unit(alloc: Global, out: &mut Text, bytes: &[u8]) -> Result<(), NoMemory>
-    requires { length bytes.now < 2 ^ 32 }
-{
-    match unit_in(alloc, bytes) {
-        Ok(unit) => add_unit(alloc, out, &unit),
-        Err(error) => no_memory(error),
-    }
-}
-
-/// The text of a good page.
-pub(crate) fn good_text(alloc: Global, name: &Text, bytes: &[u8]) -> Result<Text, NoMemory>
-    requires { length bytes.now < 2 ^ 31 }
-{
-    let mut out = Text::new(alloc);
-    let kind = Kind::of(name);
-    out.add(match kind {
-        Kind::Deck => "ok deck\n\n",
-        Kind::Words => "ok text\n\n",
-        Kind::Unit => "ok unit\n\n",
-        Kind::Source => "ok source\n\n",
-    })?;
-    match kind {
-        Kind::Deck => add_good_deck(alloc, &mut out, bytes)?,
-        Kind::Unit => add_good_unit(alloc, &mut out, bytes)?,
-        Kind::Words | Kind::Source => add_all_lines(&mut out, bytes)?,
-    }
-    Ok(out)
-}
 
 /// Adds why the deck of bytes isn't good.
 fn add_bad_deck(

@@ -1,10 +1,12 @@
 //! Sources of scripts: lines with a mark, and what is known at the place.
 
 mod brackets;
+mod declared;
 mod expected;
 mod faults;
 mod known;
 mod lines;
+mod rules;
 mod scopes;
 mod tokens;
 

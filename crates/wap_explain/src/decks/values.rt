@@ -1,6 +1,6 @@
 //! The values that attributes may have, in words.
 use crate::decks::names::plain_text;
-use crate::decks::tree::add_value;
+use crate::decks::texts::add_value;
 use crate::pieces::{add_all, add_list};
 use wap_base::{NoMemory, Part, Rows, Text, is_name};
 use wap_tokens::markup::{AttrName, Node, Tag};
