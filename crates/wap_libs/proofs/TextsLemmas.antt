@@ -3,6 +3,7 @@ pub mod Drafts
 pub mod Blanks
 pub mod FormatLaws
 pub mod FormatPieces
+pub mod Ends
 pub mod Parting
 pub mod Occurs
 pub mod Grammar

@@ -1,5 +1,6 @@
 //! The library String.
 ghost use Rattle.std.specs.Prelude.{◌≡◌, ◌<◌, length, IfOk, IfSome};
+ghost use Rattle.std.specs.Str.{chars};
 ghost use Rattle.wap_base.specs.Outcome.{Meets};
 ghost use Rattle.wap_libs.specs.Outcome.{kept_within};
 ghost use Rattle.wap_libs.specs.Row.{value_given, values_taken};
@@ -12,14 +13,15 @@ ghost use Rattle.wap_libs.specs.String.{string_trim, string_compare, string_to_s
 ghost use Rattle.wap_libs.specs.String.{string_format, character_at, place_value, order_value};
 
 use crate::texts::argument::{
-    argument, characters_of, from_zero, keep_within, length, number, show, text, text_value,
+    argument, characters_of, from_zero, keep_within, length, number, show, text_value,
 };
-use crate::texts::characters::{part, squeeze, trim};
+use crate::texts::characters::{squeeze, trim};
 use crate::texts::elements::{
-    element_at, elements, with_element, with_element_before, without_element,
+    count_elements, element_at, with_element, with_element_before, without_element,
 };
 use crate::texts::format::format_value;
 use crate::texts::occurrences::{place_of, replace};
+use crate::texts::walks::part;
 use crate::{LibFault, StringFunction};
 use std::alloc::Global;
 use std::cmp::Ordering;
@@ -100,26 +102,26 @@ fn string_is_empty(alloc: Global, value: &Value) -> Result<Value, NoMemory>
 fn string_char_at(alloc: Global, value: &Value, place: &Value) -> Result<Value, NoMemory>
     ensures { IfOk result (λ answer. answer ≡ string_char_at value.now place.now) }
 {
-    let Some(characters) = characters_of(alloc, value)? else {
+    let Some(text) = to_str(alloc, value)? else {
         return Ok(Value::Invalid);
     };
     match to_int(place) {
         Some(place) => {
-            let found = character_at(characters.as_slice(), place);
-            text(alloc, found).map(Value::Str)
+            let found = character_at(text.as_str(), place);
+            Text::of(alloc, found).map(Value::Str)
         }
         None => Ok(Value::Invalid),
     }
 }
 
 /// The character at a place, if there is one.
-fn character_at(characters: &[char], place: i32) -> &[char]
-    ensures { result.now ≡ character_at characters.now place }
+fn character_at(text: &str, place: i32) -> &str
+    ensures { chars result.now ≡ character_at (chars text.now) place }
 {
     if place < 0 {
-        return &[];
+        return part(text, 0, 0);
     }
-    part(characters, place as usize, 1)
+    part(text, place as usize, 1)
 }
 
 fn string_sub_string(
@@ -130,13 +132,13 @@ fn string_sub_string(
 ) -> Result<Value, NoMemory>
     ensures { IfOk result (λ answer. answer ≡ string_sub_string value.now start.now count.now) }
 {
-    let Some(characters) = characters_of(alloc, value)? else {
+    let Some(text) = to_str(alloc, value)? else {
         return Ok(Value::Invalid);
     };
     match (to_int(start), to_int(count)) {
         (Some(start), Some(count)) => {
-            let found = part(characters.as_slice(), from_zero(start), from_zero(count));
-            text(alloc, found).map(Value::Str)
+            let found = part(text.as_str(), from_zero(start), from_zero(count));
+            Text::of(alloc, found).map(Value::Str)
         }
         _ => Ok(Value::Invalid),
     }
@@ -210,14 +212,11 @@ fn separator_of(alloc: Global, value: &Value) -> Result<Option<char>, NoMemory>
 fn string_elements(alloc: Global, value: &Value, separator: &Value) -> Result<Value, NoMemory>
     ensures { IfOk result (λ answer. answer ≡ string_elements value.now separator.now) }
 {
-    let Some(characters) = characters_of(alloc, value)? else {
+    let Some(text) = to_str(alloc, value)? else {
         return Ok(Value::Invalid);
     };
     match separator_of(alloc, separator)? {
-        Some(separator) => {
-            let elements = elements(alloc, separator, characters.as_slice())?;
-            Ok(number(elements.len()))
-        }
+        Some(separator) => Ok(number(count_elements(separator, &text))),
         None => Ok(Value::Invalid),
     }
 }
@@ -230,13 +229,13 @@ fn string_element_at(
 ) -> Result<Value, NoMemory>
     ensures { IfOk result (λ answer. answer ≡ string_element_at value.now place.now separator.now) }
 {
-    let Some(characters) = characters_of(alloc, value)? else {
+    let Some(text) = to_str(alloc, value)? else {
         return Ok(Value::Invalid);
     };
     match (to_int(place), separator_of(alloc, separator)?) {
         (Some(place), Some(separator)) => {
             let place = from_zero(place);
-            element_at(alloc, separator, place, characters.as_slice()).map(Value::Str)
+            element_at(alloc, separator, place, &text).map(Value::Str)
         }
         _ => Ok(Value::Invalid),
     }
@@ -250,13 +249,13 @@ fn string_remove_at(
 ) -> Result<Value, NoMemory>
     ensures { IfOk result (λ answer. answer ≡ string_remove_at value.now place.now separator.now) }
 {
-    let Some(characters) = characters_of(alloc, value)? else {
+    let Some(text) = to_str(alloc, value)? else {
         return Ok(Value::Invalid);
     };
     match (to_int(place), separator_of(alloc, separator)?) {
         (Some(place), Some(separator)) => {
             let place = from_zero(place);
-            without_element(alloc, separator, place, characters.as_slice()).map(Value::Str)
+            without_element(alloc, separator, place, &text).map(Value::Str)
         }
         _ => Ok(Value::Invalid),
     }
@@ -272,7 +271,7 @@ fn string_replace_at(
     ensures { IfOk result (λ answer.
         answer ≡ string_replace_at value.now new.now place.now separator.now) }
 {
-    let Some(characters) = characters_of(alloc, value)? else {
+    let Some(text) = to_str(alloc, value)? else {
         return Ok(Value::Invalid);
     };
     let Some(new) = to_str(alloc, new)? else {
@@ -281,7 +280,7 @@ fn string_replace_at(
     match (to_int(place), separator_of(alloc, separator)?) {
         (Some(place), Some(separator)) => {
             let place = from_zero(place);
-            with_element(alloc, separator, place, new, characters.as_slice()).map(Value::Str)
+            with_element(alloc, separator, place, &new, &text).map(Value::Str)
         }
         _ => Ok(Value::Invalid),
     }
@@ -297,7 +296,7 @@ fn string_insert_at(
     ensures { IfOk result (λ answer.
         answer ≡ string_insert_at value.now new.now place.now separator.now) }
 {
-    let Some(characters) = characters_of(alloc, value)? else {
+    let Some(text) = to_str(alloc, value)? else {
         return Ok(Value::Invalid);
     };
     let Some(new) = to_str(alloc, new)? else {
@@ -306,7 +305,7 @@ fn string_insert_at(
     match (to_int(place), separator_of(alloc, separator)?) {
         (Some(place), Some(separator)) => {
             let place = from_zero(place);
-            with_element_before(alloc, separator, place, new, characters.as_slice()).map(Value::Str)
+            with_element_before(alloc, separator, place, &new, &text).map(Value::Str)
         }
         _ => Ok(Value::Invalid),
     }
@@ -315,8 +314,8 @@ fn string_insert_at(
 fn string_squeeze(alloc: Global, value: &Value) -> Result<Value, NoMemory>
     ensures { IfOk result (λ answer. answer ≡ string_squeeze value.now) }
 {
-    match characters_of(alloc, value)? {
-        Some(characters) => squeeze(alloc, characters.as_slice()).map(Value::Str),
+    match to_str(alloc, value)? {
+        Some(text) => squeeze(alloc, text.as_str()).map(Value::Str),
         None => Ok(Value::Invalid),
     }
 }
@@ -324,8 +323,8 @@ fn string_squeeze(alloc: Global, value: &Value) -> Result<Value, NoMemory>
 fn string_trim(alloc: Global, value: &Value) -> Result<Value, NoMemory>
     ensures { IfOk result (λ answer. answer ≡ string_trim value.now) }
 {
-    match characters_of(alloc, value)? {
-        Some(characters) => text(alloc, trim(characters.as_slice())).map(Value::Str),
+    match to_str(alloc, value)? {
+        Some(text) => Text::of(alloc, trim(text.as_str())).map(Value::Str),
         None => Ok(Value::Invalid),
     }
 }

@@ -9,3 +9,4 @@ pub mod format;
 pub mod laws;
 pub mod occurrences;
 mod pieces;
+pub mod walks;

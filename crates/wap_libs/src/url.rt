@@ -1,9 +1,8 @@
 //! The library URL.
-ghost use Rattle.std.specs.Prelude.{◌≡◌, ◌<◌, vec_len, length, IfOk, option_map};
+ghost use Rattle.std.specs.Prelude.{◌≡◌, length, IfOk, option_map};
 ghost use Rattle.std.specs.Fmt.{decimal};
 ghost use Rattle.wap_base.specs.Outcome.{Meets};
 ghost use Rattle.std.specs.Result.{result_ok};
-ghost use Rattle.wap_libs.specs.Elements.{elements};
 ghost use Rattle.wap_url.specs.Calculation.{url_at};
 ghost use Rattle.wap_libs.specs.Outcome.{kept_within};
 ghost use Rattle.wap_libs.specs.Row.{value_given, values_taken};
@@ -14,11 +13,11 @@ ghost use Rattle.wap_libs.specs.Url.{url_get_port, url_get_path, url_get_paramet
 ghost use Rattle.wap_libs.specs.Url.{url_get_query, url_get_fragment, url_resolve};
 ghost use Rattle.wap_libs.specs.Url.{url_escape_string, url_unescape_string};
 
-use crate::texts::argument::{argument, characters, keep_within, text_value};
-use crate::texts::elements::{element_at, elements, join_elements, without_element};
+use crate::texts::argument::{argument, keep_within, text_value};
+use crate::texts::elements::{element_at, with_element, without_element};
 use crate::{LibFault, UrlFunction};
 use std::alloc::Global;
-use wap_base::{Bytes, NoMemory, Rows, Text};
+use wap_base::{Bytes, NoMemory, Text};
 use wap_url::{Url, UrlFault, escape, join, print, unescape};
 use wap_value::{Value, to_str};
 
@@ -161,36 +160,25 @@ fn decimal(alloc: Global, port: Option<u16>) -> Result<Option<Text>, NoMemory>
 }
 
 /// The last of a path's segments.
-fn last_segment(alloc: Global, path: &Text) -> Result<Rows<char>, NoMemory>
+fn last_segment(alloc: Global, path: &Text) -> Result<Text, NoMemory>
     ensures { IfOk result (λ segment. segment ≡ last_segment path.now) }
 {
-    let segments = segments(alloc, path)?;
-    characters(alloc, &segments[segments.len() - 1])
-}
-
-fn segments(alloc: Global, path: &Text) -> Result<Vec<Text>, NoMemory>
-    ensures exact { IfOk result (λ segments. segments.items ≡ elements 47 path.now) }
-    ensures some { IfOk result (λ segments. 0 < vec_len segments) }
-{
-    let characters = characters(alloc, path)?;
-    elements(alloc, '/', characters.as_slice())
+    element_at(alloc, '/', path.len(), path)
 }
 
 fn parameters(alloc: Global, path: &Text) -> Result<Text, NoMemory>
     ensures { IfOk result (λ text. text ≡ parameters path.now) }
 {
     let last = last_segment(alloc, path)?;
-    without_element(alloc, ';', 0, last.as_slice())
+    without_element(alloc, ';', 0, &last)
 }
 
 fn without_parameters(alloc: Global, path: &Text) -> Result<Text, NoMemory>
     ensures { IfOk result (λ text. text ≡ without_parameters path.now) }
 {
     let last = last_segment(alloc, path)?;
-    let mut segments = segments(alloc, path)?;
-    let place = segments.len() - 1;
-    segments[place] = element_at(alloc, ';', 0, last.as_slice())?;
-    join_elements(alloc, '/', &segments)
+    let kept = element_at(alloc, ';', 0, &last)?;
+    with_element(alloc, '/', path.len(), &kept, path)
 }
 
 fn url_resolve(alloc: Global, base: &Value, reference: &Value) -> Result<Value, NoMemory>

@@ -1,8 +1,10 @@
--- White space at the end of a text, and inside it.
+-- White space at the ends of a text.
 use Rattle.std.proofs.Common.{◌≡◌, ℕ, Bool, true, false, cond, ◌&&◌, eqb, List, [], ◌∷◌}
-use Rattle.std.proofs.Common.{◌++◌, length, refl, ap, ◌∙◌, length-append, arith}
+use Rattle.std.proofs.Common.{◌++◌, length, refl, ap, sym, ◌∙◌, length-append, arith}
+use Rattle.std.specs.List.{prefix_len}
+use Rattle.std.proofs.lemmas.List.{drop-drop}
 use Rattle.std.proofs.lemmas.Bool.{ne_eqb}
-use Rattle.wap_libs.specs.Characters.{is_blank, before_blanks}
+use Rattle.wap_libs.specs.Characters.{is_blank, behind_blanks, before_blanks}
 
 -- a last character that is white space goes
 pub before_blanks-blank : (s : List ℕ) (c : ℕ) → is_blank c ≡ true
@@ -28,3 +30,13 @@ before_blanks-other (d ∷ s) c other =
     ap (λ (t : List ℕ). cond (is_blank d && eqb (length t) 0) [] (d ∷ t))
     (before_blanks-other s c other)
     ∙ rw (some_end s c) (rw (never (is_blank d)) refl)
+
+-- a first character that is white space goes
+pub behind_blanks-blank : (s : List ℕ) (c : ℕ) → is_blank c ≡ true
+    → behind_blanks (c ∷ s) ≡ behind_blanks s
+behind_blanks-blank s c blank = rw blank (sym (drop-drop (prefix_len is_blank s) 1 (c ∷ s)))
+
+-- any other stays
+pub behind_blanks-other : (s : List ℕ) (c : ℕ) → is_blank c ≡ false
+    → behind_blanks (c ∷ s) ≡ c ∷ s
+behind_blanks-other s c other = rw other refl

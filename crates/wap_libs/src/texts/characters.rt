@@ -2,9 +2,11 @@
 ghost use Rattle.std.specs.Prelude.{◌≡◌, ◌≤◌, length, IfOk};
 ghost use Rattle.std.specs.Char.{is_ascii_digit};
 ghost use Rattle.std.specs.List.{prefix_len};
-ghost use Rattle.wap_libs.specs.Characters.{is_blank, begins_blank, part, squeezed};
+ghost use Rattle.std.specs.Str.{chars};
+ghost use Rattle.wap_libs.specs.Characters.{is_blank, begins_blank, squeezed};
 ghost use Rattle.wap_libs.specs.Characters.{behind_blanks, before_blanks, trimmed};
 
+use crate::texts::walks::{first_of, last_of};
 use std::alloc::Global;
 use wap_base::{NoMemory, Text};
 
@@ -13,14 +15,6 @@ pub fn is_blank(character: char) -> bool
     ensures { result ≡ is_blank character }
 {
     character == ' ' || ('\t'..='\r').contains(&character)
-}
-
-/// So many characters from a place on, as far as there are.
-pub fn part(characters: &[char], start: usize, count: usize) -> &[char]
-    ensures { result.now ≡ part characters.now start count }
-{
-    let behind = &characters[start.min(characters.len())..];
-    &behind[..count.min(behind.len())]
 }
 
 /// How many digits the text begins with.
@@ -56,48 +50,63 @@ pub fn behind_blanks(characters: &[char]) -> &[char]
     &characters[blanks(characters)..]
 }
 
-/// The text without the white space at its end.
-fn before_blanks(characters: &[char]) -> &[char]
-    ensures { result.now ≡ before_blanks characters.now }
+/// The same of a text by its bytes.
+fn trim_start(text: &str) -> &str
+    ensures { chars result.now ≡ behind_blanks (chars text.now) }
 {
-    let mut kept = 0;
-    for (i, character) in characters.iter().enumerate() {
-        if !is_blank(*character) {
-            kept = i + 1;
-        }
-    }
-    &characters[..kept]
-}
-
-/// The text without the white space around it.
-pub fn trim(characters: &[char]) -> &[char]
-    ensures { result.now ≡ trimmed characters.now }
-{
-    before_blanks(behind_blanks(characters))
-}
-
-/// The text with one space for each run of white space.
-pub fn squeeze(alloc: Global, characters: &[char]) -> Result<Text, NoMemory>
-    ensures { IfOk result (λ text. text ≡ squeezed characters.now) }
-{
-    let mut text = Text::new(alloc);
-    let mut rest = characters;
-    while let [character, behind @ ..] = rest {
-        if !is_blank(*character) {
-            text.push(*character)?;
-        } else if !begins_blank(behind) {
-            text.push(' ')?;
+    let mut rest = text;
+    while let Some((character, behind)) = first_of(rest) {
+        if !is_blank(character) {
+            return rest;
         }
         rest = behind;
     }
-    Ok(text)
+    rest
 }
 
-fn begins_blank(characters: &[char]) -> bool
-    ensures { result ≡ begins_blank characters.now }
+/// The text without the white space at its end.
+fn trim_end(text: &str) -> &str
+    ensures { chars result.now ≡ before_blanks (chars text.now) }
 {
-    match characters {
-        [] => false,
-        [first, ..] => is_blank(*first),
+    let mut rest = text;
+    while let Some((character, before)) = last_of(rest) {
+        if !is_blank(character) {
+            return rest;
+        }
+        rest = before;
+    }
+    rest
+}
+
+/// The text without the white space around it.
+pub fn trim(text: &str) -> &str
+    ensures { chars result.now ≡ trimmed (chars text.now) }
+{
+    trim_end(trim_start(text))
+}
+
+/// The text with one space for each run of white space.
+pub fn squeeze(alloc: Global, text: &str) -> Result<Text, NoMemory>
+    ensures { IfOk result (λ made. made ≡ squeezed (chars text.now)) }
+{
+    let mut made = Text::new(alloc);
+    let mut rest = text;
+    while let Some((character, behind)) = first_of(rest) {
+        if !is_blank(character) {
+            made.push(character)?;
+        } else if !begins_blank(behind) {
+            made.push(' ')?;
+        }
+        rest = behind;
+    }
+    Ok(made)
+}
+
+fn begins_blank(text: &str) -> bool
+    ensures { result ≡ begins_blank (chars text.now) }
+{
+    match first_of(text) {
+        Some((first, _)) => is_blank(first),
+        None => false,
     }
 }

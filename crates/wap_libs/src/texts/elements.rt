@@ -1,51 +1,55 @@
-//! Texts as lists of elements.
-ghost use Rattle.std.specs.Prelude.{◌≡◌, ◌<◌, length, vec_len, IfOk};
-ghost use Rattle.wap_libs.specs.Elements.{elements, joined, within, element_at, without_element};
+//! The elements of a text, found where they stand.
+ghost use Rattle.std.specs.Prelude.{◌≡◌, ◌≤◌, ◌-◌, ◌++◌, length, drop, IfOk};
+ghost use Rattle.std.specs.Str.{chars, IsUtf8, IsCharBoundary};
+ghost use Rattle.wap_libs.specs.Elements.{elements, within, element_at, without_element};
 ghost use Rattle.wap_libs.specs.Elements.{with_element, with_element_before};
 
 use std::alloc::Global;
 use wap_base::{NoMemory, Text};
 
-/// The elements of a text, which are one at least.
-pub fn elements(alloc: Global, separator: char, characters: &[char]) -> Result<Vec<Text>, NoMemory>
-    ensures exact { IfOk result (λ found. found.items ≡ elements separator characters.now) }
-    ensures some { IfOk result (λ found. 0 < vec_len found) }
+/// The place of an element, put among the elements, and the text from it on.
+fn from_element(separator: char, place: usize, text: &str) -> (usize, &str)
+    ensures place { result.0 ≡ within (elements separator (chars text.now)) place }
+    ensures rest { elements separator (chars result.1.now)
+        ≡ drop result.0 (elements separator (chars text.now)) }
+    ensures utf8 { IsUtf8 result.1.now }
+    ensures shorter { length result.1.now ≤ length text.now }
+    ensures end { result.1.now ≡ drop (length text.now - length result.1.now) text.now }
+    ensures cut { IsCharBoundary text.now (length text.now - length result.1.now) }
 {
-    let mut found = Vec::new(alloc);
-    let mut element = Text::new(alloc);
-    for character in characters {
-        if *character == separator {
-            found.push(element)?;
-            element = Text::new(alloc);
-        } else {
-            element.push(*character)?;
+    let mut at = 0;
+    let mut rest = text;
+    while at < place {
+        match rest.split_once(separator) {
+            Some((_, behind)) => {
+                rest = behind;
+                at += 1;
+            }
+            None => return (at, rest),
         }
     }
-    found.push(element)?;
-    Ok(found)
+    (at, rest)
 }
 
-/// The elements with the separator between each two.
-pub fn join_elements(alloc: Global, separator: char, elements: &[Text]) -> Result<Text, NoMemory>
-    ensures { IfOk result (λ text. text ≡ joined separator elements.now) }
+/// The same, with the text before the element between them.
+fn find_element(separator: char, place: usize, text: &str) -> (usize, &str, &str)
+    ensures place { result.0 ≡ within (elements separator (chars text.now)) place }
+    ensures rest { elements separator (chars result.2.now)
+        ≡ drop result.0 (elements separator (chars text.now)) }
+    ensures utf8 { IsUtf8 result.1.now × IsUtf8 result.2.now }
+    ensures whole { chars text.now ≡ chars result.1.now ++ chars result.2.now }
 {
-    let mut text = Text::new(alloc);
-    for (i, element) in elements.iter().enumerate() {
-        if i > 0 {
-            text.push(separator)?;
-        }
-        text.add(element.as_str())?;
-    }
-    Ok(text)
+    let (at, rest) = from_element(separator, place, text);
+    (at, &text[..text.len() - rest.len()], rest)
 }
 
-/// A place that is put among the elements.
-fn within(elements: &[Text], place: usize) -> usize
-    requires { 0 < length elements.now }
-    ensures exact { result ≡ within elements.now place }
-    ensures inside { result < length elements.now }
+/// How many elements a text has.
+pub fn count_elements(separator: char, text: &Text) -> usize
+    ensures { result ≡ length (elements separator text.now) }
 {
-    place.min(elements.len() - 1)
+    let text = text.as_str();
+    let (last, _) = from_element(separator, text.len(), text);
+    last + 1
 }
 
 /// The element at a place.
@@ -53,13 +57,15 @@ pub fn element_at(
     alloc: Global,
     separator: char,
     place: usize,
-    characters: &[char],
+    text: &Text,
 ) -> Result<Text, NoMemory>
-    ensures { IfOk result (λ text. text ≡ element_at separator place characters.now) }
+    ensures { IfOk result (λ found. found ≡ element_at separator place text.now) }
 {
-    let elements = elements(alloc, separator, characters)?;
-    let place = within(&elements, place);
-    elements[place].copy(alloc)
+    let (_, rest) = from_element(separator, place, text.as_str());
+    match rest.split_once(separator) {
+        Some((element, _)) => Text::of(alloc, element),
+        None => Text::of(alloc, rest),
+    }
 }
 
 /// The text without the element at a place.
@@ -67,14 +73,22 @@ pub fn without_element(
     alloc: Global,
     separator: char,
     place: usize,
-    characters: &[char],
+    text: &Text,
 ) -> Result<Text, NoMemory>
-    ensures { IfOk result (λ text. text ≡ without_element separator place characters.now) }
+    ensures { IfOk result (λ made. made ≡ without_element separator place text.now) }
 {
-    let mut elements = elements(alloc, separator, characters)?;
-    let place = within(&elements, place);
-    elements.remove(place);
-    join_elements(alloc, separator, &elements)
+    let (_, before, rest) = find_element(separator, place, text.as_str());
+    match rest.split_once(separator) {
+        Some((_, behind)) => {
+            let mut made = Text::of(alloc, before)?;
+            made.add(behind)?;
+            Ok(made)
+        }
+        None => match before.strip_suffix(separator) {
+            Some(others) => Text::of(alloc, others),
+            None => Ok(Text::new(alloc)),
+        },
+    }
 }
 
 /// The text with another element at a place.
@@ -82,15 +96,22 @@ pub fn with_element(
     alloc: Global,
     separator: char,
     place: usize,
-    new: Text,
-    characters: &[char],
+    new: &Text,
+    text: &Text,
 ) -> Result<Text, NoMemory>
-    ensures { IfOk result (λ text. text ≡ with_element separator place new characters.now) }
+    ensures { IfOk result (λ made. made ≡ with_element separator place new.now text.now) }
 {
-    let mut elements = elements(alloc, separator, characters)?;
-    let place = within(&elements, place);
-    elements[place] = new;
-    join_elements(alloc, separator, &elements)
+    let (_, before, rest) = find_element(separator, place, text.as_str());
+    let mut made = Text::of(alloc, before)?;
+    made.add(new.as_str())?;
+    match rest.split_once(separator) {
+        Some((_, behind)) => {
+            made.push(separator)?;
+            made.add(behind)?;
+            Ok(made)
+        }
+        None => Ok(made),
+    }
 }
 
 /// The text with another element before the one at a place, or at the end.
@@ -98,16 +119,24 @@ pub fn with_element_before(
     alloc: Global,
     separator: char,
     place: usize,
-    new: Text,
-    characters: &[char],
+    new: &Text,
+    text: &Text,
 ) -> Result<Text, NoMemory>
-    ensures { IfOk result (λ text. text ≡ with_element_before separator place new characters.now) }
+    ensures { IfOk result (λ made. made ≡ with_element_before separator place new.now text.now) }
 {
-    if characters.is_empty() {
-        return Ok(new);
+    if text.is_empty() {
+        return new.copy(alloc);
     }
-    let mut elements = elements(alloc, separator, characters)?;
-    let place = place.min(elements.len());
-    elements.insert(place, new)?;
-    join_elements(alloc, separator, &elements)
+    let (at, before, rest) = find_element(separator, place, text.as_str());
+    if at < place {
+        let mut made = text.copy(alloc)?;
+        made.push(separator)?;
+        made.add(new.as_str())?;
+        return Ok(made);
+    }
+    let mut made = Text::of(alloc, before)?;
+    made.add(new.as_str())?;
+    made.push(separator)?;
+    made.add(rest)?;
+    Ok(made)
 }

@@ -1,17 +1,18 @@
 //! A value that is written into a format.
 ghost use Rattle.std.specs.Prelude.{◌≡◌, ◌++◌, IfOk, OnOk, option_map, replicate};
 ghost use Rattle.std.specs.Fmt.{decimal};
+ghost use Rattle.std.specs.Str.{chars};
 ghost use Rattle.wap_value.specs.Conversion.{integer_of, text_of};
 ghost use Rattle.wap_libs.specs.Format.{own_digits, digits_of, signed_digits, least_digits, cut};
 ghost use Rattle.wap_libs.specs.Format.{filled, converted, written, plain, filled_in, formatted};
 
-use crate::texts::argument::{characters_of, length, text};
-use crate::texts::characters::part;
+use crate::texts::argument::length;
 use crate::texts::pieces::pieces_of;
+use crate::texts::walks::part;
 use crate::{Conversion, Piece, Specifier};
 use std::alloc::Global;
 use wap_base::{NoMemory, Text};
-use wap_value::{Value, to_int};
+use wap_value::{Value, to_int, to_str};
 
 /// The format with the value at its first specifier, if it is well formed and the value can be
 /// written so.
@@ -84,8 +85,8 @@ fn convert(
             None => Ok(None),
         },
         Conversion::Float => Ok(None),
-        Conversion::String => match characters_of(alloc, value)? {
-            Some(characters) => Ok(Some(text(alloc, cut(precision, characters.as_slice()))?)),
+        Conversion::String => match to_str(alloc, value)? {
+            Some(text) => Ok(Some(Text::of(alloc, cut(precision, text.as_str()))?)),
             None => Ok(None),
         },
     }
@@ -98,12 +99,12 @@ fn least_digits(precision: Option<u16>) -> u16
 }
 
 /// A String is cut at the precision.
-fn cut(precision: Option<u16>, characters: &[char]) -> &[char]
-    ensures { result.now ≡ cut precision characters.now }
+fn cut(precision: Option<u16>, text: &str) -> &str
+    ensures { chars result.now ≡ cut precision (chars text.now) }
 {
     match precision {
-        Some(most) => part(characters, 0, usize::from(most)),
-        None => characters,
+        Some(most) => part(text, 0, usize::from(most)),
+        None => text,
     }
 }
 
