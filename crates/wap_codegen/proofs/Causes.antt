@@ -26,12 +26,10 @@ use Rattle.wap_meaning.specs.compiled.Units.{compiled}
 use Rattle.wap_meaning.specs.compiled.Wide.{function_wide}
 use Rattle.wap_meaning.specs.compiled.Accepted.{IsSourceOf, IsAccepted, most_constants, most_code}
 use Rattle.wap_codegen.specs.declared.fault.CompileFault.{CompileFault}
-use Rattle.wap_codegen.specs.declared.fault.CompileFault.TheVariants.{Lex, Parse, Scope}
+use Rattle.wap_codegen.specs.declared.fault.CompileFault.TheVariants.{Lex, Parse, Scope, NoMemory}
 use Rattle.wap_codegen.specs.declared.fault.CompileFault.TheVariants.{TooManyConstants, CodeTooLong}
-use Rattle.wap_codegen.specs.declared.fault.CompileFault.TheVariants.{NoMemory}
 use Rattle.wap_codegen.specs.Turned.{parse_fault}
-use Rattle.wap_codegen.specs.Faults.{IsFirstLong}
-use Rattle.wap_codegen.specs.Faults.{IsCompileFault}
+use Rattle.wap_codegen.specs.Faults.{IsFirstLong, IsCompileFault}
 use Rattle.wap_codegen.specs.inside.Units.{IsUnitCause}
 
 -- ---- faults of the layers below
@@ -101,7 +99,8 @@ one_program src p q first second =
     one src (lexemes_of src first.tokens) p q (LEVEL_LIMIT, first.spells) (
       LEVEL_LIMIT,
       subst (λ (tokens : List Token). IsProgram src LEVEL_LIMIT (lexemes_of src tokens) q)
-          (same_tokens src second.tokens first.tokens second.are_tokens first.are_tokens) second.spells,
+          (same_tokens src second.tokens first.tokens second.are_tokens first.are_tokens)
+          second.spells,
     )
 
 -- no function is too long where none is

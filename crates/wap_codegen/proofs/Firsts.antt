@@ -1,15 +1,13 @@
 -- Why a program has no unit, and that it has room where it has one.
-use Rattle.std.proofs.Common.{◌≤◌, length, All}
-use Rattle.std.proofs.Common.{Result, Ok, Err, IfOk, IfErr}
+use Rattle.std.proofs.Common.{◌≤◌, length, All, Result, Ok, Err, IfOk, IfErr}
 use Rattle.wap_unit.specs.declared.unit.Unit.{Unit as CodeUnit}
 use Rattle.wap_grammar.specs.declared.program.program.Program.{Program}
 use Rattle.wap_meaning.specs.compiled.Pool.{pool}
 use Rattle.wap_meaning.specs.compiled.Wide.{function_wide}
 use Rattle.wap_meaning.specs.compiled.Accepted.{most_constants, most_code, HasRoom}
 use Rattle.wap_codegen.specs.declared.fault.CompileFault.{CompileFault}
-use Rattle.wap_codegen.specs.declared.fault.CompileFault.TheVariants.{Lex, Parse, Scope}
+use Rattle.wap_codegen.specs.declared.fault.CompileFault.TheVariants.{Lex, Parse, Scope, NoMemory}
 use Rattle.wap_codegen.specs.declared.fault.CompileFault.TheVariants.{TooManyConstants, CodeTooLong}
-use Rattle.wap_codegen.specs.declared.fault.CompileFault.TheVariants.{NoMemory}
 use Rattle.wap_codegen.specs.inside.Units.{IsFunctionsCause, IsUnitCause}
 
 -- why functions have no code is why there is no unit, where the constants have room

@@ -18,14 +18,12 @@ use Rattle.wap_meaning.specs.compiled.Pool.{pool}
 use Rattle.wap_meaning.specs.compiled.Units.{forms_of, compiled_function}
 use Rattle.wap_meaning.specs.compiled.Wide.{function_wide}
 use Rattle.wap_codegen.specs.declared.fault.CompileFault.{CompileFault}
-use Rattle.wap_codegen.specs.declared.fault.CompileFault.TheVariants.{Lex, Parse, Scope}
+use Rattle.wap_codegen.specs.declared.fault.CompileFault.TheVariants.{Lex, Parse, Scope, NoMemory}
 use Rattle.wap_codegen.specs.declared.fault.CompileFault.TheVariants.{TooManyConstants, CodeTooLong}
-use Rattle.wap_codegen.specs.declared.fault.CompileFault.TheVariants.{NoMemory}
 use Rattle.wap_meaning.specs.compiled.Savings.{saved, function_saves}
 use Rattle.wap_meaning.specs.compiled.Accepted.{most_code}
 use Rattle.wap_compiled_laws.specs.Laws.{HasForms}
-use Rattle.wap_codegen.specs.inside.Units.{AreNumbersOf}
-use Rattle.wap_codegen.specs.inside.Units.{IsFormsCause, IsFunctionCause}
+use Rattle.wap_codegen.specs.inside.Units.{AreNumbersOf, IsFormsCause, IsFunctionCause}
 
 -- numbers by their parts
 abbrev by_parts : List (List ℕ) → List (List ℕ) → List (List ℕ × List ℕ) → List Literal → Numbers

@@ -1,10 +1,8 @@
 -- The functions of a program: what they need is there, their code may be placed and has the wide
 -- size but for what is saved, and so the unit is one that the program is compiled to.
-use Rattle.std.proofs.Common.{◌≡◌, ℕ, zero, suc, inl, inr, ◌+◌, ◌*◌, ◌≤◌, ◌<◌, true, false, List}
-use Rattle.std.proofs.Common.{[], ◌∷◌, ◌++◌}
-use Rattle.std.proofs.Common.{length, Option, Some, None, IsSomeAnd, IsTrue, map, refl, sym, ap}
-use Rattle.std.proofs.Common.{◌∙◌}
-use Rattle.std.proofs.Common.{subst, arith, slice_get, length-append, append_assoc}
+use Rattle.std.proofs.Common.{◌≡◌, ℕ, suc, inl, inr, ◌+◌, ◌*◌, ◌≤◌, ◌<◌, ◌∷◌, map, sym, ap, ◌∙◌}
+use Rattle.std.proofs.Common.{zero, true, false, List, ◌++◌, Some, None, IsTrue, refl, subst, arith}
+use Rattle.std.proofs.Common.{[], length, Option, IsSomeAnd, slice_get, length-append, append_assoc}
 use Rattle.std.specs.List.{All, AllByRecursion, flat_map, sum_by}
 use Rattle.std.specs.Option.{option_map, option_map_or}
 use Rattle.std.proofs.lemmas.List.{append-nil}
@@ -35,8 +33,7 @@ use Rattle.wap_scope.proofs.AcceptedLemmas.Known.{all_can_be}
 use Rattle.wap_meaning.specs.coding.Constants.{is_in}
 use Rattle.wap_meaning.specs.coding.Compiled.{function_code, numbers_in, IsCodeOf, IsCompiled}
 use Rattle.wap_meaning.specs.coding.Needs.{Need, Constant, Operator, Variable, Local, Other}
-use Rattle.wap_meaning.specs.coding.Needs.{Library}
-use Rattle.wap_meaning.specs.coding.Needs.{AreMet, literals_of, stmt_needs}
+use Rattle.wap_meaning.specs.coding.Needs.{Library, AreMet, literals_of, stmt_needs}
 use Rattle.wap_compiled_laws.proofs.BodiesLemmas.Pooled.{IsPoolable, AllIn, all_in}
 use Rattle.wap_compiled_laws.proofs.Depths.Spots.{Layout, Ranged}
 use Rattle.wap_compiled_laws.proofs.Depths.Bodies.{layout_of, wired_at, body_told}

@@ -5,4 +5,3 @@ pub mod Table
 pub mod Stepping
 pub mod Reached
 pub mod Sound
-pub mod Enough

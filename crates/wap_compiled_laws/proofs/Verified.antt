@@ -1,6 +1,5 @@
 -- The unit of a program may be run.
-use Rattle.std.proofs.Common.{◌≡◌, ℕ, Option, Some, None, refl, sym, ◌∙◌, subst}
-use Rattle.std.proofs.Common.{slice_get}
+use Rattle.std.proofs.Common.{◌≡◌, ℕ, Option, Some, None, refl, sym, ◌∙◌, subst, slice_get}
 use Rattle.std.proofs.lemmas.Option.{same_Some}
 use Rattle.wap_unit.specs.declared.unit.Code.{Code}
 use Rattle.wap_grammar.specs.declared.program.program.Function.{Function}

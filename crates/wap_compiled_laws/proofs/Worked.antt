@@ -22,8 +22,7 @@ use Rattle.wap_asm.specs.Spelling.{shortest}
 use Rattle.wap_asm.specs.Placing.{placed, settled, sizes_after, grown, wide, wide_size}
 use Rattle.wap_unit.specs.Spelling.{spelling, body_spelling}
 use Rattle.wap_scope.specs.Names.{Reference, references, references_by, Mention, mentions}
-use Rattle.wap_scope.specs.Names.{mentions_by}
-use Rattle.wap_scope.specs.Names.{Refers, names_declared}
+use Rattle.wap_scope.specs.Names.{mentions_by, Refers, names_declared}
 use Rattle.wap_meaning.specs.Names.{locals, names_in}
 use Rattle.wap_unit.specs.declared.unit.Unit.{Unit}
 use Rattle.wap_meaning.specs.coding.Coded.{Coded, instr, empty, ◌⨾◌, plain}

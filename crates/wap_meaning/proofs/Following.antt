@@ -39,6 +39,11 @@ pub gave_both : {A S : Type 0} (P Q : A → List Value → ℕ → Type 0) (came
 gave_both P Q (gave a variables turns state) one two = (one, two)
 gave_both P Q (over ended) one two = tt
 
+-- anything may be given
+pub gave_any : {A S : Type 0} (came : Came A S) → Gave (λ a variables left. Unit {0}) came
+gave_any (gave a variables turns state) = tt
+gave_any (over ended) = tt
+
 -- as `from_done`, where what the part gives has a property
 pub from_done_where : {A B S : Type 0} (P : A → List Value → ℕ → Type 0) (came : Came A S)
     (next : A → Does B S)

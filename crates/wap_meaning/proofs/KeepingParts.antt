@@ -2,14 +2,17 @@
 use Rattle.std.proofs.Common.{ℕ, zero, suc, ◌≤◌, Bool, true, false, ltb, cond, List, length, Option}
 use Rattle.std.proofs.Common.{Some, None, Result, Ok, Err, refl, arith, slice_get, slice_set}
 use Rattle.std.proofs.Common.{length-set}
+use Rattle.std.specs.Prelude.{if◌then◌else◌}
 use Rattle.wap_value.specs.declared.value.Value.{Value}
+use Rattle.wap_value.specs.declared.value.Value.TheVariants.{Bool as Boolean, Invalid}
 use Rattle.wap_value.specs.declared.fault.ValueFault.{ValueFault}
 use Rattle.wap_value.specs.TooLong.{kept_within}
 use Rattle.wap_execution.specs.Effects.{Called}
 use Rattle.wap_execution.specs.Outcomes.{Outcome, value, exit, fatal, waits, stuck}
 use Rattle.wap_execution.specs.Running.{ended, Calls}
-use Rattle.wap_meaning.specs.SourceParts.{gave, over, give, given, load, store, kept, kept_by, turn}
-use Rattle.wap_meaning.specs.SourceParts.{calling, called_with, came_by}
+use Rattle.wap_meaning.specs.SourceParts.{Does, gave, over, give, given, load, store, kept, kept_by}
+use Rattle.wap_meaning.specs.SourceParts.{turn, calling, called_with, came_by}
+use Rattle.wap_meaning.specs.Expressions.{decides}
 use Rattle.wap_meaning.specs.Keeping.{GiveNoTurns, Lessens, Keeps}
 use Rattle.wap_meaning.proofs.Following.{keeps_both}
 
@@ -69,3 +72,18 @@ calling_keeps call falls callee arguments =
     let end = call callee arguments turns state in
     came_keeps end.outcome variables end.turns turns end.state
     (falls callee arguments turns state))
+
+-- one of two parts
+pub if_keeps : {A S : Type 0} (test : Bool) (one other : Does A S) → Keeps one → Keeps other
+    → Keeps (if test then one else other)
+if_keeps true one other ones others = ones
+if_keeps false one other ones others = others
+
+-- a short-circuit, by what its first operand is as Boolean
+pub decides_keeps : {S : Type 0} (by : Bool) (truth : Option Bool) (does : Does Value S)
+    → Keeps does → Keeps (decides by truth does)
+decides_keeps by None does falls = give_keeps Invalid
+decides_keeps true (Some true) does falls = give_keeps (Boolean true)
+decides_keeps true (Some false) does falls = falls
+decides_keeps false (Some true) does falls = falls
+decides_keeps false (Some false) does falls = give_keeps (Boolean false)

@@ -1,5 +1,6 @@
 pub mod Following
 pub mod KeepingParts
+pub mod Meanings
 pub mod Trees
 pub mod Variables
 mod Units

@@ -3,177 +3,86 @@ use Rattle.std.proofs.Common.{ℕ, zero, suc, ◌≤◌, Bool, true, false, List
 use Rattle.std.proofs.Common.{None, map, sym, subst, arith, eqb, cond, length, slice_get}
 use Rattle.std.specs.Prelude.{if◌then◌else◌}
 use Rattle.wap_value.specs.declared.value.Value.{Value}
-use Rattle.wap_value.specs.declared.value.Value.TheVariants.{Bool as Boolean, Str, Invalid}
-use Rattle.wap_value.specs.declared.operator.UnOp.TheVariants.{ToBool}
-use Rattle.wap_value.specs.declared.operator.BinOp.{BinOp}
-use Rattle.wap_value.specs.declared.operator.BinOp.TheVariants.{And, Or, Comma}
-use Rattle.wap_value.specs.Conversion.{boolean_of}
-use Rattle.wap_value.specs.Unary.{unary_of}
-use Rattle.wap_value.specs.Binary.{binary_of}
+use Rattle.wap_value.specs.declared.value.Value.TheVariants.{Bool as Boolean, Str}
 use Rattle.wap_grammar.specs.declared.program.program.Id.{Id}
 use Rattle.wap_grammar.specs.declared.program.program.Program.{Program}
 use Rattle.wap_grammar.specs.declared.program.program.Function.{Function as SourceFunction}
-use Rattle.wap_grammar.specs.declared.program.expression.Expr.{Expr, roll-Expr, map-Expr}
-use Rattle.wap_grammar.specs.declared.program.expression.Expr.TheOpen.{Expr-F}
-use Rattle.wap_grammar.specs.declared.program.expression.Expr.TheFolds.{fold-roll-Expr, ind-Expr}
+use Rattle.wap_grammar.specs.declared.program.expression.Expr.{Expr}
 use Rattle.wap_grammar.specs.declared.program.statement.Stmt.{Stmt, roll-Stmt, map-Stmt}
 use Rattle.wap_grammar.specs.declared.program.statement.Stmt.TheOpen.{Stmt-F}
 use Rattle.wap_grammar.specs.declared.program.statement.Stmt.TheFolds.{fold-roll-Stmt, ind-Stmt}
-use Rattle.wap_execution.specs.Effects.{Called, jumps_at}
+use Rattle.wap_execution.specs.Effects.{jumps_at}
 use Rattle.wap_execution.specs.Outcomes.{value, stuck}
 use Rattle.wap_execution.specs.Running.{ended, Calls}
-use Rattle.wap_meaning.specs.SourceParts.{Came, gave, over, Does, ◌>>=◌, done, give, load, store, kept}
-use Rattle.wap_meaning.specs.SourceParts.{turn, calling}
-use Rattle.wap_meaning.specs.Names.{variable_at, callee_local, callee_external, callee_library}
-use Rattle.wap_meaning.specs.Names.{names_in}
+use Rattle.wap_meaning.specs.SourceParts.{Came, gave, over, Does, ◌>>=◌, done, give, store, turn}
+use Rattle.wap_meaning.specs.Names.{variable_at, names_in}
 use Rattle.wap_meaning.specs.Functions.{first_values, function_runs, program_runs}
-use Rattle.wap_meaning.specs.Keeping.{KeepTurnsAndVariables}
-use Rattle.wap_meaning.specs.Expressions.{value_of, Around, decides, as_boolean, joined, chained}
-use Rattle.wap_meaning.specs.Expressions.{each_of, step_of, eval_by, eval}
+use Rattle.wap_meaning.specs.Keeping.{KeepTurnsAndVariables, GiveNoTurns, Lessens, Keeps}
+use Rattle.wap_meaning.specs.Expressions.{Around, eval}
 use Rattle.wap_meaning.specs.Statements.{Ending, goes_on, breaks, continues, returns, if_goes_on}
 use Rattle.wap_meaning.specs.Statements.{and_then, in_order, if_continues, looped, loop, test_of}
 use Rattle.wap_meaning.specs.Statements.{update_of, declared, run_by_part, run}
 use Rattle.wap_meaning.specs.Functions.{run_body, result_of}
-use Rattle.wap_meaning.specs.Keeping.{GiveNoTurns, Lessens, Keeps}
 use Rattle.wap_meaning.proofs.Following.{keeps_both}
-use Rattle.wap_meaning.proofs.KeepingParts.{calling_keeps, give_keeps, kept_keeps, load_keeps, store_keeps}
-use Rattle.wap_meaning.proofs.KeepingParts.{turn_keeps}
+use Rattle.wap_meaning.proofs.KeepingParts.{give_keeps, load_keeps, store_keeps, kept_keeps}
+use Rattle.wap_meaning.proofs.KeepingParts.{turn_keeps, calling_keeps, if_keeps}
+use Rattle.wap_meaning.proofs.Meanings.{of_expr}
+
+-- what follows a statement
+pub if_goes_on_keeps : {S : Type 0} (next : Does Ending S) → Keeps next → (ending : Ending)
+    → Keeps (if_goes_on next ending)
+if_goes_on_keeps next falls goes_on = falls
+if_goes_on_keeps next falls breaks = give_keeps breaks
+if_goes_on_keeps next falls continues = give_keeps continues
+if_goes_on_keeps next falls (returns v) = give_keeps (returns v)
+
+-- what follows the body of a loop
+continues_keeps : {S : Type 0} (next : Does Ending S) → Keeps next → (ending : Ending)
+    → Keeps (if_continues next ending)
+continues_keeps next falls goes_on = falls
+continues_keeps next falls breaks = give_keeps goes_on
+continues_keeps next falls continues = falls
+continues_keeps next falls (returns v) = give_keeps (returns v)
+
+-- a loop with so many turns
+looped_keeps : {S : Type 0} (test : Does Value S) (body : Does Ending S)
+    (update : Does (Unit {0}) S)
+    → Keeps test → Keeps body → Keeps update → (more : ℕ)
+    → Keeps (looped test body update more)
+looped_keeps test body update tests bodies updates zero = λ variables turns state. omega arith
+looped_keeps test body update tests bodies updates (suc more) =
+    let again = update >>= λ _. turn >>= λ _. looped test body update more in
+    keeps_both test (λ v. if jumps_at v then give goes_on else body >>= if_continues again) tests
+    (λ v. if_keeps (jumps_at v) (give goes_on) (body >>= if_continues again)
+    (give_keeps goes_on)
+    (keeps_both body (if_continues again) bodies
+    (continues_keeps again
+    (keeps_both update (λ _. turn >>= λ _. looped test body update more) updates
+    (λ _. keeps_both turn (λ _. looped test body update more) turn_keeps
+    (λ _. looped_keeps test body update tests bodies updates more))))))
+
+-- a loop
+pub loop_keeps : {S : Type 0} (test : Does Value S) (body : Does Ending S)
+    (update : Does (Unit {0}) S)
+    → Keeps test → Keeps body → Keeps update → Keeps (loop test body update)
+loop_keeps test body update tests bodies updates variables turns state =
+    looped_keeps test body update tests bodies updates (suc turns) variables turns state
 
 module _ {S : Type 0} (around : Around S) (falls : GiveNoTurns around.call) where
-  -- one of two parts
-  if_keeps : {A : Type 0} (test : Bool) (one other : Does A S) → Keeps one → Keeps other
-      → Keeps (if test then one else other)
-  if_keeps true one other ones others = ones
-  if_keeps false one other ones others = others
-
-  -- a short-circuit, by what its first operand is as Boolean
-  decides_keeps : (by : Bool) (truth : Option Bool) (does : Does Value S) → Keeps does
-      → Keeps (decides by truth does)
-  decides_keeps by None does falls = give_keeps Invalid
-  decides_keeps true (Some true) does falls = give_keeps (Boolean true)
-  decides_keeps true (Some false) does falls = falls
-  decides_keeps false (Some true) does falls = falls
-  decides_keeps false (Some false) does falls = give_keeps (Boolean false)
-
-  -- a short-circuit
-  short_keeps : (by : Bool) (truth : Option Bool) (right : Does Value S) → Keeps right
-      → Keeps (decides by truth (as_boolean right))
-  short_keeps by truth right falls =
-      decides_keeps by truth (as_boolean right)
-      (keeps_both right (λ v. give (unary_of ToBool v)) falls
-      (λ v. give_keeps (unary_of ToBool v)))
-
-  -- an operator and the operand on its right
-  joined_keeps : (binop : BinOp) (left : Value) (right : Does Value S) → Keeps right
-      → Keeps (joined around.string binop left right)
-  joined_keeps And left right falls = short_keeps false (boolean_of left) right falls
-  joined_keeps Or left right falls = short_keeps true (boolean_of left) right falls
-  joined_keeps Comma left right falls = falls
-  joined_keeps binop left right falls =
-      keeps_both right (λ v. kept around.string (binary_of binop left v)) falls
-      (λ v. kept_keeps around.string (binary_of binop left v))
-
-  -- a value that is stored and given
-  stored_keeps : (index : ℕ) (v given : Value)
-      → Keeps {A = Value} {S = S} (store index v >>= λ _. give given)
-  stored_keeps index v given =
-      keeps_both (store index v) (λ _. give given) (store_keeps index v) (λ _. give_keeps given)
-
-  -- an expression keeps them
-  abbrev Claim : Expr → Type 0
-  Claim e = Keeps (eval around e)
-
-  -- an expression that keeps them
-  abbrev Part : Type 0
-  Part = (e : Expr) × Claim e
-
-  -- operators of one precedence
-  chain_keeps : (first : Does Value S) → Keeps first → (pairs : List (BinOp × Part))
-      → Keeps (chained around.string first
-      (map (λ (pair : BinOp × Expr). (pair.0, eval around pair.1))
-      (map (λ (pair : BinOp × Part). (pair.0, pair.1.0)) pairs)))
-  chain_keeps first firsts [] = firsts
-  chain_keeps first firsts (pair ∷ pairs) =
-      chain_keeps (first >>= λ left. joined around.string pair.0 left (eval around pair.1.0))
-      (keeps_both first (λ left. joined around.string pair.0 left (eval around pair.1.0)) firsts
-      (λ left. joined_keeps pair.0 left (eval around pair.1.0) pair.1.1)) pairs
-
-  -- what expressions mean
-  abbrev evals : List Part → List (Does Value S)
-  evals es = map (eval around) (map (λ (e : Part). e.0) es)
-
-  -- arguments
-  each_keeps : (es : List Part) → Keeps (each_of (evals es))
-  each_keeps [] = give_keeps {A = List Value} []
-  each_keeps (e ∷ es) =
-      keeps_both (eval around e.0) (λ v. each_of (evals es) >>= λ vs. give (v ∷ vs)) e.1
-      (λ v. keeps_both (each_of (evals es)) (λ vs. give (v ∷ vs)) (each_keeps es)
-      (λ vs. give_keeps (v ∷ vs)))
-
-  -- a call and its arguments
-  call_keeps : (callee : Called) (es : List Part)
-      → Keeps (each_of (evals es) >>= λ vs. calling around.call callee vs)
-  call_keeps callee es =
-      keeps_both (each_of (evals es)) (λ vs. calling around.call callee vs) (each_keeps es)
-      (λ vs. calling_keeps around.call falls callee vs)
-
-  -- an expression, by its parts
-  layers : (y : Expr-F Part)
-      → Keeps (eval_by around (map-Expr Expr (Does Value S) (eval around)
-      (map-Expr Part Expr (λ e. e.0) y)))
-  layers (Expr-F.Lit l) = kept_keeps around.string (value_of l)
-  layers (Expr-F.Var v) = load_keeps (variable_at around.names v)
-  layers (Expr-F.Assign v None e) =
-      keeps_both (eval around e.0)
-      (λ given. store (variable_at around.names v) given >>= λ _. give given) e.1
-      (λ given. stored_keeps (variable_at around.names v) given given)
-  layers (Expr-F.Assign v (Some binop) e) =
-      let index = variable_at around.names v in
-      keeps_both (load index)
-      (λ old. eval around e.0 >>= λ given. kept around.string (binary_of binop old given) >>=
-      λ new. store index new >>= λ _. give new) (load_keeps index)
-      (λ old. keeps_both (eval around e.0)
-      (λ given. kept around.string (binary_of binop old given) >>=
-      λ new. store index new >>= λ _. give new) e.1
-      (λ given. keeps_both (kept around.string (binary_of binop old given))
-      (λ new. store index new >>= λ _. give new)
-      (kept_keeps around.string (binary_of binop old given))
-      (λ new. stored_keeps index new new)))
-  layers (Expr-F.Step v up prefix) =
-      let index = variable_at around.names v in
-      let unop = step_of up in
-      keeps_both (load index) (λ old. store index (unary_of unop old) >>= λ _.
-      give (if prefix then unary_of unop old else old)) (load_keeps index)
-      (λ old. stored_keeps index (unary_of unop old)
-      (if prefix then unary_of unop old else old))
-  layers (Expr-F.Unary unop e) =
-      keeps_both (eval around e.0) (λ v. give (unary_of unop v)) e.1
-      (λ v. give_keeps (unary_of unop v))
-  layers (Expr-F.Chain e pairs) = chain_keeps (eval around e.0) e.1 pairs
-  layers (Expr-F.Cond c first second) =
-      keeps_both (eval around c.0)
-      (λ v. if jumps_at v then eval around second.0 else eval around first.0) c.1
-      (λ v. if_keeps (jumps_at v) (eval around second.0) (eval around first.0) second.1 first.1)
-  layers (Expr-F.Call f es) = call_keeps (callee_local around.names f) es
-  layers (Expr-F.External unit f es) = call_keeps (callee_external around.names unit f) es
-  layers (Expr-F.Library l f es) = call_keeps (callee_library l f) es
-
   -- every expression
-  pub eval_keeps : (e : Expr) → Claim e
-  unfolding eval
-  eval_keeps = ind-Expr Claim (λ x y is. subst (λ x. Claim (roll-Expr x)) is
-      (subst Keeps (sym (fold-roll-Expr (Does Value S) (eval_by around)
-      (map-Expr Part Expr (λ e. e.0) y))) (layers y)))
+  pub eval_keeps : (e : Expr) → Keeps (eval around e)
+  eval_keeps e = of_expr around 0 (λ _. Unit {0}) (λ A does. Keeps does) (record {
+    left = λ one other free. tt;
+    right = λ one other free. tt;
+    gives = λ A a. give_keeps a;
+    follows = λ A B does next. keeps_both does next;
+    loads = load_keeps;
+    stores = λ index v may. store_keeps index v;
+    measures = λ v. kept_keeps around.string v;
+    calls = λ callee arguments. calling_keeps around.call falls callee arguments;
+  }) e tt
 
   -- ---- statements
-
-  -- what follows a statement
-  if_goes_on_keeps : (next : Does Ending S) → Keeps next → (ending : Ending)
-      → Keeps (if_goes_on next ending)
-  if_goes_on_keeps next falls goes_on = falls
-  if_goes_on_keeps next falls breaks = give_keeps breaks
-  if_goes_on_keeps next falls continues = give_keeps continues
-  if_goes_on_keeps next falls (returns v) = give_keeps (returns v)
 
   -- one statement, and the next
   then_keeps : (does next : Does Ending S) → Keeps does → Keeps next → Keeps (and_then does next)
@@ -214,36 +123,6 @@ module _ {S : Type 0} (around : Around S) (falls : GiveNoTurns around.call) wher
   variables_keep (pair ∷ pairs) =
       then_keeps (declared around pair) (in_order (map (declared around) pairs))
       (declared_keeps pair) (variables_keep pairs)
-
-  -- what follows the body of a loop
-  continues_keeps : (next : Does Ending S) → Keeps next → (ending : Ending)
-      → Keeps (if_continues next ending)
-  continues_keeps next falls goes_on = falls
-  continues_keeps next falls breaks = give_keeps goes_on
-  continues_keeps next falls continues = falls
-  continues_keeps next falls (returns v) = give_keeps (returns v)
-
-  -- a loop with so many turns
-  looped_keeps : (test : Does Value S) (body : Does Ending S) (update : Does (Unit {0}) S)
-      → Keeps test → Keeps body → Keeps update → (more : ℕ)
-      → Keeps (looped test body update more)
-  looped_keeps test body update tests bodies updates zero = λ variables turns state. omega arith
-  looped_keeps test body update tests bodies updates (suc more) =
-      let again = update >>= λ _. turn >>= λ _. looped test body update more in
-      keeps_both test (λ v. if jumps_at v then give goes_on else body >>= if_continues again) tests
-      (λ v. if_keeps (jumps_at v) (give goes_on) (body >>= if_continues again)
-      (give_keeps goes_on)
-      (keeps_both body (if_continues again) bodies
-      (continues_keeps again
-      (keeps_both update (λ _. turn >>= λ _. looped test body update more) updates
-      (λ _. keeps_both turn (λ _. looped test body update more) turn_keeps
-      (λ _. looped_keeps test body update tests bodies updates more))))))
-
-  -- a loop
-  pub loop_keeps : (test : Does Value S) (body : Does Ending S) (update : Does (Unit {0}) S)
-      → Keeps test → Keeps body → Keeps update → Keeps (loop test body update)
-  loop_keeps test body update tests bodies updates variables turns state =
-      looped_keeps test body update tests bodies updates (suc turns) variables turns state
 
   -- the condition of a `for`
   tests_keep : (c : Option Expr) → Keeps (test_of around c)

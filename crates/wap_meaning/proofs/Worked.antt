@@ -21,8 +21,7 @@ use Rattle.wap_grammar.specs.declared.program.statement.Stmt.{Stmt, roll-Stmt}
 use Rattle.wap_grammar.specs.declared.program.statement.Stmt.TheOpen.{Stmt-F}
 use Rattle.wap_grammar.specs.declared.program.statement.Stmt.TheFolds.{fold-roll-Stmt}
 use Rattle.wap_execution.specs.declared.fatal.Fatal.TheVariants.{Budget, TooLong}
-use Rattle.wap_execution.specs.Effects.{local, jumps_at}
-use Rattle.wap_execution.specs.Effects.{library, external}
+use Rattle.wap_execution.specs.Effects.{local, jumps_at, library, external}
 use Rattle.wap_execution.specs.Outcomes.{value, fatal}
 use Rattle.wap_execution.specs.Running.{ended}
 use Rattle.wap_grammar.specs.declared.program.program.Span.{Span}
@@ -32,8 +31,7 @@ use Rattle.wap_meaning.specs.SourceParts.{done}
 use Rattle.wap_meaning.specs.Names.{Names}
 use Rattle.wap_meaning.specs.Expressions.{Around, value_of, joined, assigned, stepped}
 use Rattle.wap_meaning.specs.Expressions.{step_of, each_of, eval_by, eval}
-use Rattle.wap_meaning.specs.Statements.{Ending, goes_on}
-use Rattle.wap_meaning.specs.Statements.{breaks, continues, returns, and_then}
+use Rattle.wap_meaning.specs.Statements.{Ending, goes_on, breaks, continues, returns, and_then}
 use Rattle.wap_meaning.specs.Statements.{in_order, dropped, loop, run_by_part, run}
 
 -- ---- what the sources are run in

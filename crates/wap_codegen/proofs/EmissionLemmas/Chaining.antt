@@ -16,8 +16,7 @@ use Rattle.wap_codegen.specs.declared.emission.operators.Joint.{Joint}
 use Rattle.wap_codegen.specs.declared.emission.operators.Joint.TheVariants as joint
 use Rattle.wap_codegen.specs.emission.inside.Adding.{Adds, Extends}
 use Rattle.wap_codegen.specs.emission.inside.Operands.{before_code, after_code, joint_code, Begins}
-use Rattle.wap_codegen.specs.emission.inside.Operands.{Ends}
-use Rattle.wap_codegen.specs.emission.inside.Operands.{coded, Leaves, LeavesOperands, Chains}
+use Rattle.wap_codegen.specs.emission.inside.Operands.{Ends, coded, Leaves, LeavesOperands, Chains}
 use Rattle.wap_codegen.proofs.EmissionLemmas.Extending.{adds_both, adds_empty, adds_jump}
 
 -- forms that are added behind the same forms

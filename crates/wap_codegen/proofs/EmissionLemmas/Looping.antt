@@ -2,9 +2,8 @@
 use Rattle.std.proofs.Common.{◌≡◌, ℕ, ◌+◌, ◌-◌, ◌<◌, ◌≤◌, List, [], ◌∷◌, ◌++◌, length, map, set}
 use Rattle.std.proofs.Common.{take, drop, Option, Some, None, refl, sym, ap, ap₂, ◌∙◌, subst, arith}
 use Rattle.std.proofs.Common.{append_assoc, true, get_or}
-use Rattle.std.proofs.lemmas.List.{length_push, length-append, length-map, map-append}
-use Rattle.std.proofs.lemmas.List.{drop_more, take_more, length-take-le, get_or_at, set_at}
-use Rattle.std.proofs.lemmas.List.{get_or_default}
+use Rattle.std.proofs.lemmas.List.{length_push, length-append, length-map, map-append, drop_more}
+use Rattle.std.proofs.lemmas.List.{take_more, length-take-le, get_or_at, set_at, get_or_default}
 use Rattle.wap_unit.specs.declared.row.OpName.TheVariants as op
 use Rattle.wap_asm.specs.declared.form.Form.{Form}
 use Rattle.wap_asm.specs.declared.form.Form.TheVariants.{Jump, Label}
@@ -19,8 +18,7 @@ use Rattle.wap_codegen.specs.emission.inside.Exits.{exits_in, redirected, Follow
 use Rattle.wap_codegen.specs.emission.inside.Adding.{Adds}
 use Rattle.wap_codegen.specs.emission.inside.Loops.{Tests, closed}
 use Rattle.wap_codegen.proofs.EmissionLemmas.Extending.{adds_both, adds_empty, adds_one, adds_assoc}
-use Rattle.wap_codegen.proofs.EmissionLemmas.Extending.{adds_jump}
-use Rattle.wap_codegen.proofs.EmissionLemmas.Extending.{stays}
+use Rattle.wap_codegen.proofs.EmissionLemmas.Extending.{adds_jump, stays}
 
 -- how many forms are added
 added : (coded : Coded) (exits : Exits) (old new : List Form) → Adds coded exits old new

@@ -6,22 +6,10 @@ use Rattle.wap_value.specs.declared.operator.BinOp.{BinOp}
 use Rattle.wap_value.specs.declared.operator.UnOp.{UnOp}
 use Rattle.wap_grammar.specs.declared.program.program.Id.{Id}
 use Rattle.wap_grammar.specs.declared.program.expression.Literal.{Literal}
-use Rattle.wap_grammar.specs.declared.program.expression.Expr.{Expr}
+use Rattle.wap_grammar.specs.declared.program.expression.Expr.{Expr, roll-Expr, map-Expr}
 use Rattle.wap_grammar.specs.declared.program.expression.Expr.TheOpen.{Expr-F}
 use Rattle.wap_grammar.specs.declared.program.expression.Expr.TheFolds.{fold-roll-Expr}
 use Rattle.wap_grammar.specs.declared.program.expression.Expr.TheVariants as expr
-use Rattle.wap_grammar.specs.declared.program.expression.Expr.TheVariants.{
-  rolls-Lit,
-  rolls-Var,
-  rolls-Assign,
-  rolls-Step,
-  rolls-Unary,
-  rolls-Chain,
-  rolls-Cond,
-  rolls-Call,
-  rolls-External,
-  rolls-Library,
-}
 use Rattle.wap_meaning.specs.Names.{Names, variable_at}
 use Rattle.wap_meaning.specs.coding.Statements.{writes, writes_by}
 
@@ -37,63 +25,47 @@ module _ (names : Names) (index : ℕ) where
   abbrev does : Expr → Bool
   does e = writes names e index
 
-  pub of_literal : (l : Literal) → does (expr.Lit l) ≡ false
+  -- whether an expression writes the variable, by its form
+  by_form : (x : Expr-F Expr) (e : Expr) → roll-Expr x ≡ e
+      → does e ≡ writes_by names (map-Expr Expr (ℕ → Bool) (writes names) x) index
   unfolding writes
-  of_literal l = ap does (sym (rolls-Lit l))
-      ∙ ap at (fold-roll-Expr (ℕ → Bool) (writes_by names) (Expr-F.Lit l))
+  by_form x e is = ap does (sym is) ∙ ap at (fold-roll-Expr (ℕ → Bool) (writes_by names) x)
+
+  pub of_literal : (l : Literal) → does (expr.Lit l) ≡ false
+  of_literal l = by_form _ _ (expr.rolls-Lit l)
 
   pub of_variable : (v : Id) → does (expr.Var v) ≡ false
-  unfolding writes
-  of_variable v = ap does (sym (rolls-Var v))
-      ∙ ap at (fold-roll-Expr (ℕ → Bool) (writes_by names) (Expr-F.Var v))
+  of_variable v = by_form _ _ (expr.rolls-Var v)
 
   pub of_assignment : (v : Id) (o : Option BinOp) (e : Expr) →
       does (expr.Assign v o e) ≡ (nat_eq (variable_at names v) index || does e)
-  unfolding writes
-  of_assignment v o e = ap does (sym (rolls-Assign v o e))
-      ∙ ap at (fold-roll-Expr (ℕ → Bool) (writes_by names) (Expr-F.Assign v o e))
+  of_assignment v o e = by_form _ _ (expr.rolls-Assign v o e)
 
   pub of_step : (v : Id) (up before : Bool) →
       does (expr.Step v up before) ≡ nat_eq (variable_at names v) index
-  unfolding writes
-  of_step v up before = ap does (sym (rolls-Step v up before))
-      ∙ ap at (fold-roll-Expr (ℕ → Bool) (writes_by names) (Expr-F.Step v up before))
+  of_step v up before = by_form _ _ (expr.rolls-Step v up before)
 
   pub of_unary : (o : UnOp) (e : Expr) → does (expr.Unary o e) ≡ does e
-  unfolding writes
-  of_unary o e = ap does (sym (rolls-Unary o e))
-      ∙ ap at (fold-roll-Expr (ℕ → Bool) (writes_by names) (Expr-F.Unary o e))
+  of_unary o e = by_form _ _ (expr.rolls-Unary o e)
 
   pub of_chain : (e : Expr) (operands : List (BinOp × Expr)) → does (expr.Chain e operands)
       ≡ (does e || list_any (λ operand. does operand.1) operands)
-  unfolding writes
-  of_chain e operands = ap does (sym (rolls-Chain e operands))
-      ∙ ap at (fold-roll-Expr (ℕ → Bool) (writes_by names) (Expr-F.Chain e operands))
+  of_chain e operands = by_form _ _ (expr.rolls-Chain e operands)
       ∙ ap (λ rest. does e || rest)
       (any_mapped (λ (operand : BinOp × Expr). (operand.0, writes names operand.1))
       (λ (operand : BinOp × (ℕ → Bool)). operand.1 index) operands)
 
   pub of_choice : (c first second : Expr) → does (expr.Cond c first second)
       ≡ (does c || (does first || does second))
-  unfolding writes
-  of_choice c first second = ap does (sym (rolls-Cond c first second))
-      ∙ ap at (fold-roll-Expr (ℕ → Bool) (writes_by names) (Expr-F.Cond c first second))
+  of_choice c first second = by_form _ _ (expr.rolls-Cond c first second)
 
   pub of_local : (f : Id) (es : List Expr) → does (expr.Call f es) ≡ list_any does es
-  unfolding writes
-  of_local f es = ap does (sym (rolls-Call f es))
-      ∙ ap at (fold-roll-Expr (ℕ → Bool) (writes_by names) (Expr-F.Call f es))
-      ∙ any_mapped (writes names) at es
+  of_local f es = by_form _ _ (expr.rolls-Call f es) ∙ any_mapped (writes names) at es
 
   pub of_external : (unit f : Id) (es : List Expr) →
       does (expr.External unit f es) ≡ list_any does es
-  unfolding writes
-  of_external unit f es = ap does (sym (rolls-External unit f es))
-      ∙ ap at (fold-roll-Expr (ℕ → Bool) (writes_by names) (Expr-F.External unit f es))
-      ∙ any_mapped (writes names) at es
+  of_external unit f es =
+      by_form _ _ (expr.rolls-External unit f es) ∙ any_mapped (writes names) at es
 
   pub of_library : (l f : Id) (es : List Expr) → does (expr.Library l f es) ≡ list_any does es
-  unfolding writes
-  of_library l f es = ap does (sym (rolls-Library l f es))
-      ∙ ap at (fold-roll-Expr (ℕ → Bool) (writes_by names) (Expr-F.Library l f es))
-      ∙ any_mapped (writes names) at es
+  of_library l f es = by_form _ _ (expr.rolls-Library l f es) ∙ any_mapped (writes names) at es

@@ -12,8 +12,7 @@ use Rattle.wap_grammar.specs.declared.program.expression.Literal.TheVariants as 
 use Rattle.wap_meaning.specs.Names.{Names, names_in, url_in, url_of}
 use Rattle.wap_meaning.specs.coding.Constants.{pooled}
 use Rattle.wap_meaning.specs.coding.Needs.{Need, Constant, Operator, Variable, Local, Other}
-use Rattle.wap_meaning.specs.coding.Needs.{Library}
-use Rattle.wap_meaning.specs.coding.Needs.{literals_of, stmt_needs}
+use Rattle.wap_meaning.specs.coding.Needs.{Library, literals_of, stmt_needs}
 use Rattle.wap_meaning.specs.compiled.Pool.{text_if, use_literals, function_literals}
 use Rattle.wap_meaning.specs.compiled.Pool.{literals_needed, pool}
 use Rattle.wap_codegen.specs.pool.Names.{names_of}

@@ -1,9 +1,7 @@
 -- Places of names and constants, as they are looked up.
-use Rattle.std.proofs.Common.{◌≡◌, ℕ, suc, ◌+◌, ◌≤◌, Bool, true, false, cond, not, ltb, List}
-use Rattle.std.proofs.Common.{[], ◌∷◌}
-use Rattle.std.proofs.Common.{length, map, Option, Some, None, refl, arith, unwrap_or, ap₂}
-use Rattle.std.proofs.Common.{◌||◌, ◌++◌}
-use Rattle.std.proofs.Common.{ltb-false}
+use Rattle.std.proofs.Common.{◌≡◌, ℕ, suc, ◌+◌, ◌≤◌, Bool, true, false, cond, not, ltb, List, []}
+use Rattle.std.proofs.Common.{◌∷◌, length, map, Option, Some, None, refl, arith, unwrap_or, ap₂}
+use Rattle.std.proofs.Common.{◌||◌, ◌++◌, ltb-false}
 use Rattle.std.specs.List.{position, position_or_len, list_any}
 use Rattle.std.proofs.lemmas.List.{map-append}
 use Rattle.indexmap.specs.IndexSet.{insert_key}

@@ -20,8 +20,7 @@ use Rattle.wap_grammar.specs.Programs.{IsProgram}
 use Rattle.wap_grammar.specs.reading.Statements.{statement_at}
 use Rattle.wap_grammar.specs.reading.Programs.{program_at}
 use Rattle.wap_grammar.proofs.Whole.{program_ok, program_again}
-use Rattle.wap_grammar.proofs.Below.{program_none, program_past, first_spelled}
-use Rattle.wap_grammar.proofs.Below.{program_unfailing}
+use Rattle.wap_grammar.proofs.Below.{program_none, program_past, first_spelled, program_unfailing}
 use Rattle.wap_grammar.specs.declared.program.program.Function.{Function}
 use Rattle.wap_grammar.specs.declared.program.program.Program.{Program}
 use Rattle.wap_scope.specs.declared.fault.ScopeFault.{ScopeFault}

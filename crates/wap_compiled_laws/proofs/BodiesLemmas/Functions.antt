@@ -34,22 +34,23 @@ use Rattle.wap_meaning.specs.coding.Compiled.{AgreeWithPrograms}
 use Rattle.wap_compiled_laws.proofs.Pieces.Standing.{at_end}
 use Rattle.wap_compiled_laws.proofs.Pieces.Pieces.{Holds, holds_all, Site, spot}
 use Rattle.wap_compiled_laws.proofs.Expressions.Expressions.{around, Met, met_front, met_back}
-use Rattle.wap_compiled_laws.proofs.Statements.Statements.{leaves, AllRun, all_run}
+use Rattle.wap_compiled_laws.proofs.Statements.Statements.{leaves, Runs, empty_runs, runs_both}
 use Rattle.wap_compiled_laws.proofs.Statements.Running.{runs}
 
 -- ---- statements and their forms
 
 module _ {S : Type 0} (site : Site S) (numbers : Numbers)
     (counted : site.count ≡ length numbers.names.variables) where
-  -- each statement and its code agree
+  -- statements and their code agree
   all_statements : (ss : List Stmt) → Met site numbers (flat_map stmt_needs ss)
-      → AllRun site (map (run (around site numbers)) ss) (map (stmt_code numbers) ss)
-  all_statements [] met = tt
-  all_statements (s ∷ ss) met = (
-    runs site numbers counted s
-        (met_front site numbers (stmt_needs s) (flat_map stmt_needs ss) met),
-    all_statements ss (met_back site numbers (stmt_needs s) (flat_map stmt_needs ss) met),
-  )
+      → Runs site (in_order (map (run (around site numbers)) ss))
+      (all_code (map (stmt_code numbers) ss))
+  all_statements [] met = empty_runs site
+  all_statements (s ∷ ss) met =
+      runs_both site (run (around site numbers) s) (in_order (map (run (around site numbers)) ss))
+      (stmt_code numbers s) (all_code (map (stmt_code numbers) ss))
+      (runs site numbers counted s (met_front site numbers (stmt_needs s) _ met))
+      (all_statements ss (met_back site numbers (stmt_needs s) _ met))
 
   -- where the site's forms are a body's code, it does what the body means
   body_runs : (ss : List Stmt) → Met site numbers (flat_map stmt_needs ss)
@@ -59,12 +60,11 @@ module _ {S : Type 0} (site : Site S) (numbers : Numbers)
       ≡ run_body (around site numbers) ss variables turns state
   body_runs ss met is variables fits turns state =
       let parts = map (run (around site numbers)) ss in
-      let codes = map (stmt_code numbers) ss in
-      let whole = all_code codes in
-      let all = all_run site parts codes (all_statements ss met) in
+      let whole = all_code (map (stmt_code numbers) ss) in
+      let all = all_statements ss met in
       let size : length site.forms ≡ whole.size = ap length is ∙ all.sized None 0 in
       let to_end : 0 + whole.size ≡ length site.forms = omega (arith, size) in
-      all.piece.follows None 0 tt
+      all.follows None 0 tt
       (subst (λ forms. Holds forms 0 (whole.forms None 0)) (sym is)
       (holds_all [] (whole.forms None 0)))
       variables fits [] turns state

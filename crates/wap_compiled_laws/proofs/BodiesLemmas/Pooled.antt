@@ -24,7 +24,7 @@ IsPoolable (literal.Str text) = Unit {0}
 IsPoolable _ = ⊥
 
 -- literals that are one constant are the same
-same_is : (l x : Literal) → same_literal l x ≡ true → l ≡ x
+pub same_is : (l x : Literal) → same_literal l x ≡ true → l ≡ x
 same_is (literal.Int a) (literal.Int b) same = ap literal.Int ((signed_Decides a b).0 same)
 same_is (literal.Str s) (literal.Str t) same = ap literal.Str ((bytes_decides s t).0 same)
 same_is _ _ same = absurd (cc same)
@@ -50,7 +50,7 @@ stands l (x ∷ pool) there = by (same_literal l x) refl there (stands l pool)
     by false same there further = further there
 
 -- what is in a pool is in a longer one
-in_more : (l : Literal) (pool more : List Literal) → is_in l pool ≡ true
+pub in_more : (l : Literal) (pool more : List Literal) → is_in l pool ≡ true
     → is_in l (pool ++ more) ≡ true
 in_more l [] more there = absurd (cc there)
 in_more l (x ∷ pool) more there = by (same_literal l x) there (in_more l pool more)

@@ -12,8 +12,7 @@ use Rattle.wap_meaning.specs.coding.Coded.{Coded, instr, ◌⨾◌, plain, with_
 use Rattle.wap_meaning.specs.coding.Constants.{Numbers}
 use Rattle.wap_meaning.specs.coding.Expressions.{expr_code, expr_code_by}
 use Rattle.wap_meaning.specs.coding.Statements.{stmt_code, stmt_code_by, effect_code, writes}
-use Rattle.wap_meaning.specs.coding.Statements.{writes_by}
-use Rattle.wap_meaning.specs.coding.Statements.{dropped_code}
+use Rattle.wap_meaning.specs.coding.Statements.{writes_by, dropped_code}
 use Rattle.wap_value.specs.declared.operator.BinOp.TheVariants as bin
 use Rattle.wap_unit.specs.declared.row.OpName.TheVariants as op
 use Rattle.wap_grammar.specs.declared.program.expression.Literal.TheVariants as literal

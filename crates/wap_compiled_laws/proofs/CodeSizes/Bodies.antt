@@ -30,8 +30,7 @@ use Rattle.wap_compiled_laws.proofs.CodeSizes.Pieces.{costs_exit, costs_either, 
 use Rattle.wap_compiled_laws.proofs.CodeSizes.Pieces.{costs_short, costs_loop}
 use Rattle.wap_compiled_laws.proofs.CodeSizes.Places.{Place, numbers, Given}
 use Rattle.wap_compiled_laws.proofs.CodeSizes.Saving.{stmt_cost}
-use Rattle.wap_compiled_laws.proofs.Induction.Pieces.{Facts, Property, HasFacts, OfPieces}
-use Rattle.wap_compiled_laws.proofs.Induction.Pieces.{names_is}
+use Rattle.wap_compiled_laws.proofs.Induction.Pieces.{Facts, Property, HasFacts, OfPieces, names_is}
 use Rattle.wap_compiled_laws.proofs.Induction.Statements.{of_body}
 
 -- an operation on a variable has room for one of few

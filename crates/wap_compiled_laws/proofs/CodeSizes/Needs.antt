@@ -15,9 +15,8 @@ use Rattle.wap_scope.specs.Names.{refers, refers_if, declares, mentions_by, ment
 use Rattle.wap_scope.specs.accepted.Known.{CanBeCoded}
 use Rattle.wap_meaning.specs.Names.{function_at, library_numbers, url_of}
 use Rattle.wap_meaning.specs.coding.Needs.{Need, Constant, Operator, Variable, Local, Other}
-use Rattle.wap_meaning.specs.coding.Needs.{Library, IsMet, AreMet, expr_needs}
-use Rattle.wap_meaning.specs.coding.Needs.{optional_needs, declared_needs, stmt_needs_by}
-use Rattle.wap_meaning.specs.coding.Needs.{stmt_needs}
+use Rattle.wap_meaning.specs.coding.Needs.{Library, IsMet, AreMet, expr_needs, optional_needs}
+use Rattle.wap_meaning.specs.coding.Needs.{declared_needs, stmt_needs_by, stmt_needs}
 use Rattle.wap_compiled_laws.proofs.BodiesLemmas.Pooled.{literal_at, text_at}
 use Rattle.wap_compiled_laws.proofs.CodeSizes.Each.{each_of}
 use Rattle.wap_compiled_laws.proofs.CodeSizes.Libraries.{row_of_names}

@@ -8,11 +8,10 @@ use Rattle.wap_meaning.specs.coding.Coded.{Exits, Coded, one, ◌⨾◌, instr, 
 use Rattle.wap_meaning.specs.coding.Coded.{jump_over, jump_before, within}
 use Rattle.wap_meaning.specs.coding.Expressions.{short_code}
 use Rattle.wap_meaning.specs.coding.Statements.{branch_code, exit_form, loop_code}
-use Rattle.wap_compiled_laws.proofs.Pieces.Jumps.{branches}
-use Rattle.wap_compiled_laws.proofs.CodeSizes.Costs.{Fits, cost, Allowed, Costs, costs_both}
-use Rattle.wap_compiled_laws.proofs.CodeSizes.Costs.{costs_same, costs_one, costs_op, costs_label}
-use Rattle.wap_compiled_laws.proofs.CodeSizes.Costs.{costs_over, costs_test, costs_before}
-use Rattle.wap_compiled_laws.proofs.CodeSizes.Costs.{costs_within}
+use Rattle.wap_compiled_laws.proofs.Pieces.Sizes.{branches}
+use Rattle.wap_compiled_laws.proofs.CodeSizes.Costs.{Fits, cost, Allowed, costs_one, costs_op}
+use Rattle.wap_compiled_laws.proofs.CodeSizes.Costs.{Costs, costs_label, costs_before, costs_within}
+use Rattle.wap_compiled_laws.proofs.CodeSizes.Costs.{costs_both, costs_same, costs_over, costs_test}
 
 -- `break` and `continue` jump in a loop
 pub costs_exit : (inside : Bool) (which : ℕ × ℕ → ℕ) → inside ≡ true

@@ -1,8 +1,7 @@
 -- The code of functions has one number of operands at each form, none where statements begin; its
 -- jumps know their labels, and its operands are in range where what it needs is there.
-use Rattle.std.proofs.Common.{◌≡◌, ℕ, zero, suc, ◌+◌, false, List, [], ◌∷◌, length}
-use Rattle.std.proofs.Common.{Option, Some, None, refl, sym, ap, subst, arith, map, unwrap_or}
-use Rattle.std.proofs.Common.{option_map, slice_get}
+use Rattle.std.proofs.Common.{◌≡◌, ℕ, zero, suc, ◌+◌, List, [], ◌∷◌, Some, None, refl, sym, ap, map}
+use Rattle.std.proofs.Common.{false, length, Option, subst, arith, unwrap_or, option_map, slice_get}
 use Rattle.std.specs.List.{flat_map}
 use Rattle.std.specs.Option.{option_map_or}
 use Rattle.std.proofs.lemmas.Option.{slice_get_within}

@@ -9,7 +9,7 @@ use Rattle.wap_meaning.specs.coding.Coded.{Coded, instr}
 use Rattle.wap_meaning.specs.coding.Expressions.{short_code}
 use Rattle.wap_meaning.specs.coding.Statements.{branch_code}
 use Rattle.wap_compiled_laws.proofs.Pieces.Pieces.{front, behind}
-use Rattle.wap_compiled_laws.proofs.Pieces.Jumps.{branches}
+use Rattle.wap_compiled_laws.proofs.Pieces.Sizes.{branches}
 use Rattle.wap_compiled_laws.proofs.Pieces.Sizes.{sized_branches, sized_branch, sized_short}
 use Rattle.wap_compiled_laws.proofs.Labels.Wired.{IsOperation}
 use Rattle.wap_compiled_laws.proofs.Depths.Flow.{short, flow_of}

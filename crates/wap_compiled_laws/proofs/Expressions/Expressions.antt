@@ -21,33 +21,34 @@ use Rattle.wap_grammar.specs.declared.program.expression.Expr.{Expr, roll-Expr, 
 use Rattle.wap_grammar.specs.declared.program.expression.Expr.TheOpen.{Expr-F}
 use Rattle.wap_grammar.specs.declared.program.expression.Expr.TheFolds.{fold-roll-Expr, ind-Expr}
 use Rattle.wap_execution.specs.Frames.{constant_at}
-use Rattle.wap_execution.specs.Effects.{onward, effect_of}
+use Rattle.wap_execution.specs.Effects.{onward, effect_of, Called}
 use Rattle.wap_meaning.specs.SourceParts.{Does, ◌>>=◌, give, kept, kept_by, calling}
 use Rattle.wap_meaning.specs.Names.{variable_at, function_at, numbers_of, callee_local}
 use Rattle.wap_meaning.specs.Names.{callee_external, callee_library, url_of}
-use Rattle.wap_meaning.specs.Expressions.{value_of, Around, eval_by, eval}
+use Rattle.wap_meaning.specs.Expressions.{value_of, Around, eval_by, eval, joined, chained, each_of}
 use Rattle.wap_asm.specs.declared.form.Form.TheVariants.{Op}
 use Rattle.wap_meaning.specs.coding.Coded.{Coded, one, ◌⨾◌, instr, plain, with_operand}
 use Rattle.wap_meaning.specs.coding.Constants.{Numbers, number_of, text_number, url_number}
 use Rattle.wap_meaning.specs.coding.Expressions.{literal_code, unary_code, expr_code_by, expr_code}
 use Rattle.wap_meaning.specs.coding.Needs.{Need, literal_needs, expr_needs_by, expr_needs, AreMet}
-use Rattle.wap_meaning.proofs.Following.{keeps_both}
-use Rattle.wap_compiled_laws.proofs.Pieces.Pieces.{Sized, sized_both, Site, onto, Piece, both}
-use Rattle.wap_compiled_laws.proofs.Pieces.Pieces.{op_piece}
-use Rattle.wap_compiled_laws.proofs.Pieces.Instructions.{as_is, pushed, kept_settles, unary_piece}
-use Rattle.wap_compiled_laws.proofs.Pieces.Instructions.{binary_piece}
-use Rattle.wap_compiled_laws.proofs.Pieces.Assignments.{piece_same, local_piece, library_piece}
-use Rattle.wap_compiled_laws.proofs.Pieces.Assignments.{external_piece, popped}
-use Rattle.wap_compiled_laws.proofs.Expressions.Agreeing.{Agrees, AllAgree, PairsAgree}
-use Rattle.wap_compiled_laws.proofs.Expressions.Agreeing.{assign_agrees, call_agrees}
-use Rattle.wap_compiled_laws.proofs.Expressions.Agreeing.{chain_agrees, change_agrees, cond_agrees}
-use Rattle.wap_compiled_laws.proofs.Expressions.Agreeing.{load_agrees}
-use Rattle.wap_compiled_laws.proofs.Expressions.Agreeing.{step_agrees}
-use Rattle.wap_meaning.proofs.KeepingParts.{give_keeps, kept_keeps}
+use Rattle.wap_compiled_laws.proofs.Pieces.Pieces.{Site, onto, Piece, both, op_piece}
+use Rattle.wap_compiled_laws.proofs.Pieces.Instructions.{as_is, pushed, kept_settles, load_piece}
+use Rattle.wap_compiled_laws.proofs.Pieces.Instructions.{unary_piece, binary_piece}
+use Rattle.wap_compiled_laws.proofs.Pieces.Assignments.{piece_same, assigned_piece, changed_piece}
+use Rattle.wap_compiled_laws.proofs.Pieces.Assignments.{local_piece, library_piece, external_piece}
+use Rattle.wap_compiled_laws.proofs.Pieces.Assignments.{popped, above, as_other}
+use Rattle.wap_compiled_laws.proofs.Expressions.Agreeing.{Agrees, cond_agrees, step_agrees}
+use Rattle.wap_compiled_laws.proofs.Expressions.Agreeing.{agrees_joined, all_given, turned}
+use Rattle.wap_meaning.proofs.KeepingParts.{give_keeps, kept_keeps, calling_keeps}
 use Rattle.wap_value.specs.declared.operator.UnOp.TheVariants as un
 use Rattle.wap_value.specs.declared.operator.BinOp.TheVariants as bin
 use Rattle.wap_unit.specs.declared.row.OpName.TheVariants as op
 use Rattle.wap_grammar.specs.declared.program.expression.Literal.TheVariants as literal
+use Rattle.std.proofs.lemmas.List.{length-map}
+use Rattle.wap_asm.specs.declared.form.Form.{Form}
+use Rattle.wap_meaning.specs.coding.Coded.{Exits, all_code}
+use Rattle.wap_meaning.specs.coding.Expressions.{joined_code, chain_code}
+use Rattle.wap_compiled_laws.proofs.Pieces.Pieces.{empty_piece, in_turn}
 
 module _ {S : Type 0} (site : Site S) (numbers : Numbers) where
   -- what parts depend on at a site
@@ -70,26 +71,18 @@ module _ {S : Type 0} (site : Site S) (numbers : Numbers) where
 
   -- ---- literals
 
-  -- LOAD_CONST gives the constant
-  constant_piece : (index : ℕ) (v : Value) → constant_at site.function.unit index ≡ Some v
-      → Piece site (kept site.string v) (with_operand op.LoadConst index) as_is (onto site pushed)
+  -- a literal that is a constant
+  constant_agrees : (index : ℕ) (v : Value) → constant_at site.function.unit index ≡ Some v
+      → Agrees site (kept site.string v) (with_operand op.LoadConst index)
   unfolding effect_of
-  constant_piece index v is =
+  constant_agrees index v is =
       op_piece site (kept site.string v) op.LoadConst index 0 0 as_is (onto site pushed)
+      (kept_keeps site.string v)
       (λ exits place i other variables operands turns state.
       rw is (kept_settles site (kept_within site.string v)
       (λ v. onward (site.pos i) variables (v ∷ operands)) variables turns state
       (λ v variables turns state. onto site pushed exits i operands v variables turns state)
       (λ v. refl)))
-
-  -- a literal that is a constant
-  constant_agrees : (index : ℕ) (v : Value) → constant_at site.function.unit index ≡ Some v
-      → Agrees site (kept site.string v) (with_operand op.LoadConst index)
-  constant_agrees index v is = record {
-    sized = λ exits i. refl;
-    falls = kept_keeps site.string v;
-    piece = constant_piece index v is;
-  }
 
   -- the empty text is never too long
   empty_kept : kept_within site.string (Str []) ≡ Ok (Str [])
@@ -102,38 +95,24 @@ module _ {S : Type 0} (site : Site S) (numbers : Numbers) where
   unfolding effect_of
   literal_agrees (literal.Int number) met =
       constant_agrees (number_of numbers (literal.Int number)) (Int number) met.0
-  literal_agrees literal.Float met = record {
-    sized = λ exits i. refl;
-    falls = give_keeps Invalid;
-    piece = op_piece site (give Invalid) op.ConstInvalid 0 0 0 as_is (onto site pushed)
-        (λ exits place i other variables operands turns state. refl);
-  }
-  literal_agrees (literal.Str []) met = record {
-    sized = λ exits i. refl;
-    falls = kept_keeps site.string (Str []);
-    piece = op_piece site (kept site.string (Str [])) op.ConstEs 0 0 0 as_is (onto site pushed)
-        (λ exits place i other variables operands turns state. rw empty_kept refl);
-  }
+  literal_agrees literal.Float met =
+      op_piece site (give Invalid) op.ConstInvalid 0 0 0 as_is (onto site pushed)
+      (give_keeps Invalid) (λ exits place i other variables operands turns state. refl)
+  literal_agrees (literal.Str []) met =
+      op_piece site (kept site.string (Str [])) op.ConstEs 0 0 0 as_is (onto site pushed)
+      (kept_keeps site.string (Str []))
+      (λ exits place i other variables operands turns state. rw empty_kept refl)
   literal_agrees (literal.Str (c ∷ cs)) met =
       constant_agrees (number_of numbers (literal.Str (c ∷ cs))) (Str (c ∷ cs)) met.0
-  literal_agrees (literal.Bool true) met = record {
-    sized = λ exits i. refl;
-    falls = give_keeps (Boolean true);
-    piece = op_piece site (give (Boolean true)) op.ConstTrue 0 0 0 as_is (onto site pushed)
-        (λ exits place i other variables operands turns state. refl);
-  }
-  literal_agrees (literal.Bool false) met = record {
-    sized = λ exits i. refl;
-    falls = give_keeps (Boolean false);
-    piece = op_piece site (give (Boolean false)) op.ConstFalse 0 0 0 as_is (onto site pushed)
-        (λ exits place i other variables operands turns state. refl);
-  }
-  literal_agrees literal.Invalid met = record {
-    sized = λ exits i. refl;
-    falls = give_keeps Invalid;
-    piece = op_piece site (give Invalid) op.ConstInvalid 0 0 0 as_is (onto site pushed)
-        (λ exits place i other variables operands turns state. refl);
-  }
+  literal_agrees (literal.Bool true) met =
+      op_piece site (give (Boolean true)) op.ConstTrue 0 0 0 as_is (onto site pushed)
+      (give_keeps (Boolean true)) (λ exits place i other variables operands turns state. refl)
+  literal_agrees (literal.Bool false) met =
+      op_piece site (give (Boolean false)) op.ConstFalse 0 0 0 as_is (onto site pushed)
+      (give_keeps (Boolean false)) (λ exits place i other variables operands turns state. refl)
+  literal_agrees literal.Invalid met =
+      op_piece site (give Invalid) op.ConstInvalid 0 0 0 as_is (onto site pushed)
+      (give_keeps Invalid) (λ exits place i other variables operands turns state. refl)
 
   -- ---- operators of one operand
 
@@ -171,9 +150,9 @@ module _ {S : Type 0} (site : Site S) (numbers : Numbers) where
       kept_by k variables turns state) (plus_is (integer_of v)))
       (both site (give (Int (pos 0))) (λ z. kept site.string (binary_of bin.Sub v z))
       (plain op.Const0) (plain op.Sub) (pushed v) (λ z operands. z ∷ v ∷ operands)
-      (onto site pushed) (λ exits i. refl) (give_keeps (Int (pos 0)))
+      (onto site pushed) Invalid
       (op_piece site (give (Int (pos 0))) op.Const0 0 0 0 (pushed v)
-      (onto site (λ z operands. z ∷ v ∷ operands))
+      (onto site (λ z operands. z ∷ v ∷ operands)) (give_keeps (Int (pos 0)))
       (λ exits place i other variables operands turns state. refl))
       (λ z. binary_piece site op.Sub bin.Sub v z refl))
 
@@ -190,28 +169,12 @@ module _ {S : Type 0} (site : Site S) (numbers : Numbers) where
   unary_code_piece un.Incr v = unary_piece site op.Incr un.Incr v refl
   unary_code_piece un.Decr v = unary_piece site op.Decr un.Decr v refl
 
-  -- its forms
-  unary_sized : (unop : UnOp) → Sized (unary_code unop)
-  unary_sized un.Plus exits i = refl
-  unary_sized un.Minus exits i = refl
-  unary_sized un.BitNot exits i = refl
-  unary_sized un.Not exits i = refl
-  unary_sized un.TypeOf exits i = refl
-  unary_sized un.IsValid exits i = refl
-  unary_sized un.ToBool exits i = refl
-  unary_sized un.Incr exits i = refl
-  unary_sized un.Decr exits i = refl
-
   -- an operator and its operand
   unary_agrees : (unop : UnOp) (does : Does Value S) (coded : Coded) → Agrees site does coded
       → Agrees site (does >>= λ v. give (unary_of unop v)) (coded ⨾ unary_code unop)
-  unary_agrees unop does coded agrees = record {
-    sized = sized_both coded (unary_code unop) agrees.sized (unary_sized unop);
-    falls = keeps_both does (λ v. give (unary_of unop v)) agrees.falls
-        (λ v. give_keeps (unary_of unop v));
-    piece = both site does (λ v. give (unary_of unop v)) coded (unary_code unop) as_is pushed
-        (onto site pushed) agrees.sized agrees.falls agrees.piece (unary_code_piece unop);
-  }
+  unary_agrees unop does coded agrees =
+      both site does (λ v. give (unary_of unop v)) coded (unary_code unop) as_is pushed
+      (onto site pushed) Invalid agrees (unary_code_piece unop)
 
   -- ---- expressions
 
@@ -242,78 +205,95 @@ module _ {S : Type 0} (site : Site S) (numbers : Numbers) where
       (layer (subst Met (fold-roll-Expr (List Need) expr_needs_by x) met)))
 
   -- the operands of a chain
-  pairs_agree : (pairs : List (BinOp × Part))
+  abbrev operands_of : List (BinOp × Part) → List (BinOp × Expr)
+  operands_of pairs = map (λ (pair : BinOp × Part). (pair.0, pair.1.0)) pairs
+
+  -- operators of one precedence
+  chain_agrees : (first : Does Value S) (one : Coded) → Agrees site first one
+      → (pairs : List (BinOp × Part))
       → Met (flat_map (λ (pair : BinOp × List Need). pair.1)
-      (map (λ (pair : BinOp × Expr). (pair.0, expr_needs pair.1))
-      (map (λ (pair : BinOp × Part). (pair.0, pair.1.0)) pairs)))
-      → PairsAgree site
-      (map (λ (pair : BinOp × Expr). (pair.0, eval around pair.1))
-      (map (λ (pair : BinOp × Part). (pair.0, pair.1.0)) pairs))
-      (map (λ (pair : BinOp × Expr). (pair.0, expr_code numbers pair.1))
-      (map (λ (pair : BinOp × Part). (pair.0, pair.1.0)) pairs))
-  pairs_agree [] met = tt
-  pairs_agree (pair ∷ pairs) met = (
-    refl,
-    pair.1.1 (met_front (expr_needs pair.1.0) _ met),
-    pairs_agree pairs (met_back (expr_needs pair.1.0) _ met),
-  )
+      (map (λ (pair : BinOp × Expr). (pair.0, expr_needs pair.1)) (operands_of pairs)))
+      → Agrees site (chained site.string first
+      (map (λ (pair : BinOp × Expr). (pair.0, eval around pair.1)) (operands_of pairs)))
+      (chain_code one
+      (map (λ (pair : BinOp × Expr). (pair.0, expr_code numbers pair.1)) (operands_of pairs)))
+  chain_agrees first one agrees [] met = agrees
+  chain_agrees first one agrees (pair ∷ pairs) met =
+      let e = pair.1.0 in
+      chain_agrees (first >>= λ left. joined site.string pair.0 left (eval around e))
+      (one ⨾ joined_code pair.0 (expr_code numbers e))
+      (agrees_joined site pair.0 first one (eval around e) (expr_code numbers e) agrees
+      (pair.1.1 (met_front (expr_needs e) _ met))) pairs (met_back (expr_needs e) _ met)
 
   -- arguments
-  all_agree : (es : List Part)
-      → Met (flat_map (λ (needs : List Need). needs)
-      (map expr_needs (map (λ (e : Part). e.0) es)))
-      → AllAgree site (map (eval around) (map (λ (e : Part). e.0) es))
-      (map (expr_code numbers) (map (λ (e : Part). e.0) es))
-  all_agree [] met = tt
-  all_agree (e ∷ es) met =
-      (e.1 (met_front (expr_needs e.0) _ met), all_agree es (met_back (expr_needs e.0) _ met))
+  abbrev trees : List Part → List Expr
+  trees es = map (λ (e : Part). e.0) es
 
   -- what arguments mean
   abbrev evals : List Part → List (Does Value S)
-  evals es = map (eval around) (map (λ (e : Part). e.0) es)
+  evals es = map (eval around) (trees es)
 
   -- their codes
   abbrev codes : List Part → List Coded
-  codes es = map (expr_code numbers) (map (λ (e : Part). e.0) es)
+  codes es = map (expr_code numbers) (trees es)
+
+  -- arguments are pushed from left to right
+  all_piece : (es : List Part)
+      → Met (flat_map (λ (needs : List Need). needs) (map expr_needs (trees es)))
+      → Piece site (each_of (evals es)) (all_code (codes es)) as_is (onto site popped)
+  all_piece [] met =
+      empty_piece site [] (onto site popped) (λ exits i operands variables turns state. refl)
+  all_piece (e ∷ es) met =
+      both site (eval around e.0) (λ v. each_of (evals es) >>= λ vs. give (v ∷ vs))
+      (expr_code numbers e.0) (all_code (codes es)) as_is pushed (onto site popped) Invalid
+      (e.1 (met_front (expr_needs e.0) _ met))
+      (λ v. as_other site (each_of (evals es)) (λ vs. v ∷ vs) (all_code (codes es)) (pushed v)
+      (λ vs operands. popped vs (v ∷ operands)) popped (turned site v)
+      (above site (each_of (evals es)) (all_code (codes es)) popped (pushed v)
+      (all_piece es (met_back (expr_needs e.0) _ met))))
+
+  -- a call, behind its arguments
+  call_agrees : (callee : Called) (es : List Part) (form : Exits → ℕ → Form)
+      → Met (flat_map (λ (needs : List Need). needs) (map expr_needs (trees es)))
+      → ((vs : List Value) → length vs ≡ length (evals es)
+      → Piece site (calling site.call callee vs) (one form) (popped vs) (onto site pushed))
+      → Agrees site (each_of (evals es) >>= λ vs. calling site.call callee vs)
+      (all_code (codes es) ⨾ one form)
+  call_agrees callee es form met calls =
+      in_turn site (λ vs. length vs ≡ length (evals es)) (each_of (evals es))
+      (λ vs. calling site.call callee vs) (all_code (codes es)) (one form) as_is
+      (onto site popped) (onto site pushed) (all_piece es met) (all_given site (evals es))
+      (λ exits i. refl) (λ vs. calling_keeps site.call site.falls callee vs)
+      (λ vs many. (calls vs many).follows)
 
   -- there are as many codes as meanings
   as_many_codes : (es : List Part) → length (evals es) ≡ length (codes es)
-  as_many_codes [] = refl
-  as_many_codes (e ∷ es) = ap suc (as_many_codes es)
-
-  -- and as many lists of needs
-  as_many_needs : (es : List Part)
-      → length (map expr_needs (map (λ (e : Part). e.0) es)) ≡ length (evals es)
-  as_many_needs [] = refl
-  as_many_needs (e ∷ es) = ap suc (as_many_needs es)
+  as_many_codes es =
+      length-map (trees es) (eval around) ∙ sym (length-map (trees es) (expr_code numbers))
 
   -- as many values are given as arguments stand
   as_many : (es : List Part) (vs : List Value) → length vs ≡ length (evals es)
-      → length (map expr_needs (map (λ (e : Part). e.0) es)) ≡ length vs
-  as_many es vs many = as_many_needs es ∙ sym many
+      → length (map expr_needs (trees es)) ≡ length vs
+  as_many es vs many =
+      length-map (trees es) expr_needs ∙ sym (many ∙ length-map (trees es) (eval around))
 
   -- every construct
   layers : (y : Expr-F Part) → Layer (map-Expr Part Expr (λ e. e.0) y)
   layers (Expr-F.Lit l) met = literal_agrees l met
-  layers (Expr-F.Var v) met = load_agrees site (variable_at numbers.names v)
+  layers (Expr-F.Var v) met = load_piece site (variable_at numbers.names v)
   layers (Expr-F.Assign v None e) met =
-      assign_agrees site (variable_at numbers.names v) (eval around e.0) (expr_code numbers e.0)
+      assigned_piece site (variable_at numbers.names v) (eval around e.0) (expr_code numbers e.0)
       (e.1 met.1)
   layers (Expr-F.Assign v (Some binop) e) met =
-      change_agrees site (variable_at numbers.names v) binop (eval around e.0)
+      changed_piece site (variable_at numbers.names v) binop (eval around e.0)
       (expr_code numbers e.0) met.1.0 (e.1 met.1.1)
   layers (Expr-F.Step v up prefix) met =
       step_agrees site (variable_at numbers.names v) up prefix
   layers (Expr-F.Unary unop e) met =
       unary_agrees unop (eval around e.0) (expr_code numbers e.0) (e.1 met)
   layers (Expr-F.Chain e pairs) met =
-      chain_agrees site (eval around e.0) (expr_code numbers e.0)
-      (map (λ (pair : BinOp × Expr). (pair.0, eval around pair.1))
-      (map (λ (pair : BinOp × Part). (pair.0, pair.1.0)) pairs))
-      (map (λ (pair : BinOp × Expr). (pair.0, expr_code numbers pair.1))
-      (map (λ (pair : BinOp × Part). (pair.0, pair.1.0)) pairs))
-      (e.1 (met_front (expr_needs e.0) _ met))
-      (pairs_agree pairs (met_back (expr_needs e.0) _ met))
+      chain_agrees (eval around e.0) (expr_code numbers e.0)
+      (e.1 (met_front (expr_needs e.0) _ met)) pairs (met_back (expr_needs e.0) _ met)
   layers (Expr-F.Cond c first second) met =
       let rest = met_back (expr_needs c.0) (expr_needs first.0 ++ expr_needs second.0) met in
       cond_agrees site (eval around c.0) (eval around first.0) (eval around second.0)
@@ -322,14 +302,14 @@ module _ {S : Type 0} (site : Site S) (numbers : Numbers) where
       (first.1 (met_front (expr_needs first.0) (expr_needs second.0) rest))
       (second.1 (met_back (expr_needs first.0) (expr_needs second.0) rest))
   layers (Expr-F.Call f es) met =
-      call_agrees site (callee_local numbers.names f) (evals es) (codes es)
-      (λ exits at. Op (instr op.Call (function_at numbers.names f) 0 0)) (all_agree es met.1)
+      call_agrees (callee_local numbers.names f) es
+      (λ exits at. Op (instr op.Call (function_at numbers.names f) 0 0)) met.1
       (λ vs many. local_piece site (function_at numbers.names f) vs
       (met.0 ∙ ap Some (as_many es vs many)))
   layers (Expr-F.External unit f es) met =
-      call_agrees site (callee_external numbers.names unit f) (evals es) (codes es)
+      call_agrees (callee_external numbers.names unit f) es
       (λ exits at. Op (instr op.CallUrl (url_number numbers unit) (text_number numbers f.name)
-      (length (codes es)))) (all_agree es met.1)
+      (length (codes es)))) met.1
       (λ vs many. subst (λ (n : ℕ).
       Piece site (calling site.call (callee_external numbers.names unit f) vs)
       (one (λ exits at. Op (instr op.CallUrl (url_number numbers unit)
@@ -339,9 +319,8 @@ module _ {S : Type 0} (site : Site S) (numbers : Numbers) where
       (external_piece site (url_number numbers unit) (text_number numbers f.name)
       (url_of unit.name numbers.names.urls) f.name vs met.0.0 met.0.1))
   layers (Expr-F.Library l f es) met =
-      call_agrees site (callee_library l f) (evals es) (codes es)
-      (λ exits at. Op (instr op.CallLib (numbers_of l f).1 (numbers_of l f).0 0))
-      (all_agree es met.1)
+      call_agrees (callee_library l f) es
+      (λ exits at. Op (instr op.CallLib (numbers_of l f).1 (numbers_of l f).0 0)) met.1
       (λ vs many. library_piece site (numbers_of l f).0 (numbers_of l f).1 vs
       (met.0 ∙ ap Some (as_many es vs many)))
 

@@ -20,7 +20,7 @@ use Rattle.wap_meaning.specs.coding.Expressions.{unary_code, binary_name, joined
 use Rattle.wap_meaning.specs.coding.Expressions.{load_code, store_code, change_name}
 use Rattle.wap_meaning.specs.coding.Expressions.{expr_code_by, expr_code}
 use Rattle.wap_meaning.specs.compiled.Wide.{unary_wide, binary_wide, expr_wide_by, expr_wide}
-use Rattle.wap_compiled_laws.proofs.Pieces.Jumps.{branches}
+use Rattle.wap_compiled_laws.proofs.Pieces.Sizes.{branches}
 use Rattle.wap_compiled_laws.proofs.Induction.Pieces.{higher, Setting}
 use Rattle.wap_compiled_laws.proofs.Induction.Known.{Known, front, behind, Named, KnownOf, KnownBy}
 use Rattle.wap_compiled_laws.proofs.Induction.Known.{unrolled}

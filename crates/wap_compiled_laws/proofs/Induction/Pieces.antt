@@ -22,7 +22,7 @@ use Rattle.wap_meaning.specs.coding.Coded.{jump_over}
 use Rattle.wap_meaning.specs.coding.Constants.{Numbers}
 use Rattle.wap_meaning.specs.coding.Expressions.{short_code}
 use Rattle.wap_meaning.specs.coding.Statements.{branch_code, exit_form, loop_code}
-use Rattle.wap_compiled_laws.proofs.Pieces.Jumps.{branches}
+use Rattle.wap_compiled_laws.proofs.Pieces.Sizes.{branches}
 use Rattle.wap_compiled_laws.proofs.Depths.Flow.{Flow, goes, leaves, short, flow_of}
 use Rattle.wap_compiled_laws.proofs.Labels.Wired.{is_jump, IsOperation}
 use Rattle.wap_compiled_laws.proofs.Labels.Ranges.{kind_of}

@@ -18,7 +18,7 @@ use Rattle.wap_meaning.specs.coding.Statements.{stmt_code_by, stmt_code}
 use Rattle.wap_meaning.specs.coding.Needs.{Need, AreMet, expr_needs, optional_needs, stmt_needs_by}
 use Rattle.wap_meaning.specs.coding.Needs.{stmt_needs}
 use Rattle.wap_meaning.specs.compiled.Wide.{expr_wide, loop_wide}
-use Rattle.wap_compiled_laws.proofs.Pieces.Jumps.{branches}
+use Rattle.wap_compiled_laws.proofs.Pieces.Sizes.{branches}
 use Rattle.wap_compiled_laws.proofs.CodeSizes.Saving.{effect_cost_if, stmt_cost_by, stmt_cost}
 use Rattle.wap_compiled_laws.proofs.Induction.Pieces.{Setting}
 use Rattle.wap_compiled_laws.proofs.Induction.Known.{front, behind}

@@ -2,16 +2,17 @@
 use Rattle.std.proofs.Common.{◌≡◌, ℕ, ◌+◌, Bool, true, false, ltb, leb, cond, List, ◌∷◌, ◌++◌}
 use Rattle.std.proofs.Common.{length, reverse, take, drop, Option, Some, None, refl, sym, ap, ◌∙◌}
 use Rattle.std.proofs.Common.{arith, slice_get, slice_set, option_map, length-append, length-set}
-use Rattle.std.proofs.Common.{get_or-set_same}
+use Rattle.std.proofs.Common.{get_or-set_same, subst}
 use Rattle.std.proofs.lemmas.Bool.{ltb-true, le-leb}
 use Rattle.std.proofs.lemmas.Option.{slice_get-get_or}
 use Rattle.std.proofs.lemmas.List.{reverse-reverse, length-reverse}
 use Rattle.std.proofs.Math.Seq.{take-append_seam, drop-append_seam}
 use Rattle.wap_value.specs.declared.value.Value.{Value}
+use Rattle.wap_value.specs.declared.value.Value.TheVariants.{Invalid}
 use Rattle.wap_value.specs.declared.operator.UnOp.{UnOp}
 use Rattle.wap_value.specs.declared.operator.BinOp.{BinOp}
 use Rattle.wap_value.specs.Unary.{unary_of}
-use Rattle.wap_value.specs.Binary.{binary_of}
+use Rattle.wap_value.specs.Binary.{binary_of, TakesBoth}
 use Rattle.wap_unit.specs.declared.unit.Code.{Code}
 use Rattle.wap_unit.specs.declared.row.OpName.{OpName}
 use Rattle.wap_unit.specs.Libraries.{lib_args}
@@ -22,23 +23,21 @@ use Rattle.wap_execution.specs.Effects.{local, library, external, Effect, calls,
 use Rattle.wap_execution.specs.Effects.{stored, effect_of, stuck as nowhere}
 use Rattle.wap_execution.specs.Outcomes.{stuck}
 use Rattle.wap_execution.specs.Running.{ended}
-use Rattle.wap_meaning.specs.SourceParts.{Came, gave, over, Does, from, ◌>>=◌, done, give, given, load}
-use Rattle.wap_meaning.specs.SourceParts.{store, kept, calling}
+use Rattle.wap_meaning.specs.SourceParts.{Came, gave, over, Does, from, ◌>>=◌, done, give, given}
+use Rattle.wap_meaning.specs.SourceParts.{load, store, kept, calling}
 use Rattle.wap_meaning.specs.Expressions.{assigned, stepped}
-use Rattle.wap_asm.specs.declared.form.Form.{Form}
 use Rattle.wap_asm.specs.declared.form.Form.TheVariants.{Op}
-use Rattle.wap_meaning.specs.coding.Coded.{Exits, Coded, one, ◌⨾◌, instr, plain, with_operand}
-use Rattle.wap_meaning.specs.coding.Expressions.{load_code, store_code, assigned_code}
-use Rattle.wap_meaning.proofs.KeepingParts.{load_keeps, store_keeps, kept_keeps}
+use Rattle.wap_meaning.specs.coding.Coded.{Coded, one, ◌⨾◌, instr, plain, with_operand}
+use Rattle.wap_meaning.specs.coding.Expressions.{load_code, store_code, assigned_code, binary_name}
+use Rattle.wap_meaning.proofs.KeepingParts.{give_keeps, load_keeps, store_keeps, calling_keeps}
 use Rattle.wap_meaning.proofs.Following.{from_done, keeps_both}
-use Rattle.wap_meaning.specs.Keeping.{Keeps}
-use Rattle.wap_compiled_laws.proofs.Pieces.Pieces.{Sized, Site, spot, After, onto, Piece, both}
-use Rattle.wap_compiled_laws.proofs.Pieces.Pieces.{op_piece}
+use Rattle.wap_meaning.specs.Keeping.{Lessens, Keeps}
+use Rattle.wap_compiled_laws.proofs.Pieces.Pieces.{Site, spot, After, onto, Piece, both, op_piece}
 use Rattle.wap_compiled_laws.proofs.Pieces.Instructions.{as_is, pushed, nothing, load_piece}
-use Rattle.wap_compiled_laws.proofs.Pieces.Instructions.{store_piece}
-use Rattle.wap_compiled_laws.proofs.Pieces.Instructions.{value_settles, stored_settles}
+use Rattle.wap_compiled_laws.proofs.Pieces.Instructions.{store_piece, value_settles, stored_settles}
 use Rattle.wap_compiled_laws.proofs.Pieces.Instructions.{binary_piece}
 use Rattle.wap_unit.specs.declared.row.OpName.TheVariants as op
+use Rattle.wap_value.specs.declared.operator.BinOp.TheVariants as bin
 
 -- the arguments of a call, the last of them on top
 abbrev pub popped : List Value → List Value → List Value
@@ -83,6 +82,13 @@ pub from_from : {A B C S : Type 0} (came : Came A S) (some : A → Does B S) (ot
 from_from (gave a variables turns state) some other = refl
 from_from (over end) some other = refl
 
+-- an operator that takes both operands has an operation that does the same
+acts_as : (binop : BinOp) → TakesBoth binop → action_of (binary_name binop) ≡ Binary binop
+acts_as bin.And takes = absurd takes
+acts_as bin.Or takes = absurd takes
+acts_as bin.Comma takes = absurd takes
+acts_as binop takes = refl
+
 module _ {S : Type 0} (site : Site S) where
   -- another part that comes to the same
   pub piece_same : {A : Type 0} (does other : Does A S) (coded : Coded)
@@ -91,6 +97,10 @@ module _ {S : Type 0} (site : Site S) where
       → does variables turns state ≡ other variables turns state)
       → Piece site does coded pop after → Piece site other coded pop after
   piece_same does other coded pop after same piece = record {
+    sized = piece.sized;
+    falls = λ variables turns state.
+        subst (λ (came : Came _ S). Lessens variables turns came) (same variables turns state)
+        (piece.falls variables turns state);
     follows = λ exits i reach holds variables fits operands turns state.
         piece.follows exits i reach holds variables fits operands turns state
         ∙ ap (λ (came : Came _ S). done came (after exits (i + coded.size) operands))
@@ -102,6 +112,8 @@ module _ {S : Type 0} (site : Site S) where
       (below : List Value → List Value) → Piece site does coded as_is (onto site push)
       → Piece site does coded below (onto site (λ a operands. push a (below operands)))
   above does coded push below piece = record {
+    sized = piece.sized;
+    falls = piece.falls;
     follows = λ exits i reach holds variables fits operands turns state.
         piece.follows exits i reach holds variables fits (below operands) turns state;
   }
@@ -114,6 +126,8 @@ module _ {S : Type 0} (site : Site S) where
       → Piece site does coded pop (onto site push)
       → Piece site (does >>= λ a. give (f a)) coded pop (onto site push')
   as_other does f coded pop push push' same piece = record {
+    sized = piece.sized;
+    falls = keeps_both does (λ a. give (f a)) piece.falls (λ a. give_keeps (f a));
     follows = λ exits i reach holds variables fits operands turns state.
         piece.follows exits i reach holds variables fits operands turns state
         ∙ from_done (does variables turns state) (λ a. give (f a))
@@ -123,10 +137,6 @@ module _ {S : Type 0} (site : Site S) where
         (same a operands));
   }
 
-  -- one form has one form
-  pub sized_one : (form : Exits → ℕ → Form) → Sized (one form)
-  sized_one form exits i = refl
-
   -- a value is stored and left
   pub stored_piece : (index : ℕ) (v : Value)
       → Piece site (store index v >>= λ _. give v) (store_code index ⨾ load_code index) (pushed v)
@@ -135,50 +145,47 @@ module _ {S : Type 0} (site : Site S) where
       piece_same (store index v >>= λ _. load index) (store index v >>= λ _. give v)
       (store_code index ⨾ load_code index) (pushed v) (onto site pushed) (loaded index v)
       (both site (store index v) (λ _. load index) (store_code index) (load_code index) (pushed v)
-      nothing (onto site pushed)
-      (sized_one (λ exits at. Op (instr op.StoreVar index 0 0))) (store_keeps index v)
-      (store_piece site index v)
-      (λ _. load_piece site index))
+      nothing (onto site pushed) tt (store_piece site index v) (λ _. load_piece site index))
 
   -- an assignment
-  pub assigned_piece : (index : ℕ) (right : Does Value S) (second : Coded) → Sized second
-      → Keeps right
+  pub assigned_piece : (index : ℕ) (right : Does Value S) (second : Coded)
       → Piece site right second as_is (onto site pushed)
       → Piece site (assigned site.string index None right) (assigned_code index None second) as_is
       (onto site pushed)
-  assigned_piece index right second sized falls piece =
+  assigned_piece index right second piece =
       both site right (λ v. store index v >>= λ _. give v) second
-      (store_code index ⨾ load_code index) as_is pushed (onto site pushed) sized falls
-      piece
+      (store_code index ⨾ load_code index) as_is pushed (onto site pushed) Invalid piece
       (stored_piece index)
 
   -- an assignment with an operator
-  pub changed_piece : (index : ℕ) (binop : BinOp) (name : OpName) (right : Does Value S)
-      (second : Coded) → action_of name ≡ Binary binop → Sized second → Keeps right
-      → Piece site right second as_is (onto site pushed)
+  pub changed_piece : (index : ℕ) (binop : BinOp) (right : Does Value S) (second : Coded)
+      → TakesBoth binop → Piece site right second as_is (onto site pushed)
       → Piece site (assigned site.string index (Some binop) right)
-      (load_code index ⨾ second ⨾ plain name ⨾ store_code index ⨾ load_code index) as_is
-      (onto site pushed)
-  changed_piece index binop name right second acts sized falls piece =
-      both site (load index)
-      (λ old. right >>= λ v. kept site.string (binary_of binop old v) >>= λ new.
-      store index new >>= λ _. give new)
-      (load_code index) (second ⨾ plain name ⨾ store_code index ⨾ load_code index) as_is pushed
-      (onto site pushed) (sized_one (λ exits at. Op (instr op.LoadVar index 0 0)))
-      (load_keeps index) (load_piece site index)
-      (λ old. both site right
-      (λ v. kept site.string (binary_of binop old v) >>= λ new. store index new >>= λ _. give new)
-      second (plain name ⨾ store_code index ⨾ load_code index) (pushed old)
-      (λ v operands. v ∷ old ∷ operands) (onto site pushed) sized falls
+      (assigned_code index (Some binop) second) as_is (onto site pushed)
+  changed_piece index binop right second takes piece =
+      let name = binary_name binop in
+      let last : Value → Does Value S = λ new. store index new >>= λ _. give new in
+      let later : Value → Value → Does Value S = λ old v.
+      kept site.string (binary_of binop old v) >>= last in
+      let kept_code = store_code index ⨾ load_code index in
+      both site (load index) (λ old. right >>= later old) (load_code index)
+      (second ⨾ plain name ⨾ kept_code) as_is pushed (onto site pushed) Invalid
+      (load_piece site index)
+      (λ old. both site right (later old) second (plain name ⨾ kept_code) (pushed old)
+      (λ v operands. v ∷ old ∷ operands) (onto site pushed) Invalid
       (above right second pushed (pushed old) piece)
-      (λ v. both site (kept site.string (binary_of binop old v))
-      (λ new. store index new >>= λ _. give new) (plain name)
-      (store_code index ⨾ load_code index) (λ operands. v ∷ old ∷ operands) pushed
-      (onto site pushed) (sized_one (λ exits at. Op (instr name 0 0 0)))
-      (kept_keeps site.string (binary_of binop old v)) (binary_piece site name binop old v acts)
-      (stored_piece index)))
+      (λ v. both site (kept site.string (binary_of binop old v)) last (plain name) kept_code
+      (λ operands. v ∷ old ∷ operands) pushed (onto site pushed) Invalid
+      (binary_piece site name binop old v (acts_as binop takes)) (stored_piece index)))
 
   -- ---- steps
+
+  -- a step keeps turns and variables
+  change_keeps : (index : ℕ) (unop : UnOp)
+      → Keeps {S = S} (load index >>= λ old. store index (unary_of unop old))
+  change_keeps index unop =
+      keeps_both (load index) (λ old. store index (unary_of unop old)) (load_keeps index)
+      (λ old. store_keeps index (unary_of unop old))
 
   -- a step of a variable
   pub change_piece : (index : ℕ) (name : OpName) (unop : UnOp)
@@ -188,7 +195,7 @@ module _ {S : Type 0} (site : Site S) where
   unfolding effect_of
   change_piece index name unop acts =
       op_piece site (load index >>= λ old. store index (unary_of unop old)) name index 0 0 as_is
-      (onto site nothing)
+      (onto site nothing) (change_keeps index unop)
       (λ exits place i other variables operands turns state.
       rw acts (value_settles site (slice_get variables index)
       (λ old. stored index variables (unary_of unop old) operands (site.pos i)) variables turns
@@ -202,13 +209,6 @@ module _ {S : Type 0} (site : Site S) where
       state) (λ _ variables turns state. spot site i variables operands turns state))
       (λ _ variables turns state. spot site i variables operands turns state)
       (λ old vs left later. refl)))
-
-  -- a step keeps turns and variables
-  change_keeps : (index : ℕ) (unop : UnOp)
-      → Keeps {S = S} (load index >>= λ old. store index (unary_of unop old))
-  change_keeps index unop =
-      keeps_both (load index) (λ old. store index (unary_of unop old)) (load_keeps index)
-      (λ old. store_keeps index (unary_of unop old))
 
   -- a step whose new value is given
   pub prefix_piece : (index : ℕ) (name : OpName) (unop : UnOp)
@@ -227,10 +227,8 @@ module _ {S : Type 0} (site : Site S) where
       (λ old. store index (unary_of unop old) >>= λ _. give (unary_of unop old))
       (λ old vs left later. loaded index (unary_of unop old) vs left later))
       (both site (load index >>= λ old. store index (unary_of unop old)) (λ _. load index)
-      (with_operand name index) (load_code index) as_is nothing (onto site pushed)
-      (sized_one (λ exits at. Op (instr name index 0 0))) (change_keeps index unop)
-      (change_piece index name unop acts)
-      (λ _. load_piece site index))
+      (with_operand name index) (load_code index) as_is nothing (onto site pushed) tt
+      (change_piece index name unop acts) (λ _. load_piece site index))
 
   -- a variable that was read before its step has its old value
   postfix_same : (index : ℕ) (unop : UnOp) (variables : List Value) (turns : ℕ) (state : S)
@@ -258,8 +256,7 @@ module _ {S : Type 0} (site : Site S) where
       postfix_same index unop variables turns state (slice_get variables index) refl)
       (both site (load index)
       (λ old. (load index >>= λ x. store index (unary_of unop x)) >>= λ _. give old)
-      (load_code index) (with_operand name index) as_is pushed (onto site pushed)
-      (sized_one (λ exits at. Op (instr op.LoadVar index 0 0))) (load_keeps index)
+      (load_code index) (with_operand name index) as_is pushed (onto site pushed) Invalid
       (load_piece site index)
       (λ old. as_other (load index >>= λ x. store index (unary_of unop x)) (λ _. old)
       (with_operand name index) (pushed old) (λ _ operands. old ∷ operands) pushed
@@ -298,7 +295,7 @@ module _ {S : Type 0} (site : Site S) where
   unfolding effect_of
   local_piece index vs is =
       op_piece site (calling site.call (local index) vs) op.Call index 0 0 (popped vs)
-      (onto site pushed)
+      (onto site pushed) (calling_keeps site.call site.falls (local index) vs)
       (λ exits place i other variables operands turns state.
       rw (
         is,
@@ -314,7 +311,7 @@ module _ {S : Type 0} (site : Site S) where
   unfolding effect_of
   library_piece number index vs is =
       op_piece site (calling site.call (library number index) vs) op.CallLib index number 0
-      (popped vs) (onto site pushed)
+      (popped vs) (onto site pushed) (calling_keeps site.call site.falls (library number index) vs)
       (λ exits place i other variables operands turns state.
       rw (
         is,
@@ -330,7 +327,7 @@ module _ {S : Type 0} (site : Site S) where
   unfolding effect_of
   external_piece a b url name vs one_is two_is =
       op_piece site (calling site.call (external url name) vs) op.CallUrl a b (length vs)
-      (popped vs) (onto site pushed)
+      (popped vs) (onto site pushed) (calling_keeps site.call site.falls (external url name) vs)
       (λ exits place i other variables operands turns state.
       rw (
         one_is,

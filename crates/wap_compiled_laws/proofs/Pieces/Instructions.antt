@@ -15,8 +15,10 @@ use Rattle.wap_execution.specs.Effects.{Effect, onward, with_value, with_kept, s
 use Rattle.wap_execution.specs.Effects.{stuck as nowhere}
 use Rattle.wap_execution.specs.Outcomes.{stuck, Ended}
 use Rattle.wap_execution.specs.Running.{ended}
-use Rattle.wap_meaning.specs.SourceParts.{gave, over, Does, done, give, given, load, store, kept_by, kept}
+use Rattle.wap_meaning.specs.SourceParts.{gave, over, Does, done, give, given, load, store, kept_by}
+use Rattle.wap_meaning.specs.SourceParts.{kept}
 use Rattle.wap_meaning.specs.coding.Coded.{Coded, plain, with_operand}
+use Rattle.wap_meaning.proofs.KeepingParts.{give_keeps, load_keeps, store_keeps, kept_keeps}
 use Rattle.wap_compiled_laws.proofs.Pieces.Standing.{at}
 use Rattle.wap_compiled_laws.proofs.Pieces.Pieces.{Site, settle, onto, Piece, op_piece}
 use Rattle.wap_unit.specs.declared.row.OpName.TheVariants as op
@@ -92,7 +94,7 @@ module _ {S : Type 0} (site : Site S) where
   unfolding effect_of
   load_piece index =
       op_piece site (load index) op.LoadVar index 0 0 as_is
-      (onto site pushed)
+      (onto site pushed) (load_keeps index)
       (λ exits place i other variables operands turns state.
       value_settles (slice_get variables index)
       (λ v. onward (site.pos i) variables (v ∷ operands)) variables turns state
@@ -105,7 +107,7 @@ module _ {S : Type 0} (site : Site S) where
   unfolding effect_of
   store_piece index v =
       op_piece site (store index v) op.StoreVar index 0 0
-      (pushed v) (onto site nothing)
+      (pushed v) (onto site nothing) (store_keeps index v)
       (λ exits place i other variables operands turns state.
       stored_settles index v variables operands (site.pos i) turns state)
 
@@ -119,7 +121,7 @@ module _ {S : Type 0} (site : Site S) where
       op_piece site
       (kept site.string (binary_of binop left right)) name 0 0 0
       (λ operands. right ∷ left ∷ operands)
-      (onto site pushed)
+      (onto site pushed) (kept_keeps site.string (binary_of binop left right))
       (λ exits place i other variables operands turns state.
       rw is (kept_settles (kept_within site.string (binary_of binop left right))
       (λ v. onward (site.pos i) variables (v ∷ operands)) variables turns state
@@ -132,7 +134,7 @@ module _ {S : Type 0} (site : Site S) where
   unfolding effect_of
   unary_piece name unop v is =
       op_piece site (give (unary_of unop v)) name 0 0 0
-      (pushed v) (onto site pushed)
+      (pushed v) (onto site pushed) (give_keeps (unary_of unop v))
       (λ exits place i other variables operands turns state. rw is refl)
 
   -- POP drops what was given
@@ -140,5 +142,5 @@ module _ {S : Type 0} (site : Site S) where
   unfolding effect_of
   pop_piece v =
       op_piece site (give v) op.Pop 0 0 0 (pushed v)
-      (onto site nothing)
+      (onto site nothing) (give_keeps v)
       (λ exits place i other variables operands turns state. refl)

@@ -11,20 +11,15 @@ use Rattle.wap_meaning.specs.SourceParts.{Does, done, turn}
 use Rattle.wap_asm.specs.declared.form.Form.TheVariants.{Jump, Label}
 use Rattle.wap_asm.specs.Placed.{JumpsOn}
 use Rattle.wap_asm.specs.Spellings.{operation_of}
-use Rattle.wap_meaning.specs.coding.Coded.{Exits, Coded, one, ◌⨾◌, label, jump_over}
+use Rattle.wap_meaning.specs.coding.Coded.{Exits, Coded, one}
 use Rattle.wap_compiled_laws.proofs.Pieces.Standing.{at}
 use Rattle.wap_meaning.proofs.Following.{done_same}
-use Rattle.wap_compiled_laws.proofs.Pieces.Pieces.{front, behind, Sized, Site, spot, settle, After}
-use Rattle.wap_compiled_laws.proofs.Pieces.Pieces.{onto, Piece}
-use Rattle.wap_compiled_laws.proofs.Pieces.Pieces.{stands_here, nearer}
+use Rattle.wap_meaning.proofs.KeepingParts.{if_keeps}
+use Rattle.wap_compiled_laws.proofs.Pieces.Pieces.{front, behind, Site, spot, settle, After, onto}
+use Rattle.wap_compiled_laws.proofs.Pieces.Pieces.{Piece, stands_here, nearer}
+use Rattle.wap_compiled_laws.proofs.Pieces.Sizes.{branches, sized_branches}
 use Rattle.wap_compiled_laws.proofs.Pieces.Instructions.{as_is, pushed}
 use Rattle.wap_unit.specs.declared.row.OpName.TheVariants as op
-
--- the code after a condition: a jump to what is done where it doesn't hold
-abbrev pub branches : Coded → Coded → Coded
-branches first second =
-    jump_over op.TjumpFw (first.size + 1) ⨾ first ⨾ jump_over op.JumpFw (1 + second.size) ⨾
-    label ⨾ second ⨾ label
 
 module _ {S : Type 0} (site : Site S) where
   -- a label stands at its index
@@ -127,17 +122,19 @@ module _ {S : Type 0} (site : Site S) where
 
   -- two branches do what the chosen part does
   pub branches_piece : {A : Type 0} (v : Value) (does other : Does A S) (first second : Coded)
-      (after : After site A) → Sized first → Sized second → Shifts after
+      (after : After site A) → Shifts after
       → Piece site does first as_is after → Piece site other second as_is after
       → Piece site (if jumps_at v then other else does) (branches first second) (pushed v) after
-  branches_piece v does other first second after one two shifts p q = record {
+  branches_piece v does other first second after shifts p q = record {
+    sized = sized_branches first second p.sized q.sized;
+    falls = if_keeps (jumps_at v) other does q.falls p.falls;
     follows = λ exits i reach holds variables fits operands turns state.
         let after_first = behind site.forms (i + 1) first.size (first.forms exits (i + 1)) _
-        holds.1 (one exits (i + 1)) in
+        holds.1 (p.sized exits (i + 1)) in
         let end : ℕ = i + 1 + first.size + 1 + 1 + second.size in
         let after_second = behind site.forms (i + 1 + first.size + 1 + 1) second.size
         (second.forms exits (i + 1 + first.size + 1 + 1)) _ after_first.1.1
-        (two exits (i + 1 + first.size + 1 + 1)) in
+        (q.sized exits (i + 1 + first.size + 1 + 1)) in
         let whole : end + 1 ≡ i + (branches first second).size = omega arith in
         let to_second : i + 1 + first.size + 1 ≡ i + 1 + (first.size + 1) = omega arith in
         let to_end : end ≡ i + 1 + first.size + 1 + (1 + second.size) = omega arith in

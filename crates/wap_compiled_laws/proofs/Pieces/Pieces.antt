@@ -18,14 +18,16 @@ use Rattle.wap_execution.specs.Frames.{Function, Frame, code_of}
 use Rattle.wap_execution.specs.Effects.{Effect, effect_read, effect_with, effect_by, effect_at}
 use Rattle.wap_execution.specs.Outcomes.{Ended}
 use Rattle.wap_execution.specs.Running.{Onward, at_place, Calls}
-use Rattle.wap_meaning.specs.SourceParts.{Does, ◌>>=◌, done}
+use Rattle.wap_meaning.specs.SourceParts.{Does, ◌>>=◌, give, done}
 use Rattle.wap_asm.specs.declared.form.Form.{Form}
 use Rattle.wap_asm.specs.declared.form.Form.TheVariants.{Op, Label}
 use Rattle.wap_asm.specs.Placed.{Stands, IsPlaced}
-use Rattle.wap_meaning.specs.coding.Coded.{Exits, Coded, one, ◌⨾◌, instr}
+use Rattle.wap_meaning.specs.coding.Coded.{Exits, Coded, empty, one, ◌⨾◌, instr}
 use Rattle.wap_meaning.specs.Keeping.{GiveNoTurns, Keeps}
 use Rattle.wap_compiled_laws.proofs.Pieces.Standing.{at, settled, at_here}
-use Rattle.wap_meaning.proofs.Following.{from_done_where, Gave, gave_both, lessened}
+use Rattle.wap_meaning.proofs.Following.{from_done_where, Gave, gave_both, gave_any, lessened}
+use Rattle.wap_meaning.proofs.Following.{keeps_both}
+use Rattle.wap_meaning.proofs.KeepingParts.{give_keeps}
 
 -- ---- forms in a list
 
@@ -154,9 +156,12 @@ module _ {S : Type 0} (site : Site S) where
   nearer (Some labels) some other less reach =
       (reach.0, le_trans less reach.1, reach.2, le_trans less reach.3)
 
-  -- a piece of code does what a part does, with what it takes on the operands
+  -- a piece of code does what a part does, with what it takes on the operands; it has as many forms
+  -- as it says, and the part keeps turns and variables
   pub record Piece {A : Type 0} (does : Does A S) (coded : Coded)
       (pop : List Value → List Value) (after : After A) : Type 0 where
+    pub sized : Sized coded
+    pub falls : Keeps does
     pub follows : (exits : Exits) (i : ℕ) → Reaches exits (i + coded.size)
         → Holds site.forms i (coded.forms exits i)
         → (variables : List Value) → length variables ≡ site.count
@@ -164,44 +169,38 @@ module _ {S : Type 0} (site : Site S) where
         → spot i variables (pop operands) turns state
         ≡ done (does variables turns state) (after exits (i + coded.size) operands)
 
-  -- one piece after the other does one part after the other
-  pub both : {A B : Type 0} (does : Does A S) (next : A → Does B S) (first second : Coded)
-      (pop : List Value → List Value) (push : A → List Value → List Value) (after : After B)
-      → Sized first → Keeps does → Piece does first pop (onto push)
-      → ((a : A) → Piece (next a) second (push a) after)
-      → Piece (does >>= next) (first ⨾ second) pop after
-  both does next first second pop push after sized falls one two = record {
+  -- no code does what changes nothing
+  pub empty_piece : {A : Type 0} (a : A) (after : After A)
+      → ((exits : Exits) (i : ℕ) (operands variables : List Value) (turns : ℕ) (state : S)
+      → spot i variables operands turns state ≡ after exits i operands a variables turns state)
+      → Piece (give a) empty (λ operands. operands) after
+  empty_piece a after same = record {
+    sized = λ exits i. refl;
+    falls = give_keeps a;
     follows = λ exits i reach holds variables fits operands turns state.
-        let e : i + first.size + second.size ≡ i + (first.size + second.size) = omega arith in
-        let some = first.forms exits i in
-        let other = second.forms exits (i + first.size) in
-        one.follows exits i (nearer exits (i + first.size) (i + (first.size + second.size))
-        (omega arith) reach) (front site.forms i some other holds) variables fits operands turns
-        state
-        ∙ from_done_where
-        (λ a vs left. (left ≤ turns) × (length vs ≡ length variables))
-        (does variables turns state) next
-        (onto push exits (i + first.size) operands)
-        (after exits (i + (first.size + second.size)) operands)
-        (lessened variables turns (does variables turns state) (falls variables turns state))
-        (λ a vs left later less.
-        (two a).follows exits (i + first.size)
-        (subst (Reaches exits) (sym e) reach)
-        (behind site.forms i first.size some other holds (sized exits i)) vs (less.1 ∙ fits)
-        operands left later
-        ∙ ap (λ (n : ℕ). done (next a vs left later) (after exits n operands)) e);
+        let e : i ≡ i + 0 = omega arith in
+        ap (λ (n : ℕ). spot n variables operands turns state) e
+        ∙ same exits (i + 0) operands variables turns state;
   }
 
-  -- the same where the first gives what has a property
-  pub both_where : {A B : Type 0} (P : A → Type 0) (does : Does A S) (next : A → Does B S)
-      (first second : Coded) (pop : List Value → List Value) (push : A → List Value → List Value)
-      (after : After B)
-      → Sized first → Keeps does → Piece does first pop (onto push)
+  -- one piece after the other does one part after the other, by what becomes of what the first
+  -- gives, which has a property
+  pub in_turn : {A B : Type 0} (P : A → Type 0) (does : Does A S) (next : A → Does B S)
+      (first second : Coded) (pop : List Value → List Value) (middle : After A) (after : After B)
+      → Piece does first pop middle
       → ((variables : List Value) (turns : ℕ) (state : S)
       → Gave (λ a vs left. P a) (does variables turns state))
-      → ((a : A) → P a → Piece (next a) second (push a) after)
+      → Sized second → ((a : A) → Keeps (next a))
+      → ((a : A) → P a → (exits : Exits) (i : ℕ) → Reaches exits (i + second.size)
+      → Holds site.forms i (second.forms exits i)
+      → (variables : List Value) → length variables ≡ site.count
+      → (operands : List Value) (turns : ℕ) (state : S)
+      → middle exits i operands a variables turns state
+      ≡ done (next a variables turns state) (after exits (i + second.size) operands))
       → Piece (does >>= next) (first ⨾ second) pop after
-  both_where P does next first second pop push after sized falls one gives two = record {
+  in_turn P does next first second pop middle after one gives sized falls two = record {
+    sized = sized_both first second one.sized sized;
+    falls = keeps_both does next one.falls falls;
     follows = λ exits i reach holds variables fits operands turns state.
         let e : i + first.size + second.size ≡ i + (first.size + second.size) = omega arith in
         let some = first.forms exits i in
@@ -211,20 +210,29 @@ module _ {S : Type 0} (site : Site S) where
         state
         ∙ from_done_where
         (λ a vs left. ((left ≤ turns) × (length vs ≡ length variables)) × P a)
-        (does variables turns state) next
-        (onto push exits (i + first.size) operands)
+        (does variables turns state) next (middle exits (i + first.size) operands)
         (after exits (i + (first.size + second.size)) operands)
         (gave_both (λ a vs left. (left ≤ turns) × (length vs ≡ length variables))
         (λ a vs left. P a) (does variables turns state)
-        (lessened variables turns (does variables turns state) (falls variables turns state))
+        (lessened variables turns (does variables turns state) (one.falls variables turns state))
         (gives variables turns state))
         (λ a vs left later has.
-        (two a has.1).follows exits (i + first.size)
-        (subst (Reaches exits) (sym e) reach)
-        (behind site.forms i first.size some other holds (sized exits i)) vs (has.0.1 ∙ fits)
+        two a has.1 exits (i + first.size) (subst (Reaches exits) (sym e) reach)
+        (behind site.forms i first.size some other holds (one.sized exits i)) vs (has.0.1 ∙ fits)
         operands left later
         ∙ ap (λ (n : ℕ). done (next a vs left later) (after exits n operands)) e);
   }
+
+  -- the same, where the second goes on with what the first gives on the operands
+  pub both : {A B : Type 0} (does : Does A S) (next : A → Does B S) (first second : Coded)
+      (pop : List Value → List Value) (push : A → List Value → List Value) (after : After B)
+      (any : A)
+      → Piece does first pop (onto push) → ((a : A) → Piece (next a) second (push a) after)
+      → Piece (does >>= next) (first ⨾ second) pop after
+  both does next first second pop push after any one two =
+      in_turn (λ a. Unit {0}) does next first second pop (onto push) after one
+      (λ variables turns state. gave_any (does variables turns state)) (two any).sized
+      (λ a. (two a).falls) (λ a _. (two a).follows)
 
   -- what stands at a form
   pub stands_here : (i : ℕ) (name : OpName) (instr : Instr)
@@ -266,7 +274,7 @@ module _ {S : Type 0} (site : Site S) where
 
   -- an instruction that doesn't jump does what its effect settles to
   pub op_piece : {A : Type 0} (does : Does A S) (name : OpName) (a b c : ℕ)
-      (pop : List Value → List Value) (after : After A)
+      (pop : List Value → List Value) (after : After A) → Keeps does
       → ((exits : Exits) (place i : ℕ) (other : OpName) (variables operands : List Value)
       (turns : ℕ) (state : S)
       → settle (effect_read site.string (at_place site.function place variables (pop operands))
@@ -274,7 +282,9 @@ module _ {S : Type 0} (site : Site S) where
       (record { name = other; a = a; b = b; c = c; next = site.pos i })) turns state
       ≡ done (does variables turns state) (after exits i operands))
       → Piece does (one (λ exits at. Op (instr name a b c))) pop after
-  op_piece does name a b c pop after so = record {
+  op_piece does name a b c pop after falls so = record {
+    sized = λ exits i. refl;
+    falls = falls;
     follows = λ exits i reach holds variables fits operands turns state.
         op_here i (instr name a b c) holds.0 variables (pop operands) turns state
         (done (does variables turns state) (after exits (i + 1) operands))

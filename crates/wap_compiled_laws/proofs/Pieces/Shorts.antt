@@ -20,21 +20,21 @@ use Rattle.wap_execution.specs.Effects.{onward, is_decided, decided, pair_with, 
 use Rattle.wap_execution.specs.Outcomes.{Ended}
 use Rattle.wap_execution.specs.Running.{at_place}
 use Rattle.wap_meaning.specs.SourceParts.{Does, done, give}
-use Rattle.wap_asm.specs.declared.form.Form.{Form}
 use Rattle.wap_asm.specs.declared.form.Form.TheVariants.{Op}
 use Rattle.wap_asm.specs.Placed.{Stands}
 use Rattle.wap_meaning.specs.Expressions.{decides, as_boolean}
-use Rattle.wap_meaning.specs.coding.Coded.{Exits, Coded, one, ◌⨾◌, instr, plain, label}
+use Rattle.wap_meaning.specs.coding.Coded.{Coded, one, ◌⨾◌, instr, plain, label}
 use Rattle.wap_meaning.specs.coding.Expressions.{short_code}
 use Rattle.wap_compiled_laws.proofs.Pieces.Standing.{at}
 use Rattle.wap_meaning.proofs.Following.{done_same}
-use Rattle.wap_meaning.specs.Keeping.{Keeps}
-use Rattle.wap_compiled_laws.proofs.Pieces.Pieces.{front, behind, Sized, Site, spot, settle, After}
-use Rattle.wap_compiled_laws.proofs.Pieces.Pieces.{onto, Piece}
-use Rattle.wap_compiled_laws.proofs.Pieces.Pieces.{both, op_here, Reaches, nearer}
+use Rattle.wap_meaning.proofs.KeepingParts.{decides_keeps}
+use Rattle.wap_compiled_laws.proofs.Pieces.Pieces.{front, behind, sized_both, Site, spot, settle}
+use Rattle.wap_compiled_laws.proofs.Pieces.Pieces.{After, onto, Piece, both, op_here, Reaches}
+use Rattle.wap_compiled_laws.proofs.Pieces.Pieces.{nearer}
 use Rattle.wap_compiled_laws.proofs.Pieces.Instructions.{as_is, pushed, unary_piece}
 use Rattle.wap_compiled_laws.proofs.Pieces.Jumps.{HasLabel, HasJump, label_here, Shifts}
 use Rattle.wap_compiled_laws.proofs.Pieces.Jumps.{onto_shifts}
+use Rattle.wap_compiled_laws.proofs.Pieces.Sizes.{sized_short}
 use Rattle.wap_unit.specs.declared.row.OpName.TheVariants as op
 
 -- a short-circuit with the jump behind it
@@ -55,13 +55,15 @@ pair_reads frame by place jump stands =
 module _ {S : Type 0} (site : Site S) where
   -- a label behind a piece is passed
   pub then_label : {A : Type 0} (does : Does A S) (coded : Coded) (pop : List Value → List Value)
-      (after : After site A) → Sized coded → Shifts site after → Piece site does coded pop after
+      (after : After site A) → Shifts site after → Piece site does coded pop after
       → Piece site does (coded ⨾ label) pop after
-  then_label does coded pop after sized shifts piece = record {
+  then_label does coded pop after shifts piece = record {
+    sized = sized_both coded label piece.sized (λ exits i. refl);
+    falls = piece.falls;
     follows = λ exits i reach holds variables fits operands turns state.
         let e : i + coded.size + 1 ≡ i + (coded.size + 1) = omega arith in
         let there =
-        behind site.forms i coded.size (coded.forms exits i) _ holds (sized exits i) in
+        behind site.forms i coded.size (coded.forms exits i) _ holds (piece.sized exits i) in
         piece.follows exits i (nearer site exits (i + coded.size) (i + (coded.size + 1))
         (omega arith) reach) (front site.forms i
         (coded.forms exits i) _ holds) variables fits operands
@@ -120,37 +122,36 @@ module _ {S : Type 0} (site : Site S) where
       (found.instr.next + found.instr.a) found.instr.next
       variables operands turns state found.lands found.ends))
 
-  -- one form has one form
-  sized_one : (form : Exits → ℕ → Form) → Sized (one form)
-  sized_one form exits i = refl
-
   -- the second operand, turned to Boolean
   abbrev tail_code : Coded → Coded
   tail_code second = second ⨾ plain op.Tobool ⨾ label
 
   -- it does what the second operand as Boolean does
-  tail_piece : (right : Does Value S) (second : Coded) → Sized second → Keeps right
+  tail_piece : (right : Does Value S) (second : Coded)
       → Piece site right second as_is (onto site pushed)
       → Piece site (as_boolean right) (tail_code second) as_is (onto site pushed)
-  tail_piece right second sized falls piece =
+  tail_piece right second piece =
       both site right (λ v. give (unary_of ToBool v)) second (plain op.Tobool ⨾ label) as_is pushed
-      (onto site pushed) sized falls piece
+      (onto site pushed) Invalid piece
       (λ v. then_label (give (unary_of ToBool v)) (plain op.Tobool) (pushed v) (onto site pushed)
-      (sized_one (λ exits at. Op (instr op.Tobool 0 0 0))) (onto_shifts site pushed)
+      (onto_shifts site pushed)
       (unary_piece site op.Tobool ToBool v refl))
 
   -- a short-circuit does what `&&` and `||` mean
   pub short_piece : (name : OpName) (by : Bool) (v : Value) (right : Does Value S) (second : Coded)
-      → action_of name ≡ ShortCircuit by → Sized second → Keeps right
+      → action_of name ≡ ShortCircuit by
       → Piece site right second as_is (onto site pushed)
       → Piece site (decides by (boolean_of v) (as_boolean right)) (short_code name second)
       (pushed v) (onto site pushed)
-  short_piece name by v right second acts sized falls piece = record {
+  short_piece name by v right second acts piece = record {
+    sized = sized_short name second piece.sized;
+    falls = decides_keeps by (boolean_of v) (as_boolean right)
+        (tail_piece right second piece).falls;
     follows = λ exits i reach holds variables fits operands turns state.
         let tail = (tail_code second).forms exits (i + 1 + 1) in
         let end : ℕ = i + 1 + 1 + second.size + 1 in
         let there = (behind site.forms (i + 1 + 1) second.size (second.forms exits (i + 1 + 1)) _
-        holds.1.1 (sized exits (i + 1 + 1))).1.0 in
+        holds.1.1 (piece.sized exits (i + 1 + 1))).1.0 in
         let to_end : end ≡ i + 1 + 1 + (second.size + 1) = omega arith in
         let whole : end + 1 ≡ i + (short_code name second).size = omega arith in
         let same : i + 1 + 1 + (tail_code second).size ≡ i + (short_code name second).size =
@@ -166,7 +167,7 @@ module _ {S : Type 0} (site : Site S) where
         ∙ chosen by (boolean_of v) (i + 1 + 1 + (second.size + 1)) (i + 1 + 1)
         (i + (short_code name second).size) (as_boolean right) variables operands turns state
         (passes variables)
-        ((tail_piece right second sized falls piece).follows exits (i + 1 + 1)
+        ((tail_piece right second piece).follows exits (i + 1 + 1)
         (subst (Reaches site exits) (sym same) reach) holds.1.1 variables
         fits operands turns state
         ∙ ap (λ (n : ℕ). done (as_boolean right variables turns state)

@@ -6,7 +6,12 @@ use Rattle.wap_meaning.specs.coding.Coded.{Coded, ◌⨾◌, plain, label, jump_
 use Rattle.wap_meaning.specs.coding.Expressions.{short_code}
 use Rattle.wap_meaning.specs.coding.Statements.{branch_code, loop_code}
 use Rattle.wap_compiled_laws.proofs.Pieces.Pieces.{Sized, sized_both}
-use Rattle.wap_compiled_laws.proofs.Pieces.Jumps.{branches}
+
+-- the code after a condition: a jump to what is done where it doesn't hold
+abbrev pub branches : Coded → Coded → Coded
+branches first second =
+    jump_over op.TjumpFw (first.size + 1) ⨾ first ⨾ jump_over op.JumpFw (1 + second.size) ⨾
+    label ⨾ second ⨾ label
 
 -- two branches
 pub sized_branches : (first second : Coded) → Sized first → Sized second

@@ -2,17 +2,14 @@
 use Rattle.std.proofs.Common.{◌≡◌, ◌≢◌, ℕ, zero, suc, ◌+◌, ◌-◌, ◌<◌, ◌≤◌, ◌⊎◌, Bool, true, false}
 use Rattle.std.proofs.Common.{◌&&◌, ◌||◌, not, eqb, cond, List, [], ◌∷◌, length, Option, Some}
 use Rattle.std.proofs.Common.{None, Ok, Err, refl, sym, ap, ◌∙◌, subst, arith, slice_get}
-use Rattle.std.proofs.Common.{inl, inr, is_some, option_map, option_and_then, unwrap_or}
+use Rattle.std.proofs.Common.{inl, inr, is_some, option_map, unwrap_or}
 use Rattle.std.proofs.lemmas.Bool.{eq-eqb, lt-ltb, le-ltb}
 use Rattle.std.proofs.lemmas.Bool.Decides.{eqb_tells}
 use Rattle.std.proofs.lemmas.Option.{slice_get-get_or, slice_get_within}
 use Rattle.std.specs.Prelude.{slice_index}
 use Rattle.std.specs.List.{list_any, list_all}
-use Rattle.std.specs.Option.{option_map_or}
 use Rattle.wap_unit.specs.declared.unit.Unit.{Unit as CodeUnit}
 use Rattle.wap_unit.specs.declared.unit.Code.{Code}
-use Rattle.wap_unit.specs.declared.unit.Constant.{Constant}
-use Rattle.wap_unit.specs.declared.unit.Constant.TheVariants as constant
 use Rattle.wap_unit.specs.declared.row.OpName.{OpName}
 use Rattle.wap_unit.specs.declared.row.OpName.TheVariants as op
 use Rattle.wap_unit.specs.declared.row.Operands.{Operands}
@@ -24,7 +21,7 @@ use Rattle.wap_unit.specs.declared.instr.Instr.{Instr}
 use Rattle.wap_unit.specs.Instructions.{has_code, row_of, read_row}
 use Rattle.wap_unit.specs.Rows.{rows}
 use Rattle.wap_unit.specs.Libraries.{lib_args}
-use Rattle.wap_unit.specs.Strings.{holds_text, string_of, string_at, is_string}
+use Rattle.wap_unit.specs.Strings.{string_at, is_string}
 use Rattle.wap_asm.specs.declared.form.Form.{Form}
 use Rattle.wap_asm.specs.declared.form.Form.TheVariants.{Op, Jump, Label}
 use Rattle.wap_verify.specs.declared.step.Step.{Step}
@@ -34,10 +31,12 @@ use Rattle.wap_verify.specs.CodePlaces.{values_taken, operand_fault, step_of, pa
 use Rattle.wap_verify.specs.CodePlaces.{jump_by, jump_read, is_conditional_forward, is_pair}
 use Rattle.wap_verify.specs.CodePlaces.{fine_at, checked, instr_read, step_by, step_at}
 use Rattle.wap_verify.specs.Sound.{Runs, leads_within, has_target, is_aimed, IsSplit}
+use Rattle.wap_compiled_laws.proofs.Pragmas.{names_string}
 use Rattle.wap_compiled_laws.proofs.Pieces.Pieces.{read_within}
 use Rattle.wap_compiled_laws.proofs.Depths.Flow.{Flow, goes, leaves, short, flow_of}
 use Rattle.wap_compiled_laws.proofs.Depths.Fine.{AllFine, OpFine}
 use Rattle.wap_compiled_laws.proofs.Labels.Ranges.{kind_of, AreThere}
+use Rattle.wap_compiled_laws.proofs.Soundness.Sound.{jump_stands}
 use Rattle.wap_compiled_laws.proofs.Soundness.Spelled.{Stands, IsPlaced, IsWired}
 use Rattle.wap_compiled_laws.proofs.Soundness.Table.{same_at, Says, IsAs, row_is_as}
 use Rattle.wap_compiled_laws.proofs.Soundness.Reached.{says_of, flow_same, IsFirst, label_first}
@@ -51,22 +50,6 @@ unfolding row_of
 row_kind code row is =
     same_at (λ (r : Row). r.operands) (λ (r : Row). kind_of r.operation) rows (has_code code) row
     refl is
-
--- a constant that has characters is a string
-string_holds : (unit : CodeUnit) (at : ℕ) (text : List ℕ) → string_at unit at ≡ Some text
-    → is_string unit at ≡ true
-string_holds unit at text is = by (slice_get unit.constants at) is
-  where
-    by : (o : Option Constant) → option_and_then (string_of unit.charset) o ≡ Some text
-        → option_map_or holds_text o false ≡ true
-    by None is = absurd (cc is)
-    by (Some (constant.Int8 n)) is = absurd (cc is)
-    by (Some (constant.Int16 n)) is = absurd (cc is)
-    by (Some (constant.Int32 n)) is = absurd (cc is)
-    by (Some (constant.Float n)) is = absurd (cc is)
-    by (Some (constant.Utf8 t)) is = refl
-    by (Some constant.Empty) is = refl
-    by (Some (constant.Coded t)) is = refl
 
 module _ (unit : CodeUnit) (index : ℕ) (function : Code) where
   -- how many variables the function has
@@ -90,9 +73,9 @@ module _ (unit : CodeUnit) (index : ℕ) (function : Code) where
       ap (λ (o : Option ℕ). cond (is_some o) None (Some (fault.Library index at))) there.1
   no_fault at operands.Address instr there =
       ap (λ (b : Bool). cond (b && is_string unit instr.b) None (Some (fault.Constant index at)))
-      (string_holds unit instr.a there.0.0 there.0.1)
+      (names_string unit instr.a there.0.0 there.0.1)
       ∙ ap (λ (b : Bool). cond b None (Some (fault.Constant index at)))
-      (string_holds unit instr.b there.1.0 there.1.1)
+      (names_string unit instr.b there.1.0 there.1.1)
 
   -- an instruction that stands, and whose operands are there, is a step
   step_is : (at : ℕ) (operation : OpName) (instr : Instr)
@@ -417,83 +400,8 @@ module _ (unit : CodeUnit) (index : ℕ) (function : Code) (forms : List Form) (
   -- and so does a jump
   jump_within : (k n : ℕ) (name : OpName) → slice_get forms k ≡ Some (Jump name n) → pos k < end
   jump_within k n name here =
-      let wires = wired.jumps k n name here in
-      elim wires.1 [
-        | inl first ↦
-            let found = placed.jumps_on k n n name here wires.0 first.1 in
-            read_within found.1.row function.code (pos k) found.0 found.1.reads
-        | inr rest ↦ elim rest [
-          | inl second ↦
-              let found = placed.jumps_on k n n name here wires.0 second.1 in
-              read_within found.1.row function.code (pos k) found.0 found.1.reads
-          | inr third ↦
-              let found = placed.jumps_back k n n name here wires.0 third.1 in
-              read_within found.1.row function.code (pos k) found.0 found.1.reads
-        ]
-      ]
-
-  -- ---- the code is instructions at these places
-
-  -- a step at a place, and those behind it
-  one_more : (at next : ℕ) (target : Option ℕ) (places : List ℕ) → Has at next target → at < end
-      → Runs unit index function next places end → Runs unit index function at (at ∷ places) end
-  one_more at next target places has within rest = (
-    refl,
-    within,
-    (has.step, (has.is, subst (λ n. Runs unit index function n places end) (sym has.goes_to) rest)),
-  )
-
-  -- from every form on, with so much fuel
-  abbrev RunsFrom : ℕ → Type 0
-  RunsFrom fuel = (k : ℕ) → length forms ≤ k + fuel → k ≤ length forms → First k
-      → Runs unit index function (pos k) (walk fuel k) end
-
-  -- from every form on
-  runs : (fuel k : ℕ) → length forms ≤ k + fuel → k ≤ length forms → First k
-      → Runs unit index function (pos k) (walk fuel k) end
-  unfolding walk behind_op by_form
-  runs zero k enough within first = ends_last k (omega arith) within
-  runs (suc fuel) k enough within first =
-      by (λ next enough within first. runs fuel next enough within first) (slice_get forms k) refl
-    where
-      op_runs : RunsFrom fuel → (form : Instr) → slice_get forms k ≡ Some (Op form) → (flow : Flow)
-          → flow_of unit form ≡ flow
-          → Runs unit index function (pos k) (pos k ∷ behind_op k flow (walk fuel)) end
-      op_runs rest form here (goes takes gives) flows =
-          let less = inside k (Op form) here in
-          one_more (pos k) (pos (k + 1)) None (walk fuel (k + 1))
-          (goes_step k form here takes gives flows) (op_within k form here)
-          (rest (k + 1) (omega arith) (omega arith)
-          (first_op k form here (λ same. let both = sym flows ∙ same in cc)))
-      op_runs rest form here (leaves takes) flows =
-          let less = inside k (Op form) here in
-          one_more (pos k) (pos (k + 1)) None (walk fuel (k + 1))
-          (leaves_step k form here takes flows) (op_within k form here)
-          (rest (k + 1) (omega arith) (omega arith)
-          (first_op k form here (λ same. let both = sym flows ∙ same in cc)))
-      op_runs rest form here short flows =
-          let jump = short_step k form here flows in
-          let less = inside (k + 1) (Jump op.TjumpFw jump.0) jump.1 in
-          one_more (pos k) (pos (k + 1 + 1)) (Some (pos jump.0)) (walk fuel (k + 1 + 1)) jump.2
-          (op_within k form here)
-          (rest (k + 1 + 1) (omega arith) (omega arith) (first_pair k jump.0 jump.1))
-
-      by : RunsFrom fuel → (form : Option Form) → slice_get forms k ≡ form
-          → Runs unit index function (pos k) (by_form k form (walk fuel)) end
-      by rest None here = ends_at k within here
-      by rest (Some (Op form)) here = op_runs rest form here (flow_of unit form) refl
-      by rest (Some (Jump name n)) here =
-          let less = inside k (Jump name n) here in
-          one_more (pos k) (pos (k + 1)) (Some (pos n)) (walk fuel (k + 1))
-          (jump_step k n name here) (jump_within k n name here)
-          (rest (k + 1) (omega arith) (omega arith)
-          (first_behind k (λ other there. let both = sym here ∙ there in cc)))
-      by rest (Some (Label n)) here =
-          let less = inside k (Label n) here in
-          subst (λ (p : ℕ). Runs unit index function p (walk fuel (k + 1)) end)
-          (placed.labels k n here)
-          (rest (k + 1) (omega arith) (omega arith)
-          (first_behind k (λ other there. let both = sym here ∙ there in cc)))
+      let found = jump_stands function.code forms pos placed wired k n name here in
+      read_within found.1.row function.code (pos k) found.0 found.1.reads
 
   -- ---- jumps lead to them
 
@@ -638,82 +546,103 @@ module _ (unit : CodeUnit) (index : ℕ) (function : Code) (forms : List Form) (
       by None is = refl
       by (Some way) is = way_lands way.to (lands way.to (sym is)) (Some way) refl
 
-  -- every step is aimed from every form on, with so much fuel
-  abbrev AimedFrom : ℕ → Type 0
-  AimedFrom fuel = (k : ℕ) → length forms ≤ k + fuel → k ≤ length forms → First k
-      → list_all (is_aimed unit index function places) (walk fuel k) ≡ true
+  -- ---- the code is instructions at these places
 
-  -- every step is aimed, from every form on
-  aimed : (fuel k : ℕ) → length forms ≤ k + fuel → k ≤ length forms → First k
-      → list_all (is_aimed unit index function places) (walk fuel k) ≡ true
+  -- from one place on it is instructions at these, and their jumps lead to places
+  record Walks (from : ℕ) (some : List ℕ) : Type 0 where
+    runs : Runs unit index function from some end
+    aimed : list_all (is_aimed unit index function places) some ≡ true
+
+  -- a step at a place, and those behind it
+  one_more : (at next : ℕ) (target : Option ℕ) (some : List ℕ) → Has at next target → at < end
+      → ((t : ℕ) → target ≡ Some t → Lands t places) → Walks next some → Walks at (at ∷ some)
+  one_more at next target some has within lands walks = record {
+    runs = (
+      refl,
+      within,
+      (
+        has.step,
+        (
+          has.is,
+          subst (λ n. Runs unit index function n some end) (sym has.goes_to) walks.runs,
+        ),
+      ),
+    );
+    aimed = ap (λ (b : Bool). b && list_all (is_aimed unit index function places) some)
+        (aimed_step at next target has lands) ∙ walks.aimed;
+  }
+
+  -- no jump lands anywhere
+  none_lands : (t : ℕ) → None ≡ Some t → Lands t places
+  none_lands t is = absurd (cc is)
+
+  -- a jump lands at its label
+  label_of : (n : ℕ) → slice_get forms n ≡ Some (Label n) → (t : ℕ) → Some (pos n) ≡ Some t
+      → Lands t places
+  label_of n there t is =
+      subst (λ (p : ℕ). Lands p places) (ap (λ (o : Option ℕ). unwrap_or o t) is)
+      (label_lands n there)
+
+  -- from every form on, with so much fuel
+  abbrev WalksFrom : ℕ → Type 0
+  WalksFrom fuel = (k : ℕ) → length forms ≤ k + fuel → k ≤ length forms → First k
+      → Walks (pos k) (walk fuel k)
+
+  -- from every form on
+  walks : (fuel k : ℕ) → length forms ≤ k + fuel → k ≤ length forms → First k
+      → Walks (pos k) (walk fuel k)
   unfolding walk behind_op by_form
-  aimed zero k enough within first = refl
-  aimed (suc fuel) k enough within first =
-      by (λ next enough within first. aimed fuel next enough within first) (slice_get forms k) refl
+  walks zero k enough within first =
+      record { runs = ends_last k (omega arith) within; aimed = refl }
+  walks (suc fuel) k enough within first =
+      by (λ next enough within first. walks fuel next enough within first) (slice_get forms k) refl
     where
-      -- one place, and those behind it
-      more : (at : ℕ) (rest : List ℕ) → is_aimed unit index function places at ≡ true
-          → list_all (is_aimed unit index function places) rest ≡ true
-          → list_all (is_aimed unit index function places) (at ∷ rest) ≡ true
-      more at rest one others =
-          ap (λ (b : Bool). b && list_all (is_aimed unit index function places) rest) one ∙ others
-
-      none_lands : (t : ℕ) → None ≡ Some t → Lands t places
-      none_lands t is = absurd (cc is)
-
-      label_of : (n : ℕ) → slice_get forms n ≡ Some (Label n) → (t : ℕ) → Some (pos n) ≡ Some t
-          → Lands t places
-      label_of n there t is =
-          subst (λ (p : ℕ). Lands p places) (ap (λ (o : Option ℕ). unwrap_or o t) is)
-          (label_lands n there)
-
-      op_aimed : AimedFrom fuel → (form : Instr) → slice_get forms k ≡ Some (Op form) →
-          (flow : Flow)
-          → flow_of unit form ≡ flow
-          → list_all (is_aimed unit index function places) (pos k ∷ behind_op k flow (walk fuel))
-          ≡ true
-      op_aimed rest form here (goes takes gives) flows =
+      op_walks : WalksFrom fuel → (form : Instr) → slice_get forms k ≡ Some (Op form)
+          → (flow : Flow) → flow_of unit form ≡ flow
+          → Walks (pos k) (pos k ∷ behind_op k flow (walk fuel))
+      op_walks rest form here (goes takes gives) flows =
           let less = inside k (Op form) here in
-          more (pos k) (walk fuel (k + 1))
-          (aimed_step (pos k) (pos (k + 1)) None (goes_step k form here takes gives flows)
-          none_lands)
+          one_more (pos k) (pos (k + 1)) None (walk fuel (k + 1))
+          (goes_step k form here takes gives flows) (op_within k form here) none_lands
           (rest (k + 1) (omega arith) (omega arith)
           (first_op k form here (λ same. let both = sym flows ∙ same in cc)))
-      op_aimed rest form here (leaves takes) flows =
+      op_walks rest form here (leaves takes) flows =
           let less = inside k (Op form) here in
-          more (pos k) (walk fuel (k + 1))
-          (aimed_step (pos k) (pos (k + 1)) None (leaves_step k form here takes flows) none_lands)
+          one_more (pos k) (pos (k + 1)) None (walk fuel (k + 1))
+          (leaves_step k form here takes flows) (op_within k form here) none_lands
           (rest (k + 1) (omega arith) (omega arith)
           (first_op k form here (λ same. let both = sym flows ∙ same in cc)))
-      op_aimed rest form here short flows =
+      op_walks rest form here short flows =
           let jump = short_step k form here flows in
           let less = inside (k + 1) (Jump op.TjumpFw jump.0) jump.1 in
-          more (pos k) (walk fuel (k + 1 + 1))
-          (aimed_step (pos k) (pos (k + 1 + 1)) (Some (pos jump.0)) jump.2
-          (label_of jump.0 (wired.jumps (k + 1) jump.0 op.TjumpFw jump.1).0))
+          one_more (pos k) (pos (k + 1 + 1)) (Some (pos jump.0)) (walk fuel (k + 1 + 1)) jump.2
+          (op_within k form here)
+          (label_of jump.0 (wired.jumps (k + 1) jump.0 op.TjumpFw jump.1).0)
           (rest (k + 1 + 1) (omega arith) (omega arith) (first_pair k jump.0 jump.1))
 
-      by : AimedFrom fuel → (form : Option Form) → slice_get forms k ≡ form
-          → list_all (is_aimed unit index function places) (by_form k form (walk fuel)) ≡ true
-      by rest None here = refl
-      by rest (Some (Op form)) here = op_aimed rest form here (flow_of unit form) refl
+      by : WalksFrom fuel → (form : Option Form) → slice_get forms k ≡ form
+          → Walks (pos k) (by_form k form (walk fuel))
+      by rest None here = record { runs = ends_at k within here; aimed = refl }
+      by rest (Some (Op form)) here = op_walks rest form here (flow_of unit form) refl
       by rest (Some (Jump name n)) here =
           let less = inside k (Jump name n) here in
-          more (pos k) (walk fuel (k + 1))
-          (aimed_step (pos k) (pos (k + 1)) (Some (pos n)) (jump_step k n name here)
-          (label_of n (wired.jumps k n name here).0))
+          one_more (pos k) (pos (k + 1)) (Some (pos n)) (walk fuel (k + 1))
+          (jump_step k n name here) (jump_within k n name here)
+          (label_of n (wired.jumps k n name here).0)
           (rest (k + 1) (omega arith) (omega arith)
           (first_behind k (λ other there. let both = sym here ∙ there in cc)))
       by rest (Some (Label n)) here =
           let less = inside k (Label n) here in
-          rest (k + 1) (omega arith) (omega arith)
-          (first_behind k (λ other there. let both = sym here ∙ there in cc))
+          subst (λ (p : ℕ). Walks p (walk fuel (k + 1))) (placed.labels k n here)
+          (rest (k + 1) (omega arith) (omega arith)
+          (first_behind k (λ other there. let both = sym here ∙ there in cc)))
 
   -- the code splits
   pub split : IsSplit unit index function
-  split = record {
-    places = places;
-    runs = subst (λ n. Runs unit index function n places end) placed.begins
-        (runs (length forms) 0 (omega arith) (omega arith) first_zero);
-    aimed = aimed (length forms) 0 (omega arith) (omega arith) first_zero;
-  }
+  split =
+      let all_walks = walks (length forms) 0 (omega arith) (omega arith) first_zero in
+      record {
+        places = places;
+        runs = subst (λ n. Runs unit index function n places end) placed.begins all_walks.runs;
+        aimed = all_walks.aimed;
+      }

@@ -19,7 +19,7 @@ use Rattle.wap_compiled_laws.proofs.Labels.Ranges.{kind_of, AreThere}
 use Rattle.wap_compiled_laws.proofs.RunnableLemmas.Split.{split}
 use Rattle.wap_compiled_laws.proofs.Soundness.Spelled.{IsWired, spelled}
 use Rattle.wap_compiled_laws.proofs.Soundness.Sound.{one_number}
-use Rattle.wap_compiled_laws.proofs.Soundness.Enough.{enough}
+use Rattle.wap_compiled_laws.proofs.Soundness.Reached.{enough}
 
 -- forms of which it is told are wired
 wired : (layout : Layout) → Told layout → IsWired layout.forms

@@ -1,8 +1,7 @@
 -- Every place of the code is reached with one number of values at most, and with enough.
-use Rattle.std.proofs.Common.{◌≡◌, ◌≢◌, ℕ, zero, suc, ◌+◌, ◌-◌, ◌<◌, ◌≤◌, false}
-use Rattle.std.proofs.Common.{List, [], ◌∷◌, length, Option, Some, None, Ok, refl, sym}
-use Rattle.std.proofs.Common.{ap, ◌∙◌, subst, arith, slice_get, inl, inr}
-use Rattle.std.proofs.Common.{true≢false}
+use Rattle.std.proofs.Common.{◌≡◌, ◌≢◌, ℕ, zero, suc, ◌+◌, ◌-◌, ◌<◌, ◌≤◌, false, List, [], ◌∷◌}
+use Rattle.std.proofs.Common.{length, Option, Some, None, Ok, refl, sym, ap, ◌∙◌, subst, arith}
+use Rattle.std.proofs.Common.{slice_get, inl, inr, true≢false}
 use Rattle.std.proofs.lemmas.Option.{slice_get-get_or, slice_get_within}
 use Rattle.wap_unit.specs.declared.unit.Unit.{Unit as CodeUnit}
 use Rattle.wap_unit.specs.declared.unit.Code.{Code}
@@ -14,7 +13,7 @@ use Rattle.wap_unit.specs.declared.instr.Instr.{Instr}
 use Rattle.wap_verify.specs.declared.step.Step.{Step}
 use Rattle.wap_verify.specs.declared.step.Way.{Way}
 use Rattle.wap_verify.specs.CodePlaces.{step_of, pair, step_at}
-use Rattle.wap_verify.specs.Paths.{Stand, HasWay, Leads, IsPath}
+use Rattle.wap_verify.specs.Paths.{Stand, HasWay, IsPath, Reaches}
 use Rattle.wap_asm.specs.declared.form.Form.{Form}
 use Rattle.wap_asm.specs.declared.form.Form.TheVariants.{Op, Jump, Label}
 use Rattle.wap_compiled_laws.proofs.Labels.Wired.{is_jump}
@@ -194,29 +193,32 @@ module _ (unit : CodeUnit) (index : ℕ) (function : Code) (forms : List Form) (
       (subst (λ (p : ℕ). Stands_at (p, d k)) place
       (settles (length forms) k (omega arith) within first))
 
-  module _ (here there : Stand) (at : Stands_at here)
-      (leads : Leads unit index function here there) where
+  module _ (here : Stand) (at : Stands_at here) (inside : here.0 < length function.code)
+      (step : Step) (is_step : step_at unit index function here.0 ≡ Ok step) where
     -- the form that stands there
     abbrev k : ℕ
     k = at.form
 
     -- the step at its place
-    stands_here : step_at unit index function (pos k) ≡ Ok leads.step
+    stands_here : step_at unit index function (pos k) ≡ Ok step
     stands_here =
-        subst (λ (p : ℕ). step_at unit index function p ≡ Ok leads.step) (sym at.place)
-        leads.stands
+        subst (λ (p : ℕ). step_at unit index function p ≡ Ok step) (sym at.place) is_step
+
+    -- a step takes no more than there is, and each of its ways leads to a place with its number
+    record Leading (other : Step) : Type 0 where
+      enough : other.takes ≤ here.1
+      ways : (way : Way) → HasWay other way
+          → Stands_at (way.to, here.1 - other.takes + way.gives)
 
     -- on to what stands after it
-    goes_on : (to gives takes : ℕ) (next : ℕ) → way_or (Some leads.way)
-        ≡ record { to = to; gives = gives } → leads.step.takes ≡ takes → pos next ≡ to
-        → next ≤ length forms → IsFirst next → d next ≡ d k - takes + gives → Stands_at there
-    goes_on to gives takes next way takens place within first values =
-        let to_same : leads.way.to ≡ to = ap (λ (w : Way). w.to) way in
-        let gives_same : leads.way.gives ≡ gives = ap (λ (w : Way). w.gives) way in
-        arrives next there within first (place ∙ sym to_same ∙ sym leads.to)
+    goes_on : (to gives takes next : ℕ) (way : Way) → way ≡ record { to = to; gives = gives }
+        → pos next ≡ to → next ≤ length forms → IsFirst next → d next ≡ d k - takes + gives
+        → Stands_at (way.to, here.1 - takes + way.gives)
+    goes_on to gives takes next way is place within first values =
+        arrives next (way.to, here.1 - takes + way.gives) within first
+        (place ∙ sym (ap (λ (w : Way). w.to) is))
         (values ∙ ap (λ (v : ℕ). v - takes + gives) at.values
-        ∙ ap (λ (t : ℕ). here.1 - t + gives) (sym takens)
-        ∙ ap (λ (g : ℕ). here.1 - leads.step.takes + g) (sym gives_same) ∙ sym leads.values)
+        ∙ sym (ap (λ (w : Way). here.1 - takes + w.gives) is))
 
     -- it is no end
     not_at_end : k < length forms
@@ -224,18 +226,9 @@ module _ (unit : CodeUnit) (index : ℕ) (function : Code) (forms : List Form) (
         elim (eqb_tells k (length forms)) [
           | inl same ↦
               let last : pos k ≡ length function.code = ap pos same.1 ∙ placed.ends in
-              let inside = leads.within in
               let place = at.place in absurd (omega arith)
           | inr apart ↦ let away = apart.1 in let within = at.within in omega arith
         ]
-
-    -- the ways of the step that stands there
-    way_cases : (step : Step) → leads.step ≡ step → HasWay step leads.way
-    way_cases step is = subst (λ (s : Step). HasWay s leads.way) is leads.has
-
-    -- what a step takes
-    takes_of : (step : Step) → leads.step ≡ step → leads.step.takes ≡ step.takes
-    takes_of step is = ap (λ (s : Step). s.takes) is
 
     -- what stands behind a jump is no second part of a pair
     behind_jump : (j n : ℕ) (name : OpName) → slice_get forms j ≡ Some (Jump name n)
@@ -269,31 +262,37 @@ module _ (unit : CodeUnit) (index : ℕ) (function : Code) (forms : List Form) (
           (subst (λ (name : OpName). IsAs unit row name here_instr) of_name is_as))
 
       by_flow : (flow : Flow) → flow_of unit instr ≡ flow
-          → OpFine (flow_of unit) forms d k flow → Stands_at there
+          → OpFine (flow_of unit) forms d k flow → Leading step
       by_flow (goes takes gives) flows fits =
           let stepped = op_step unit index function (pos k) instr.name here_instr takes gives
-          (placed.ops k instr is).1 (says (goes takes gives) flows) leads.step stands_here in
-          let step = step_of On (pos k) here_instr takes gives in
-          elim (way_cases step stepped) [
-            | inl way ↦
-                goes_on (pos (k + 1)) gives takes (k + 1) (sym (ap way_or way))
-                (takes_of step stepped) refl (let less = not_at_end in omega arith)
-                (λ before other after there shorts.
-                let same : k ≡ before = omega arith in
-                let instrs : instr ≡ other =
-                ap instr_or (sym is ∙ ap (slice_get forms) same ∙ there) in
-                (let both = sym flows ∙ ap (flow_of unit) instrs ∙ shorts in cc))
-                fits.1
-            | inr none ↦ absurd (cc none)
-          ]
+          (placed.ops k instr is).1 (says (goes takes gives) flows) step stands_here in
+          let leads : Leading (step_of On (pos k) here_instr takes gives) = record {
+            enough = (let values = at.values in omega (arith, fits.0));
+            ways = λ way has. elim has [
+              | inl on ↦
+                  goes_on (pos (k + 1)) gives takes (k + 1) way (sym (ap way_or on)) refl
+                  (let less = not_at_end in omega arith)
+                  (λ before other after there shorts.
+                  let same : k ≡ before = omega arith in
+                  let instrs : instr ≡ other =
+                  ap instr_or (sym is ∙ ap (slice_get forms) same ∙ there) in
+                  (let both = sym flows ∙ ap (flow_of unit) instrs ∙ shorts in cc))
+                  fits.1
+              | inr none ↦ absurd (cc none)
+            ];
+          } in
+          subst Leading (sym stepped) leads
       by_flow (leaves takes) flows fits =
           let stepped = leave_step unit index function (pos k) instr.name here_instr takes
-          (placed.ops k instr is).1 (says (leaves takes) flows) leads.step stands_here in
-          let step = step_of Leave (pos k) here_instr takes 0 in
-          elim (way_cases step stepped) [
-            | inl none ↦ absurd (cc none)
-            | inr none ↦ absurd (cc none)
-          ]
+          (placed.ops k instr is).1 (says (leaves takes) flows) step stands_here in
+          let leads : Leading (step_of Leave (pos k) here_instr takes 0) = record {
+            enough = (let values = at.values in omega (arith, fits));
+            ways = λ way has. elim has [
+              | inl none ↦ absurd (cc none)
+              | inr none ↦ absurd (cc none)
+            ];
+          } in
+          subst Leading (sym stepped) leads
       by_flow short flows fits =
           let wires = wired.jumps (k + 1) fits.0 op.TjumpFw fits.1 in
           let further : k + 1 < fits.0 = elim wires.1 [
@@ -305,28 +304,29 @@ module _ (unit : CodeUnit) (index : ℕ) (function : Code) (forms : List Form) (
           ] in
           let jump = placed.jumps_on (k + 1) fits.0 fits.0 op.TjumpFw fits.1 wires.0 further in
           let stepped = pair_step unit index function (pos k) instr.name here_instr jump.0
-          (placed.ops k instr is).1 (says short flows) jump.1 leads.step stands_here in
-          let step = pair 1 jump.0 in
+          (placed.ops k instr is).1 (says short flows) jump.1 step stands_here in
           let room = slice_get_within forms fits.0 (Label fits.0) wires.0 in
-          elim (way_cases step stepped) [
-            | inl way ↦
-                goes_on jump.0.next 0 1 (k + 1 + 1) (sym (ap way_or way))
-                (takes_of step stepped) (sym jump.2) (omega arith)
-                (behind_jump (k + 1) fits.0 op.TjumpFw fits.1) (omega (arith, fits.3))
-            | inr way ↦
-                goes_on (jump.0.next + jump.0.a) 1 1 fits.0 (sym (ap way_or way))
-                (takes_of step stepped) (sym jump.3) (omega arith)
-                (label_first fits.0 fits.0 wires.0) (omega (arith, fits.2, fits.3))
-          ]
-
-      from_op : Stands_at there
-      from_op = by_flow (flow_of unit instr) refl (op_fits (suc k) k instr (omega arith) is)
+          let leads : Leading (pair 1 jump.0) = record {
+            enough = (let values = at.values in omega (arith, fits.3));
+            ways = λ way has. elim has [
+              | inl on ↦
+                  goes_on jump.0.next 0 1 (k + 1 + 1) way (sym (ap way_or on)) (sym jump.2)
+                  (omega arith) (behind_jump (k + 1) fits.0 op.TjumpFw fits.1)
+                  (omega (arith, fits.3))
+              | inr jumps ↦
+                  goes_on (jump.0.next + jump.0.a) 1 1 fits.0 way (sym (ap way_or jumps))
+                  (sym jump.3) (omega arith) (label_first fits.0 fits.0 wires.0)
+                  (omega (arith, fits.2, fits.3))
+            ];
+          } in
+          subst Leading (sym stepped) leads
 
     -- a jump
-    from_jump : (name : OpName) (n : ℕ) → slice_get forms k ≡ Some (Jump name n) → Stands_at there
+    from_jump : (name : OpName) (n : ℕ) → slice_get forms k ≡ Some (Jump name n) → Leading step
     from_jump name n is =
         let wires = wired.jumps k n name is in
         let room = slice_get_within forms n (Label n) wires.0 in
+        let values = at.values in
         elim wires.1 [
           | inl first ↦
               let jumps = subst (λ (o : OpName). slice_get forms k ≡ Some (Jump o n)) first.0 is in
@@ -334,16 +334,18 @@ module _ (unit : CodeUnit) (index : ℕ) (function : Code) (forms : List Form) (
               let stepped = jump_step unit index function (pos k) op.JumpFw found.0 Forward 0 refl
               found.1
               (λ row of_name is_as. subst (λ (o : OpName). IsAs unit row o found.0) of_name is_as)
-              leads.step stands_here in
-              let step = step_of Forward (pos k) found.0 0 0 in
-              elim (way_cases step stepped) [
-                | inl none ↦ absurd (cc none)
-                | inr way ↦
-                    goes_on (found.0.next + found.0.a) 0 0 n (sym (ap way_or way))
-                    (takes_of step stepped) (sym found.3) (omega arith)
-                    (label_first n n wires.0)
-                    (let fits = jump_fits k n op.JumpFw at.first jumps in omega arith)
-              ]
+              step stands_here in
+              let fits = jump_fits k n op.JumpFw at.first jumps in
+              let leads : Leading (step_of Forward (pos k) found.0 0 0) = record {
+                enough = omega arith;
+                ways = λ way has. elim has [
+                  | inl none ↦ absurd (cc none)
+                  | inr on ↦
+                      goes_on (found.0.next + found.0.a) 0 0 n way (sym (ap way_or on))
+                      (sym found.3) (omega arith) (label_first n n wires.0) (omega arith)
+                ];
+              } in
+              subst Leading (sym stepped) leads
           | inr rest ↦ elim rest [
             | inl second ↦
                 let jumps = subst (λ (o : OpName). slice_get forms k ≡ Some (Jump o n)) second.0
@@ -352,20 +354,22 @@ module _ (unit : CodeUnit) (index : ℕ) (function : Code) (forms : List Form) (
                 let stepped = jump_step unit index function (pos k) op.TjumpFw found.0 ForwardOrOn 1
                 refl found.1
                 (λ row of_name is_as. subst (λ (o : OpName). IsAs unit row o found.0) of_name is_as)
-                leads.step stands_here in
-                let step = step_of ForwardOrOn (pos k) found.0 1 0 in
+                step stands_here in
                 let fits = jump_fits k n op.TjumpFw at.first jumps in
-                elim (way_cases step stepped) [
-                  | inl way ↦
-                      goes_on found.0.next 0 1 (k + 1) (sym (ap way_or way))
-                      (takes_of step stepped) (sym found.2)
-                      (let less = not_at_end in omega arith)
-                      (behind_jump k n op.TjumpFw jumps) (omega (arith, fits.0, fits.1))
-                  | inr way ↦
-                      goes_on (found.0.next + found.0.a) 0 1 n (sym (ap way_or way))
-                      (takes_of step stepped) (sym found.3) (omega arith)
-                      (label_first n n wires.0) (omega (arith, fits.0))
-                ]
+                let leads : Leading (step_of ForwardOrOn (pos k) found.0 1 0) = record {
+                  enough = omega (arith, fits.0);
+                  ways = λ way has. elim has [
+                    | inl on ↦
+                        goes_on found.0.next 0 1 (k + 1) way (sym (ap way_or on)) (sym found.2)
+                        (let less = not_at_end in omega arith)
+                        (behind_jump k n op.TjumpFw jumps) (omega (arith, fits.0, fits.1))
+                    | inr on ↦
+                        goes_on (found.0.next + found.0.a) 0 1 n way (sym (ap way_or on))
+                        (sym found.3) (omega arith) (label_first n n wires.0)
+                        (omega (arith, fits.0))
+                  ];
+                } in
+                subst Leading (sym stepped) leads
             | inr third ↦
                 let jumps = subst (λ (o : OpName). slice_get forms k ≡ Some (Jump o n)) third.0
                 is in
@@ -373,27 +377,30 @@ module _ (unit : CodeUnit) (index : ℕ) (function : Code) (forms : List Form) (
                 let stepped = jump_step unit index function (pos k) op.JumpBw found.0 Backward 0
                 refl found.1
                 (λ row of_name is_as. subst (λ (o : OpName). IsAs unit row o found.0) of_name is_as)
-                leads.step stands_here in
-                let step = step_of Backward (pos k) found.0 0 0 in
-                elim (way_cases step stepped) [
-                  | inl none ↦ absurd (cc none)
-                  | inr way ↦
-                      goes_on (pos k - found.0.a) 0 0 n (sym (ap way_or way))
-                      (takes_of step stepped) (sym found.4) (omega arith)
-                      (label_first n n wires.0)
-                      (let fits = jump_fits k n op.JumpBw at.first jumps in omega arith)
-                ]
+                step stands_here in
+                let fits = jump_fits k n op.JumpBw at.first jumps in
+                let leads : Leading (step_of Backward (pos k) found.0 0 0) = record {
+                  enough = omega arith;
+                  ways = λ way has. elim has [
+                    | inl none ↦ absurd (cc none)
+                    | inr on ↦
+                        goes_on (pos k - found.0.a) 0 0 n way (sym (ap way_or on)) (sym found.4)
+                        (omega arith) (label_first n n wires.0) (omega arith)
+                  ];
+                } in
+                subst Leading (sym stepped) leads
           ]
         ]
 
-    -- a step leads to a place with its number
-    leads_on : Stands_at there
-    leads_on = by (slice_get forms k) refl
+    -- every form
+    leading : Leading step
+    leading = by (slice_get forms k) refl
       where
-        by : (form : Option Form) → slice_get forms k ≡ form → Stands_at there
+        by : (form : Option Form) → slice_get forms k ≡ form → Leading step
         by None is = absurd (let some = slice_get-get_or forms k (Label 0) not_at_end in
             let both = sym is ∙ some in cc)
-        by (Some (Op instr)) is = from_op instr is
+        by (Some (Op instr)) is =
+            by_flow instr is (flow_of unit instr) refl (op_fits (suc k) k instr (omega arith) is)
         by (Some (Jump name n)) is = from_jump name n is
         by (Some (Label n)) is = absurd (at.no_label n is)
 
@@ -410,4 +417,16 @@ module _ (unit : CodeUnit) (index : ℕ) (function : Code) (forms : List Form) (
       subst (λ (v : ℕ). Stands_at (stand.0, v)) (sym path.1)
       (subst (λ (p : ℕ). Stands_at (p, 0)) (sym path.0) starts)
   path_stands stand (here ∷ before) path =
-      leads_on here stand (path_stands here before path.1) path.0
+      let leads = path.0 in
+      subst (λ (v : ℕ). Stands_at (stand.0, v)) (sym leads.values)
+      (subst (λ (p : ℕ). Stands_at (p, here.1 - leads.step.takes + leads.way.gives)) (sym leads.to)
+      ((leading here (path_stands here before path.1) leads.within leads.step leads.stands).ways
+      leads.way leads.has))
+
+  -- as many values as are taken
+  pub enough : (at values : ℕ) (step : Step) → at < length function.code
+      → Reaches unit index function at values → step_at unit index function at ≡ Ok step
+      → step.takes ≤ values
+  enough at values step within reaches is =
+      let stands = path_stands (at, values) reaches.before reaches.path in
+      (leading (at, values) stands within step is).enough

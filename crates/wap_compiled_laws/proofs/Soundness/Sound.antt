@@ -15,10 +15,9 @@ use Rattle.wap_unit.specs.Instructions.{size, read, read_row}
 use Rattle.wap_verify.specs.Paths.{Stand, Reaches}
 use Rattle.wap_asm.specs.declared.form.Form.{Form}
 use Rattle.wap_asm.specs.declared.form.Form.TheVariants.{Op, Jump, Label}
-use Rattle.wap_compiled_laws.proofs.Soundness.Spelled.{Stands, IsPlaced}
+use Rattle.wap_compiled_laws.proofs.Soundness.Spelled.{Stands, IsPlaced, IsWired}
 use Rattle.wap_compiled_laws.proofs.Depths.Flow.{flow_of}
 use Rattle.wap_compiled_laws.proofs.Depths.Fine.{AllFine}
-use Rattle.wap_compiled_laws.proofs.Soundness.Spelled.{IsWired}
 use Rattle.wap_compiled_laws.proofs.Soundness.Reached.{Stands_at, path_stands}
 
 -- where what was read goes on
@@ -44,27 +43,32 @@ module _ (code : List ℕ) (forms : List Form) (pos : ℕ → ℕ) (placed : IsP
       → place < instr.next
   stands_grows place name instr stands = next_behind stands.row code place instr stands.reads
 
-  -- a jump takes bytes
-  jump_grows : (k n : ℕ) (name : OpName) → slice_get forms k ≡ Some (Jump name n)
-      → pos k < pos (k + 1)
-  jump_grows k n name is =
+  -- what stands at a jump, and goes on behind it
+  pub jump_stands : (k n : ℕ) (name : OpName) → slice_get forms k ≡ Some (Jump name n)
+      → (instr : Instr) × Stands code (pos k) name instr × (instr.next ≡ pos (k + 1))
+  jump_stands k n name is =
       let wires = wired.jumps k n name is in
       elim wires.1 [
         | inl first ↦
             let found = placed.jumps_on k n n name is wires.0 first.1 in
-            let grows = stands_grows (pos k) name found.0 found.1 in
-            let next = found.2 in omega arith
+            (found.0, found.1, found.2)
         | inr rest ↦ elim rest [
           | inl second ↦
               let found = placed.jumps_on k n n name is wires.0 second.1 in
-              let grows = stands_grows (pos k) name found.0 found.1 in
-              let next = found.2 in omega arith
+              (found.0, found.1, found.2)
           | inr third ↦
               let found = placed.jumps_back k n n name is wires.0 third.1 in
-              let grows = stands_grows (pos k) name found.0 found.1 in
-              let next = found.2 in omega arith
+              (found.0, found.1, found.2)
         ]
       ]
+
+  -- a jump takes bytes
+  jump_grows : (k n : ℕ) (name : OpName) → slice_get forms k ≡ Some (Jump name n)
+      → pos k < pos (k + 1)
+  jump_grows k n name is =
+      let found = jump_stands k n name is in
+      let grows = stands_grows (pos k) name found.0 found.1 in
+      let next = found.2 in omega arith
 
   -- a form that is no label takes bytes
   grows : (k : ℕ) → k < length forms → ((n : ℕ) → slice_get forms k ≢ Some (Label n))

@@ -1,22 +1,20 @@
 -- What one step of a path comes to at a form.
-use Rattle.std.proofs.Common.{◌≡◌, ℕ, Bool, true, false, cond, ltb}
-use Rattle.std.proofs.Common.{length, Option, Some, None, Result, Ok, Err, refl, sym}
-use Rattle.std.proofs.Common.{ap, ◌∙◌, subst}
+use Rattle.std.proofs.Common.{◌≡◌, ℕ, Bool, true, false, cond, ltb, length, Option, Some, None}
+use Rattle.std.proofs.Common.{Result, Ok, Err, refl, sym, ap, ◌∙◌, subst}
 use Rattle.std.specs.Prelude.{slice_index}
 use Rattle.wap_unit.specs.declared.unit.Unit.{Unit as CodeUnit}
 use Rattle.wap_unit.specs.declared.unit.Code.{Code}
 use Rattle.wap_unit.specs.declared.row.OpName.{OpName}
 use Rattle.wap_unit.specs.declared.row.After.{After}
-use Rattle.wap_unit.specs.declared.row.After.TheVariants.{On}
-use Rattle.wap_unit.specs.declared.row.After.TheVariants.{Leave}
+use Rattle.wap_unit.specs.declared.row.After.TheVariants.{On, Leave}
 use Rattle.wap_unit.specs.declared.row.Row.{Row}
 use Rattle.wap_unit.specs.declared.instr.Instr.{Instr}
 use Rattle.wap_unit.specs.Instructions.{read_row}
 use Rattle.wap_verify.specs.declared.step.Step.{Step}
 use Rattle.wap_verify.specs.declared.fault.VerifyFault.{VerifyFault}
-use Rattle.wap_verify.specs.CodePlaces.{values_taken, operand_fault, step_of, pair, pair_at, jump_by}
-use Rattle.wap_verify.specs.CodePlaces.{jump_read, is_conditional_forward, is_pair, fine_at, checked}
-use Rattle.wap_verify.specs.CodePlaces.{instr_read, step_by, step_at}
+use Rattle.wap_verify.specs.CodePlaces.{values_taken, operand_fault, step_of, pair, pair_at}
+use Rattle.wap_verify.specs.CodePlaces.{jump_by, jump_read, is_conditional_forward, is_pair}
+use Rattle.wap_verify.specs.CodePlaces.{fine_at, checked, instr_read, step_by, step_at}
 use Rattle.wap_compiled_laws.proofs.Soundness.Spelled.{Stands}
 use Rattle.wap_compiled_laws.proofs.Depths.Flow.{goes, leaves, short}
 use Rattle.wap_compiled_laws.proofs.Soundness.Table.{Says, IsAs, row_is_as}

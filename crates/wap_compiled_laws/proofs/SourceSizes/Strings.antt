@@ -55,7 +55,7 @@ named_bytes c = by (c == 98) (c == 102) (c == 110) (c == 114) (c == 116)
 -- ---- digits
 
 -- one of two tests passes
-or_cases : (p q : Bool) → (p || q) ≡ true → (p ≡ true) ⊎ (q ≡ true)
+pub or_cases : (p q : Bool) → (p || q) ≡ true → (p ≡ true) ⊎ (q ≡ true)
 or_cases true q is = inl refl
 or_cases false q is = inr is
 

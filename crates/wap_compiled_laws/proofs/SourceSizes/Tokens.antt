@@ -1,9 +1,8 @@
 -- The tokens of a source: how long they are together, and what strings and names stand for.
 use Rattle.std.proofs.Common.{◌≡◌, ℕ, zero, suc, ◌+◌, ◌-◌, ◌<◌, ◌≤◌, ◌⊎◌, inl, inr, Bool, true}
-use Rattle.std.proofs.Common.{false}
-use Rattle.std.proofs.Common.{cond, ◌==◌, ◌||◌, nat_le, List, [], ◌∷◌, ◌++◌, length, take, drop}
-use Rattle.std.proofs.Common.{Option, Some, None, unwrap_or, encode_utf8_all, refl, sym, ap, subst}
-use Rattle.std.proofs.Common.{◌∙◌, arith, length-append, append_assoc}
+use Rattle.std.proofs.Common.{false, cond, ◌==◌, nat_le, List, [], ◌∷◌, ◌++◌, length, take}
+use Rattle.std.proofs.Common.{drop, Option, Some, None, unwrap_or, encode_utf8_all, refl, sym, ap}
+use Rattle.std.proofs.Common.{subst, ◌∙◌, arith, length-append, append_assoc}
 use Rattle.std.specs.Char.{is_ascii_alphabetic, is_ascii_digit}
 use Rattle.std.specs.Int.{is_in_range}
 use Rattle.std.specs.List.{AllByRecursion, list_all, sum_by}
@@ -37,7 +36,7 @@ use Rattle.wap_grammar.specs.Values.{text_of}
 use Rattle.wap_grammar.specs.Lexemes.{word_rows, word_spelled, word_of_kind, text_in, lexeme_of}
 use Rattle.wap_grammar.specs.Lexemes.{lexemes_of}
 use Rattle.wap_grammar.proofs.Texts.{Textual, texts_of}
-use Rattle.wap_compiled_laws.proofs.SourceSizes.Strings.{text_short}
+use Rattle.wap_compiled_laws.proofs.SourceSizes.Strings.{or_cases, text_short}
 
 -- so many bytes at most
 take_few : (n : ℕ) (xs : List ℕ) → length (take n xs) ≤ n
@@ -239,10 +238,6 @@ name_kind kind.Mark text is = absurd ((no_plain (word_spelled text) (spelled_pla
 alphabetic_low : (c : ℕ) → is_ascii_alphabetic c ≡ true → c < 128
 alphabetic_low c is = by (or_cases (is_in_range 65 90 c) (is_in_range 97 122 c) is)
   where
-    or_cases : (p q : Bool) → (p || q) ≡ true → (p ≡ true) ⊎ (q ≡ true)
-    or_cases true q is = inl refl
-    or_cases false q is = inr is
-
     last : (low high : ℕ) → is_in_range low high c ≡ true → c ≤ high
     last low high is = leb-true c high (and_parts (nat_le low c) (nat_le c high) is).1
 
@@ -250,19 +245,15 @@ alphabetic_low c is = by (or_cases (is_in_range 65 90 c) (is_in_range 97 122 c) 
     by (inl is) = omega (arith, last 65 90 is)
     by (inr is) = omega (arith, last 97 122 is)
 
-or_either : (p q : Bool) → (p || q) ≡ true → (p ≡ true) ⊎ (q ≡ true)
-or_either true q is = inl refl
-or_either false q is = inr is
-
 begins_low : (c : ℕ) → begins_name c ≡ true → c < 128
-begins_low c is = by (or_either (is_ascii_alphabetic c) (c == 95) is)
+begins_low c is = by (or_cases (is_ascii_alphabetic c) (c == 95) is)
   where
     by : (is_ascii_alphabetic c ≡ true) ⊎ ((c == 95) ≡ true) → c < 128
     by (inl is) = alphabetic_low c is
     by (inr is) = omega (arith, eqb-true c 95 is)
 
 continues_low : (c : ℕ) → continues_name c ≡ true → c < 128
-continues_low c is = by (or_either (begins_name c) (is_ascii_digit c) is)
+continues_low c is = by (or_cases (begins_name c) (is_ascii_digit c) is)
   where
     by : (begins_name c ≡ true) ⊎ (is_ascii_digit c ≡ true) → c < 128
     by (inl is) = begins_low c is

@@ -28,8 +28,7 @@ use Rattle.wap_unit.specs.Spelling.{spelling, HasSpelling}
 use Rattle.wap_meaning.specs.Names.{Names, url_of, url_in, names_in}
 use Rattle.wap_meaning.specs.coding.Constants.{is_in, same_literal, with_literal, pooled}
 use Rattle.wap_meaning.specs.coding.Needs.{Need, Constant, Operator, Variable, Local, Other}
-use Rattle.wap_meaning.specs.coding.Needs.{Library}
-use Rattle.wap_meaning.specs.coding.Needs.{literals_of, stmt_needs}
+use Rattle.wap_meaning.specs.coding.Needs.{Library, literals_of, stmt_needs}
 use Rattle.wap_meaning.specs.needs.Drawn.{use_needs, function_needs}
 use Rattle.wap_meaning.proofs.NeedsLemmas.Drawing.{Draws, several}
 use Rattle.wap_meaning.proofs.NeedsLemmas.Statements.{draws_statement}
@@ -45,9 +44,9 @@ use Rattle.wap_compiled_laws.proofs.SourceSizes.Sizes.{text_size, CanBeSaid}
 use Rattle.wap_compiled_laws.proofs.SpellingLemmas.Units.{CanBeSpelled, is_spelled}
 use Rattle.wap_compiled_laws.proofs.SourceSizes.Tokens.{weight, Sound, tokens_weigh, lexemes_sound}
 use Rattle.wap_compiled_laws.proofs.SourceSizes.Weights.{need_size, IsSaid, drawn_said, sound_after}
-use Rattle.wap_compiled_laws.proofs.SourceSizes.Weights.{use_bytes}
-use Rattle.wap_compiled_laws.proofs.SourceSizes.Weights.{uses_weigh}
-use Rattle.wap_compiled_laws.proofs.SpellingLemmas.Distinct.{Known, pool_size, in_longer}
+use Rattle.wap_compiled_laws.proofs.SourceSizes.Weights.{use_bytes, uses_weigh}
+use Rattle.wap_compiled_laws.proofs.SpellingLemmas.Distinct.{Known, pool_size}
+use Rattle.wap_compiled_laws.proofs.BodiesLemmas.Pooled.{in_more}
 
 -- ---- what the grammar says of a program
 
@@ -208,7 +207,7 @@ known_first literal.Invalid xs = inr refl
 
 -- what is known stays known
 known_left : (l : Literal) (xs ys : List Literal) → Known xs l → Known (xs ++ ys) l
-known_left l xs ys (inl there) = inl (in_longer l xs ys there)
+known_left l xs ys (inl there) = inl (in_more l xs ys there)
 known_left l xs ys (inr none) = inr none
 
 known_right : (l : Literal) (xs ys : List Literal) → Known ys l → Known (xs ++ ys) l

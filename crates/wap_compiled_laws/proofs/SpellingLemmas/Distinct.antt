@@ -2,19 +2,11 @@
 use Rattle.std.proofs.Common.{◌≡◌, ◌+◌, ◌≤◌, Bool, true, false, ◌||◌, cond, List, [], ◌∷◌, ◌++◌}
 use Rattle.std.proofs.Common.{refl, sym, ap, subst, ◌∙◌, arith, ◌⊎◌, inl, inr}
 use Rattle.std.specs.List.{AllByRecursion, sum_by}
-use Rattle.std.specs.Cmp.{signed_Decides}
-use Rattle.std.specs.Cmp.Lexicographic.{bytes_decides}
 use Rattle.std.proofs.lemmas.List.Sums.{sum_by-cons, sum_by-append}
 use Rattle.wap_grammar.specs.declared.program.expression.Literal.{Literal}
-use Rattle.wap_grammar.specs.declared.program.expression.Literal.TheVariants as literal
 use Rattle.wap_meaning.specs.coding.Constants.{same_literal, is_in, with_literal, pooled}
+use Rattle.wap_compiled_laws.proofs.BodiesLemmas.Pooled.{same_is, in_more}
 use Rattle.wap_compiled_laws.proofs.SourceSizes.Sizes.{text_size}
-
--- literals that are one constant are the same
-same_is : (l x : Literal) → same_literal l x ≡ true → l ≡ x
-same_is (literal.Int a) (literal.Int b) same = ap literal.Int ((signed_Decides a b).0 same)
-same_is (literal.Str s) (literal.Str t) same = ap literal.Str ((bytes_decides s t).0 same)
-same_is _ _ same = absurd (cc same)
 
 -- some literals without the first that is this one
 without : Literal → List Literal → List Literal
@@ -42,9 +34,6 @@ without_size l (x ∷ xs) there = by (same_literal l x) refl there (without_size
           further there,
         )
 
-unlike : false ≡ true → ⊥
-unlike e = absurd cc
-
 -- another literal stays
 stays : (l k : Literal) (xs : List Literal) → same_literal l k ≡ false → is_in k xs ≡ true
     → is_in k (without l xs) ≡ true
@@ -60,22 +49,11 @@ stays l k (x ∷ xs) other there =
         let same = subst (λ (z : Literal). same_literal z x ≡ true) (same_is l x first) first in
         let differ = subst (λ (z : Literal). same_literal x z ≡ false) (same_is k x second)
         (subst (λ (z : Literal). same_literal z k ≡ false) (same_is l x first) other) in
-        absurd (unlike (sym differ ∙ same))
+        absurd (cc (sym differ ∙ same))
     by true false first second there further = there
     by false true first second there further = ap (λ (b : Bool). b || is_in k (without l xs)) second
     by false false first second there further =
         ap (λ (b : Bool). b || is_in k (without l xs)) second ∙ further there
-
--- what is among some is among those and more
-pub in_longer : (k : Literal) (xs more : List Literal) → is_in k xs ≡ true
-    → is_in k (xs ++ more) ≡ true
-in_longer k [] more there = absurd (cc there)
-in_longer k (x ∷ xs) more there = by (same_literal k x) there (in_longer k xs more)
-  where
-    by : (b : Bool) → (b || is_in k xs) ≡ true
-        → (is_in k xs ≡ true → is_in k (xs ++ more) ≡ true) → (b || is_in k (xs ++ more)) ≡ true
-    by true there further = refl
-    by false there further = further there
 
 -- a literal that is added at the end is there
 in_end : (k l : Literal) (pool : List Literal) → same_literal k l ≡ true
@@ -123,15 +101,12 @@ module _ (some : List Literal) where
     );
   }
     where
-      unlike : true ≡ false → ⊥
-      unlike e = absurd cc
-
       still : (is_in l pool ≡ true) ⊎ (is_in l paid.left ≡ true) → is_in l paid.left ≡ true
-      still (inl known) = absurd (unlike (sym known ∙ new))
+      still (inl known) = absurd (cc (sym known ∙ new))
       still (inr left) = left
 
       longer : (k : Literal) (xs : List Literal) → is_in k xs ≡ true → is_in k (xs ++ l ∷ []) ≡ true
-      longer k xs known = in_longer k xs (l ∷ []) known
+      longer k xs known = in_more k xs (l ∷ []) known
 
       by : (k : Literal) (b : Bool) → same_literal l k ≡ b
           → (is_in k pool ≡ true) ⊎ (is_in k paid.left ≡ true)
@@ -154,7 +129,7 @@ module _ (some : List Literal) where
     where
       by : (k : Literal) → (is_in k pool ≡ true) ⊎ (is_in k paid.left ≡ true)
           → (is_in k (pool ++ l ∷ []) ≡ true) ⊎ (is_in k paid.left ≡ true)
-      by k (inl known) = inl (in_longer k pool (l ∷ []) known)
+      by k (inl known) = inl (in_more k pool (l ∷ []) known)
       by k (inr left) = inr left
 
   -- any

@@ -1,7 +1,6 @@
 -- The unit of a program has a spelling, where what its source says can be spelled.
 use Rattle.std.proofs.Common.{◌≡◌, ℕ, suc, ◌+◌, ◌*◌, ◌^◌, ◌<◌, ◌≤◌, Bool, true, false, ◌&&◌, cond}
-use Rattle.std.proofs.Common.{List, [], ◌∷◌, ◌++◌, length, Some, None, map, refl}
-use Rattle.std.proofs.Common.{arith}
+use Rattle.std.proofs.Common.{List, [], ◌∷◌, ◌++◌, length, Some, None, map, refl, arith}
 use Rattle.std.specs.Prelude.{encode_utf8_all}
 use Rattle.std.specs.List.{AllByRecursion, flat_map, filter_map, enumerate_from, sum_by}
 use Rattle.std.specs.List.{cons_option}
@@ -28,15 +27,13 @@ use Rattle.wap_meaning.proofs.Variables.{variables_first}
 use Rattle.wap_meaning.specs.coding.Constants.{constant_for}
 use Rattle.wap_unit.specs.Sequences.{InTurn, IsRow, IsCounted}
 use Rattle.wap_unit.specs.Units.{IsConstant, AreConstants, IsPragma, IsName, IsFunction}
-use Rattle.wap_unit.specs.Units.{AreFunctions}
-use Rattle.wap_unit.specs.Units.{IsBody, IsUnit}
+use Rattle.wap_unit.specs.Units.{AreFunctions, IsBody, IsUnit}
 use Rattle.wap_unit.specs.Spelling.{counted, constant_spelling, pragma_spelling, name_spelling}
 use Rattle.wap_unit.specs.Spelling.{function_spelling, constants_spelling, functions_spelling}
 use Rattle.wap_unit.specs.Spelling.{body_spelling, spelling}
 use Rattle.wap_meaning.specs.compiled.Pool.{use_literals, pool}
 use Rattle.wap_meaning.specs.compiled.Units.{pragmas_of, text_place, is_short, entry_of, entries}
-use Rattle.wap_meaning.specs.compiled.Units.{forms_of}
-use Rattle.wap_meaning.specs.compiled.Units.{compiled_function, compiled}
+use Rattle.wap_meaning.specs.compiled.Units.{forms_of, compiled_function, compiled}
 use Rattle.wap_meaning.specs.compiled.Wide.{function_wide}
 use Rattle.wap_meaning.specs.compiled.Accepted.{HasRoom}
 use Rattle.wap_compiled_laws.proofs.CodeSizes.Each.{each_front, each_back, each_both}
@@ -44,12 +41,10 @@ use Rattle.wap_compiled_laws.proofs.CodeSizes.Places.{place_within}
 use Rattle.wap_compiled_laws.proofs.Functions.{AllTake, Among, InPool, in_uses, few_functions}
 use Rattle.wap_compiled_laws.proofs.Functions.{few_variables, wide_exact, placeable, one_of}
 use Rattle.wap_compiled_laws.proofs.SpellingLemmas.Written.{bytes_both, Written, in_turn, row}
-use Rattle.wap_compiled_laws.proofs.SpellingLemmas.Written.{number}
-use Rattle.wap_compiled_laws.proofs.SpellingLemmas.Written.{constant_written}
-use Rattle.wap_compiled_laws.proofs.SourceSizes.Sizes.{text_size, CanBeSaid}
-use Rattle.wap_compiled_laws.proofs.SpellingLemmas.Written.{pragma_size}
+use Rattle.wap_compiled_laws.proofs.SpellingLemmas.Written.{number, constant_written, pragma_size}
 use Rattle.wap_compiled_laws.proofs.SpellingLemmas.Written.{HasSmall, pragma_written, name_written}
 use Rattle.wap_compiled_laws.proofs.SpellingLemmas.Written.{function_written}
+use Rattle.wap_compiled_laws.proofs.SourceSizes.Sizes.{text_size, CanBeSaid}
 use Rattle.wap_compiled_laws.proofs.SpellingLemmas.Bytes.{placed_bytes}
 
 -- what a program says can be spelled

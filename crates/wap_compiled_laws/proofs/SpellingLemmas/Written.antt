@@ -1,13 +1,11 @@
 -- Parts of a unit that are spelled by bytes, and by how many at most.
 use Rattle.std.proofs.Common.{◌≡◌, ℕ, zero, suc, ◌+◌, ◌/◌, ◌%◌, ◌^◌, ◌<◌, ◌≤◌, Bool, true, false}
-use Rattle.std.proofs.Common.{cond}
-use Rattle.std.proofs.Common.{eqb, ltb, List, [], ◌∷◌, ◌++◌, length, refl, sym, ap, ◌∙◌, arith}
-use Rattle.std.proofs.Common.{pos, negsuc, inl, inr}
-use Rattle.std.specs.Prelude.{encode_utf8_all}
+use Rattle.std.proofs.Common.{cond, eqb, ltb, List, [], ◌∷◌, ◌++◌, length, refl, sym, ap, ◌∙◌}
+use Rattle.std.proofs.Common.{arith, pos, negsuc, inl, inr}
+use Rattle.std.specs.Prelude.{encode_utf8_all, FitsSigned}
 use Rattle.std.specs.List.{flat_map, AllByRecursion, sum_by}
 use Rattle.std.specs.Str.{all_scalars}
 use Rattle.std.specs.Int.{w8, w16, w32, cast_signed, cast_unsigned, from_be_bytes, to_be_bytes}
-use Rattle.std.specs.Prelude.{FitsSigned}
 use Rattle.std.proofs.Math.Utf8.{encode, scalar, scalar_cases}
 use Rattle.std.proofs.lemmas.Bool.{ltb-true, and_parts}
 use Rattle.std.proofs.Math.Facts.{Fits-of_z}
@@ -26,9 +24,8 @@ use Rattle.wap_unit.specs.declared.unit.Code.{Code}
 use Rattle.wap_unit.specs.declared.kind.TheConstants.{INT8, INT16, INT32}
 use Rattle.wap_unit.specs.declared.kind.TheConstants.{DOMAIN, PATH, PROPERTY, SCHEME}
 use Rattle.wap_grammar.specs.declared.program.expression.Literal.{Literal}
-use Rattle.wap_grammar.specs.declared.program.expression.Literal.TheVariants.{Int, Float, Str}
-use Rattle.wap_grammar.specs.declared.program.expression.Literal.TheVariants.{Invalid}
-use Rattle.wap_grammar.specs.declared.program.expression.Literal.TheVariants.{Bool as Truth}
+use Rattle.wap_grammar.specs.declared.program.expression.Literal.TheVariants.{Int, Str, Invalid}
+use Rattle.wap_grammar.specs.declared.program.expression.Literal.TheVariants.{Float, Bool as Truth}
 use Rattle.wap_meaning.specs.coding.Constants.{integer_constant, constant_for}
 use Rattle.wap_compiled_laws.proofs.SourceSizes.Sizes.{text_size, CanBeSaid}
 use Rattle.wap_unit.specs.Sequences.{InTurn, After, IsSized, IsRow}

@@ -1,49 +1,42 @@
 -- Assignments that add or subtract, as statements.
-use Rattle.std.proofs.Common.{◌≡◌, ℕ, zero, suc, ◌+◌, ◌<◌, Bool, true, false, ltb, cond, eqb, ◌||◌}
-use Rattle.std.proofs.Common.{List, [], ◌∷◌, length, Option, Some, None, map, refl, sym, ap, ◌∙◌}
-use Rattle.std.proofs.Common.{subst, arith, slice_get, slice_set, get_or, Result, Ok, Err, ◌≢◌, inl}
+use Rattle.std.proofs.Common.{◌≡◌, ℕ, zero, suc, ◌+◌, ◌<◌, Bool, true, false, ltb, cond, eqb}
+use Rattle.std.proofs.Common.{List, [], ◌∷◌, length, Option, Some, None, refl, sym, ap, ◌∙◌}
+use Rattle.std.proofs.Common.{arith, slice_get, slice_set, get_or, Result, Ok, Err, ◌≢◌, inl}
 use Rattle.std.proofs.Common.{inr, true≢false}
-use Rattle.std.specs.Prelude.{if◌then◌else◌}
-use Rattle.std.specs.List.{list_any}
 use Rattle.std.proofs.lemmas.Option.{slice_get-get_or}
+use Rattle.std.proofs.lemmas.Bool.{or_parts}
 use Rattle.std.proofs.lemmas.Bool.Decides.{eqb_tells}
 use Rattle.wap_value.specs.declared.value.Value.{Value}
-use Rattle.wap_value.specs.declared.value.Value.TheVariants.{Bool as Boolean, Invalid}
+use Rattle.wap_value.specs.declared.value.Value.TheVariants.{Invalid}
 use Rattle.wap_value.specs.declared.fault.ValueFault.{ValueFault}
-use Rattle.wap_value.specs.declared.operator.UnOp.TheVariants.{ToBool}
 use Rattle.wap_value.specs.declared.operator.BinOp.{BinOp}
-use Rattle.wap_value.specs.Conversion.{boolean_of}
-use Rattle.wap_value.specs.Unary.{unary_of}
-use Rattle.wap_value.specs.Binary.{binary_of}
+use Rattle.wap_value.specs.Binary.{binary_of, TakesBoth}
 use Rattle.wap_value.specs.TooLong.{kept_within}
 use Rattle.wap_unit.specs.declared.row.OpName.{OpName}
-use Rattle.wap_grammar.specs.declared.program.expression.Expr.{Expr, roll-Expr, map-Expr}
-use Rattle.wap_grammar.specs.declared.program.expression.Expr.TheOpen.{Expr-F}
-use Rattle.wap_grammar.specs.declared.program.expression.Expr.TheFolds.{fold-roll-Expr, ind-Expr}
+use Rattle.wap_grammar.specs.declared.program.expression.Expr.{Expr}
 use Rattle.wap_execution.specs.declared.action.Action.TheVariants.{AssignVariable}
 use Rattle.wap_execution.specs.Actions.{action_of}
-use Rattle.wap_execution.specs.Effects.{Called, stored, jumps_at, effect_of}
+use Rattle.wap_execution.specs.Effects.{Called, stored, effect_of}
 use Rattle.wap_execution.specs.Outcomes.{Outcome, value, exit, fatal, waits, stuck}
 use Rattle.wap_execution.specs.Running.{ended, Calls}
-use Rattle.wap_meaning.specs.SourceParts.{Came, gave, over, Does, from, ◌>>=◌, done, give, given, load}
-use Rattle.wap_meaning.specs.SourceParts.{store, kept, kept_by, turn, calling, called_with, came_by}
-use Rattle.wap_meaning.specs.Names.{Names, variable_at, callee_local, callee_external}
-use Rattle.wap_meaning.specs.Names.{callee_library}
-use Rattle.wap_meaning.specs.Expressions.{value_of, Around, decides, as_boolean, joined, chained}
-use Rattle.wap_meaning.specs.Expressions.{each_of, assigned, step_of, eval_by, eval}
+use Rattle.wap_meaning.specs.SourceParts.{Came, gave, over, Does, from, ◌>>=◌, done, give, given}
+use Rattle.wap_meaning.specs.SourceParts.{load, store, kept, kept_by, turn, calling, called_with}
+use Rattle.wap_meaning.specs.SourceParts.{came_by}
+use Rattle.wap_meaning.specs.Expressions.{Around, assigned, eval}
 use Rattle.wap_meaning.specs.Statements.{Ending, goes_on, dropped}
 use Rattle.wap_asm.specs.declared.form.Form.TheVariants.{Op}
 use Rattle.wap_meaning.specs.coding.Coded.{Exits, Coded, one, ◌⨾◌, instr, with_operand}
-use Rattle.wap_meaning.specs.coding.Statements.{writes_by, writes}
-use Rattle.wap_meaning.proofs.Following.{Gave, from_gave, from_done_where}
-use Rattle.wap_compiled_laws.proofs.Pieces.Pieces.{Site, spot, onto, Piece, nearer, front, behind}
-use Rattle.wap_compiled_laws.proofs.Pieces.Pieces.{op_here}
+use Rattle.wap_meaning.specs.coding.Statements.{writes}
+use Rattle.wap_meaning.proofs.Following.{Gave, from_gave, from_done_where, keeps_both}
+use Rattle.wap_meaning.proofs.KeepingParts.{give_keeps}
+use Rattle.wap_meaning.proofs.Meanings.{of_expr}
+use Rattle.wap_compiled_laws.proofs.Pieces.Pieces.{sized_both, Site, spot, onto, Piece, nearer}
+use Rattle.wap_compiled_laws.proofs.Pieces.Pieces.{front, behind, op_here}
 use Rattle.wap_compiled_laws.proofs.Pieces.Instructions.{as_is, pushed, kept_settles}
 use Rattle.wap_compiled_laws.proofs.Pieces.Instructions.{stored_settles}
-use Rattle.wap_compiled_laws.proofs.Pieces.Assignments.{from_from}
+use Rattle.wap_compiled_laws.proofs.Pieces.Assignments.{from_from, changed_piece}
 use Rattle.wap_compiled_laws.proofs.Expressions.Agreeing.{Agrees}
 use Rattle.wap_compiled_laws.proofs.Statements.Statements.{leaves}
-use Rattle.wap_value.specs.declared.operator.BinOp.TheVariants as bin
 
 -- ---- a variable that is not written
 
@@ -143,175 +136,20 @@ spares_calling index call callee arguments =
     let end = call callee arguments turns state in
     spares_came index end.outcome variables end.turns end.state)
 
--- what is neither is not the one, and not the other
-left_false : (one other : Bool) → (one || other) ≡ false → one ≡ false
-left_false true other is = is
-left_false false other is = refl
-
--- where neither is so, the second isn't
-right_false : (one other : Bool) → (one || other) ≡ false → other ≡ false
-right_false true other is = absurd (cc is)
-right_false false other is = is
-
-module _ {S : Type 0} (around : Around S) (index : ℕ) where
-  -- what names mean there
-  abbrev names : Names
-  names = around.names
-
-  -- an expression that doesn't write the variable spares it
-  abbrev Claim : Expr → Type 0
-  Claim e = writes names e index ≡ false → Spares index (eval around e)
-
-  -- an expression of which it is so
-  abbrev Part : Type 0
-  Part = (e : Expr) × Claim e
-
-  -- one of two parts
-  spares_if : {A : Type 0} (test : Bool) (one other : Does A S) → Spares index one
-      → Spares index other → Spares index (if test then one else other)
-  spares_if true one other ones others = ones
-  spares_if false one other ones others = others
-
-  -- a short-circuit, by what its first operand is as Boolean
-  spares_decides : (by : Bool) (truth : Option Bool) (does : Does Value S) → Spares index does
-      → Spares index (decides by truth does)
-  spares_decides by None does spares = spares_give index Invalid
-  spares_decides true (Some true) does spares = spares_give index (Boolean true)
-  spares_decides true (Some false) does spares = spares
-  spares_decides false (Some true) does spares = spares
-  spares_decides false (Some false) does spares = spares_give index (Boolean false)
-
-  -- a short-circuit
-  spares_short : (by : Bool) (truth : Option Bool) (right : Does Value S) → Spares index right
-      → Spares index (decides by truth (as_boolean right))
-  spares_short by truth right spares =
-      spares_decides by truth (as_boolean right)
-      (spares_both index right (λ v. give (unary_of ToBool v)) spares
-      (λ v. spares_give index (unary_of ToBool v)))
-
-  -- an operator and the operand on its right
-  spares_joined : (binop : BinOp) (left : Value) (right : Does Value S) → Spares index right
-      → Spares index (joined around.string binop left right)
-  spares_joined bin.And left right spares = spares_short false (boolean_of left) right spares
-  spares_joined bin.Or left right spares = spares_short true (boolean_of left) right spares
-  spares_joined bin.Comma left right spares = spares
-  spares_joined binop left right spares =
-      spares_both index right (λ v. kept around.string (binary_of binop left v)) spares
-      (λ v. spares_kept index around.string (binary_of binop left v))
-
-  -- another variable is written, and something given
-  spares_stored : (other : ℕ) (v given : Value) → eqb other index ≡ false
-      → Spares {A = Value} {S = S} index (store other v >>= λ _. give given)
-  spares_stored other v given apart =
-      spares_both index (store other v) (λ _. give given) (spares_store index other v apart)
-      (λ _. spares_give index given)
-
-  -- operators of one precedence
-  spares_chain : (first : Does Value S) → Spares index first → (pairs : List (BinOp × Part))
-      → list_any (λ (pair : BinOp × (ℕ → Bool)). pair.1 index)
-      (map (λ (pair : BinOp × Expr). (pair.0, writes names pair.1))
-      (map (λ (pair : BinOp × Part). (pair.0, pair.1.0)) pairs)) ≡ false
-      → Spares index (chained around.string first
-      (map (λ (pair : BinOp × Expr). (pair.0, eval around pair.1))
-      (map (λ (pair : BinOp × Part). (pair.0, pair.1.0)) pairs)))
-  spares_chain first firsts [] none = firsts
-  spares_chain first firsts (pair ∷ pairs) none =
-      spares_chain (first >>= λ left. joined around.string pair.0 left (eval around pair.1.0))
-      (spares_both index first
-      (λ left. joined around.string pair.0 left (eval around pair.1.0)) firsts
-      (λ left. spares_joined pair.0 left (eval around pair.1.0)
-      (pair.1.1 (left_false (writes names pair.1.0 index) _ none)))) pairs
-      (right_false (writes names pair.1.0 index) _ none)
-
-  -- what arguments mean
-  abbrev evals : List Part → List (Does Value S)
-  evals es = map (eval around) (map (λ (e : Part). e.0) es)
-
-  -- whether one of some expressions writes the variable
-  abbrev SomeWrites : List Part → Bool
-  SomeWrites es =
-      list_any (λ (e : ℕ → Bool). e index) (map (writes names) (map (λ (e : Part). e.0) es))
-
-  -- arguments
-  spares_each : (es : List Part) → SomeWrites es ≡ false → Spares index (each_of (evals es))
-  spares_each [] none = spares_give {A = List Value} index []
-  spares_each (e ∷ es) none =
-      spares_both index (eval around e.0) (λ v. each_of (evals es) >>= λ vs. give (v ∷ vs))
-      (e.1 (left_false (writes names e.0 index) _ none))
-      (λ v. spares_both index (each_of (evals es)) (λ vs. give (v ∷ vs))
-      (spares_each es (right_false (writes names e.0 index) _ none))
-      (λ vs. spares_give index (v ∷ vs)))
-
-  -- a call and its arguments
-  spares_call : (callee : Called) (es : List Part) → SomeWrites es ≡ false
-      → Spares index (each_of (evals es) >>= λ vs. calling around.call callee vs)
-  spares_call callee es none =
-      spares_both index (each_of (evals es)) (λ vs. calling around.call callee vs)
-      (spares_each es none) (λ vs. spares_calling index around.call callee vs)
-
-  -- every construct
-  layers : (y : Expr-F Part)
-      → writes_by names (map-Expr Expr (ℕ → Bool) (writes names)
-      (map-Expr Part Expr (λ e. e.0) y)) index ≡ false
-      → Spares index (eval_by around (map-Expr Expr (Does Value S) (eval around)
-      (map-Expr Part Expr (λ e. e.0) y)))
-  layers (Expr-F.Lit l) none = spares_kept index around.string (value_of l)
-  layers (Expr-F.Var v) none = spares_load index (variable_at names v)
-  layers (Expr-F.Assign v None e) none =
-      let apart = left_false (eqb (variable_at names v) index) (writes names e.0 index) none in
-      spares_both index (eval around e.0)
-      (λ given. store (variable_at names v) given >>= λ _. give given)
-      (e.1 (right_false (eqb (variable_at names v) index) (writes names e.0 index) none))
-      (λ given. spares_stored (variable_at names v) given given apart)
-  layers (Expr-F.Assign v (Some binop) e) none =
-      let place = variable_at names v in
-      let apart = left_false (eqb place index) (writes names e.0 index) none in
-      spares_both index (load place)
-      (λ old. eval around e.0 >>= λ given. kept around.string (binary_of binop old given) >>=
-      λ new. store place new >>= λ _. give new) (spares_load index place)
-      (λ old. spares_both index (eval around e.0)
-      (λ given. kept around.string (binary_of binop old given) >>=
-      λ new. store place new >>= λ _. give new)
-      (e.1 (right_false (eqb place index) (writes names e.0 index) none))
-      (λ given. spares_both index (kept around.string (binary_of binop old given))
-      (λ new. store place new >>= λ _. give new)
-      (spares_kept index around.string (binary_of binop old given))
-      (λ new. spares_stored place new new apart)))
-  layers (Expr-F.Step v up prefix) none =
-      let place = variable_at names v in
-      let unop = step_of up in
-      spares_both index (load place) (λ old. store place (unary_of unop old) >>= λ _.
-      give (if prefix then unary_of unop old else old)) (spares_load index place)
-      (λ old. spares_stored place (unary_of unop old)
-      (if prefix then unary_of unop old else old) none)
-  layers (Expr-F.Unary unop e) none =
-      spares_both index (eval around e.0) (λ v. give (unary_of unop v)) (e.1 none)
-      (λ v. spares_give index (unary_of unop v))
-  layers (Expr-F.Chain e pairs) none =
-      spares_chain (eval around e.0) (e.1 (left_false (writes names e.0 index) _ none)) pairs
-      (right_false (writes names e.0 index) _ none)
-  layers (Expr-F.Cond c first second) none =
-      let rest = right_false (writes names c.0 index)
-      (writes names first.0 index || writes names second.0 index) none in
-      spares_both index (eval around c.0)
-      (λ v. if jumps_at v then eval around second.0 else eval around first.0)
-      (c.1 (left_false (writes names c.0 index)
-      (writes names first.0 index || writes names second.0 index) none))
-      (λ v. spares_if (jumps_at v) (eval around second.0) (eval around first.0)
-      (second.1 (right_false (writes names first.0 index) (writes names second.0 index) rest))
-      (first.1 (left_false (writes names first.0 index) (writes names second.0 index) rest)))
-  layers (Expr-F.Call f es) none = spares_call (callee_local names f) es none
-  layers (Expr-F.External unit f es) none = spares_call (callee_external names unit f) es none
-  layers (Expr-F.Library l f es) none = spares_call (callee_library l f) es none
-
-  -- every expression
-  pub spares : (e : Expr) → Claim e
-  unfolding eval writes
-  spares = ind-Expr Claim (λ x y is. subst (λ x. Claim (roll-Expr x)) is
-      (λ none. subst (Spares index) (sym (fold-roll-Expr (Does Value S) (eval_by around)
-      (map-Expr Part Expr (λ e. e.0) y)))
-      (layers y (sym (ap (λ (w : ℕ → Bool). w index)
-      (fold-roll-Expr (ℕ → Bool) (writes_by names) (map-Expr Part Expr (λ e. e.0) y))) ∙ none))))
+-- an expression that doesn't write the variable spares it
+pub spares : {S : Type 0} (around : Around S) (index : ℕ) (e : Expr)
+    → writes around.names e index ≡ false → Spares index (eval around e)
+spares around index =
+    of_expr around index (λ (does : Bool). does ≡ false) (λ A does. Spares index does) (record {
+      left = λ one other none. (or_parts one other none).0;
+      right = λ one other none. (or_parts one other none).1;
+      gives = λ A a. spares_give index a;
+      follows = λ A B does next. spares_both index does next;
+      loads = spares_load index;
+      stores = spares_store index;
+      measures = spares_kept index around.string;
+      calls = spares_calling index around.call;
+    })
 
 -- ---- the statement
 
@@ -366,11 +204,15 @@ module _ {S : Type 0} (site : Site S) where
 
   -- ADD_ASG and SUB_ASG do what the assignment means, where its right side spares the variable
   pub adding_piece : (name : OpName) (binop : BinOp) (index : ℕ) (right : Does Value S)
-      (second : Coded) → action_of name ≡ AssignVariable binop → index < site.count
+      (second : Coded) → action_of name ≡ AssignVariable binop → TakesBoth binop
+      → index < site.count
       → Agrees site right second → Spares index right
       → Piece site (changing index binop right) (second ⨾ with_operand name index) as_is
       (leaves site)
-  adding_piece name binop index right second acts within agrees spares = record {
+  adding_piece name binop index right second acts takes within agrees spares = record {
+    sized = sized_both second (with_operand name index) agrees.sized (λ exits i. refl);
+    falls = keeps_both (assigned site.string index (Some binop) right) (λ v. give goes_on)
+        (changed_piece site index binop right second takes agrees).falls (λ v. give_keeps goes_on);
     follows = λ exits i reach holds variables fits operands turns state.
         let old : Value = get_or variables index Invalid in
         let had : slice_get variables index ≡ Some old =
@@ -378,7 +220,7 @@ module _ {S : Type 0} (site : Site S) where
         let there = behind site.forms i second.size (second.forms exits i) _ holds
         (agrees.sized exits i) in
         let e : i + second.size + 1 ≡ i + (second.size + 1) = omega arith in
-        agrees.piece.follows exits i (nearer site exits (i + second.size)
+        agrees.follows exits i (nearer site exits (i + second.size)
         (i + (second.size + 1)) (omega arith) reach)
         (front site.forms i (second.forms exits i) _ holds) variables fits operands turns state
         ∙ from_done_where (Same index variables) (right variables turns state)

@@ -3,7 +3,7 @@ use Rattle.std.proofs.Common.{◌≡◌, ℕ, zero, suc, ◌+◌, ◌-◌, ◌<�
 use Rattle.std.proofs.Common.{refl, sym, ap, ◌∙◌, subst, arith}
 use Rattle.std.specs.Prelude.{if◌then◌else◌}
 use Rattle.wap_value.specs.declared.value.Value.{Value}
-use Rattle.wap_value.specs.declared.value.Value.TheVariants.{Bool as Boolean}
+use Rattle.wap_value.specs.declared.value.Value.TheVariants.{Bool as Boolean, Invalid}
 use Rattle.wap_execution.specs.Effects.{jumps_at}
 use Rattle.wap_execution.specs.Outcomes.{Ended}
 use Rattle.wap_meaning.specs.SourceParts.{Does, ◌>>=◌, done, give, turn}
@@ -11,17 +11,17 @@ use Rattle.wap_meaning.specs.Statements.{Ending, goes_on, breaks, continues, ret
 use Rattle.wap_meaning.specs.Statements.{looped, loop}
 use Rattle.wap_meaning.specs.coding.Coded.{Exits, Coded, empty, one, ◌⨾◌, jump_over}
 use Rattle.wap_meaning.specs.coding.Statements.{branch_code, loop_code}
-use Rattle.wap_meaning.proofs.Following.{from_done_where, done_same, keeps_both, lessened}
+use Rattle.wap_meaning.proofs.Following.{from_done_where, done_same, lessened}
 use Rattle.wap_meaning.specs.Keeping.{Keeps}
 use Rattle.wap_compiled_laws.proofs.Pieces.Pieces.{Holds, front, behind, Sized, sized_both, Site}
-use Rattle.wap_compiled_laws.proofs.Pieces.Pieces.{spot, onto}
-use Rattle.wap_compiled_laws.proofs.Pieces.Pieces.{Reaches, nearer, Piece, both}
+use Rattle.wap_compiled_laws.proofs.Pieces.Pieces.{spot, onto, Reaches, nearer, Piece, both}
 use Rattle.wap_compiled_laws.proofs.Pieces.Sizes.{sized_branch, sized_loop}
 use Rattle.wap_compiled_laws.proofs.Pieces.Instructions.{as_is, pushed, nothing}
 use Rattle.wap_compiled_laws.proofs.Pieces.Jumps.{HasLabel, HasJump, label_here, test_here}
 use Rattle.wap_compiled_laws.proofs.Pieces.Jumps.{back_here, chosen}
-use Rattle.wap_compiled_laws.proofs.Expressions.Agreeing.{Agrees, choice_keeps}
-use Rattle.wap_meaning.proofs.KeepingParts.{give_keeps, turn_keeps}
+use Rattle.wap_compiled_laws.proofs.Expressions.Agreeing.{Agrees}
+use Rattle.wap_meaning.proofs.KeepingParts.{give_keeps, if_keeps}
+use Rattle.wap_meaning.proofs.Trees.{loop_keeps}
 use Rattle.wap_compiled_laws.proofs.Statements.Statements.{leaves, leaves_shifts, Runs}
 use Rattle.wap_unit.specs.declared.row.OpName.TheVariants as op
 
@@ -33,6 +33,8 @@ module _ {S : Type 0} (site : Site S) where
       → Piece site (if jumps_at v then give goes_on else does) (branch_code body) (pushed v)
       (leaves site)
   branch_piece v does body runs = record {
+    sized = sized_branch body runs.sized;
+    falls = if_keeps (jumps_at v) (give goes_on) does (give_keeps goes_on) runs.falls;
     follows = λ exits i reach holds variables fits operands turns state.
         let end : ℕ = i + 1 + body.size in
         let there = (behind site.forms (i + 1) body.size (body.forms exits (i + 1)) _ holds.1
@@ -48,7 +50,7 @@ module _ {S : Type 0} (site : Site S) where
         (leaves site exits (i + (branch_code body).size) operands) variables turns state
         (spot site (i + 1) variables operands turns state)
         (spot site end variables operands turns state)
-        (runs.piece.follows exits (i + 1) (nearer site exits end (i + (branch_code body).size)
+        (runs.follows exits (i + 1) (nearer site exits end (i + (branch_code body).size)
         (omega arith) reach) (front site.forms (i + 1) (body.forms exits (i + 1)) _ holds.1)
         variables fits operands turns state
         ∙ done_same (does variables turns state) (leaves site exits end operands)
@@ -62,13 +64,9 @@ module _ {S : Type 0} (site : Site S) where
   pub branch_runs : (c : Does Value S) (does : Does Ending S) (one two : Coded)
       → Agrees site c one → Runs site does two
       → Runs site (c >>= λ v. if jumps_at v then give goes_on else does) (one ⨾ branch_code two)
-  branch_runs c does one two ones twos = record {
-    sized = sized_both one (branch_code two) ones.sized (sized_branch two twos.sized);
-    falls = keeps_both c (λ v. if jumps_at v then give goes_on else does) ones.falls
-        (λ v. choice_keeps site (jumps_at v) does (give goes_on) twos.falls (give_keeps goes_on));
-    piece = both site c (λ v. if jumps_at v then give goes_on else does) one (branch_code two) as_is
-        pushed (leaves site) ones.sized ones.falls ones.piece (λ v. branch_piece v does two twos);
-  }
+  branch_runs c does one two ones twos =
+      both site c (λ v. if jumps_at v then give goes_on else does) one (branch_code two) as_is
+      pushed (leaves site) Invalid ones (λ v. branch_piece v does two twos)
 
   -- ---- the condition of a loop, with a jump over so many forms
 
@@ -112,7 +110,7 @@ module _ {S : Type 0} (site : Site S) where
         (agrees.sized exits i) in
         let to_end : i + (coded.size + 1) + count ≡ i + coded.size + 1 + count = omega arith in
         let to_next : i + coded.size + 1 ≡ i + (coded.size + 1) = omega arith in
-        agrees.piece.follows exits i (nearer site exits (i + coded.size) (i + (coded.size + 1))
+        agrees.follows exits i (nearer site exits (i + coded.size) (i + (coded.size + 1))
         (omega arith) reach) (front site.forms i (coded.forms exits i) _ holds) variables fits
         operands turns state
         ∙ done_same (test variables turns state)
@@ -131,10 +129,8 @@ module _ {S : Type 0} (site : Site S) where
   }
 
   -- what is done after a turn
-  pub record Updates (update : Does (Unit {0}) S) (coded : Coded) : Type 0 where
-    pub sized : Sized coded
-    pub falls : Keeps update
-    pub piece : Piece site update coded as_is (onto site nothing)
+  abbrev pub Updates : Does (Unit {0}) S → Coded → Type 0
+  Updates update coded = Piece site update coded as_is (onto site nothing)
 
   -- ---- loops
 
@@ -256,37 +252,6 @@ module _ {S : Type 0} (site : Site S) where
 
   -- ---- the code of a loop
 
-  -- a loop with so many turns keeps turns and variables
-  looped_keeps : (test : Does Value S) (body : Does Ending S) (update : Does (Unit {0}) S)
-      → Keeps test → Keeps body → Keeps update → (more : ℕ)
-      → Keeps (looped test body update more)
-  looped_keeps test body update tests bodies updates zero = λ variables turns state. omega arith
-  looped_keeps test body update tests bodies updates (suc more) =
-      keeps_both test (λ v. if jumps_at v then give goes_on
-      else body >>= if_continues (update >>= λ _. turn >>= λ _. looped test body update more)) tests
-      (λ v. choice_keeps site (jumps_at v)
-      (body >>= if_continues (update >>= λ _. turn >>= λ _. looped test body update more))
-      (give goes_on)
-      (keeps_both body
-      (if_continues (update >>= λ _. turn >>= λ _. looped test body update more)) bodies
-      (by (keeps_both update (λ _. turn >>= λ _. looped test body update more) updates
-      (λ _. keeps_both turn (λ _. looped test body update more) turn_keeps
-      (λ _. looped_keeps test body update tests bodies updates more)))))
-      (give_keeps goes_on))
-    where
-      by : Keeps (update >>= λ _. turn >>= λ _. looped test body update more) → (ending : Ending)
-          → Keeps (if_continues (update >>= λ _. turn >>= λ _. looped test body update more) ending)
-      by falls goes_on = falls
-      by falls breaks = give_keeps goes_on
-      by falls continues = falls
-      by falls (returns v) = give_keeps (returns v)
-
-  -- a loop keeps them
-  loop_keeps : (test : Does Value S) (body : Does Ending S) (update : Does (Unit {0}) S)
-      → Keeps test → Keeps body → Keeps update → Keeps (loop test body update)
-  loop_keeps test body update tests bodies updates variables turns state =
-      looped_keeps test body update tests bodies updates (suc turns) variables turns state
-
   module _ (test : Does Value S) (body : Does Ending S) (update : Does (Unit {0}) S)
       (one : ℕ → Coded) (two three : Coded) (tests : Tests test one) (runs : Runs site body two)
       (updates : Updates update three) where
@@ -299,66 +264,64 @@ module _ {S : Type 0} (site : Site S) where
     loop_runs = record {
       sized = sized_loop one two three tests.sized runs.sized updates.sized;
       falls = loop_keeps test body update tests.falls runs.falls updates.falls;
-      piece = record {
-        follows = λ exits i reach holds variables fits operands turns state.
-            let t = (one past).size in
-            let same : t ≡ tests.size = tests.of_size past in
-            let inside : ℕ = i + 1 + t in
-            let again : ℕ = inside + two.size in
-            let back : ℕ = again + 1 + three.size in
-            let end : ℕ = inside + past in
-            let inner : Exits = Some (end, again) in
-            let after_test = behind site.forms (i + 1) t ((one past).forms exits (i + 1)) _ holds.1
-            (tests.sized past exits (i + 1)) in
-            let after_body = behind site.forms inside two.size
-            (two.forms inner inside) _ after_test (runs.sized inner inside) in
-            let after_update = behind site.forms (again + 1) three.size
-            (three.forms exits (again + 1)) _ after_body.1 (updates.sized exits (again + 1)) in
-            let is_end : back + 1 ≡ end = omega arith in
-            let is_start : back - (1 + t + two.size + 1 + three.size) ≡ i = omega arith in
-            let whole : end + 1 ≡ i + (loop_code one two three).size = omega arith in
-            let at_end : HasLabel site end = subst (HasLabel site) is_end after_update.1.0 in
-            let to_end : end ≡ i + 1 + tests.size + past = omega (arith, same) in
-            let to_inside : inside ≡ i + 1 + tests.size = omega (arith, same) in
-            let loops : Loop test body update i inside again back end operands = record {
-              test_keeps = tests.falls;
-              body_keeps = runs.falls;
-              update_keeps = updates.falls;
-              at_start = holds.0;
-              at_again = after_body.0;
-              at_end = at_end;
-              at_back = subst (λ n. HasJump site op.JumpBw back n) is_start after_update.0;
-              earlier = omega arith;
-              tests = λ vs suits left later.
-                  tests.follows exits (i + 1) past
-                  (nearer site exits (i + 1 + tests.size) (i + (loop_code one two three).size)
-                  (omega (arith, same)) reach)
-                  (front site.forms (i + 1) ((one past).forms exits (i + 1)) _ holds.1)
-                  (subst (HasLabel site) to_end at_end) vs suits operands left later
-                  ∙ done_same (test vs left later)
-                  (λ v vs left later. cond (jumps_at v)
-                  (spot site (i + 1 + tests.size + past) vs operands left later)
-                  (spot site (i + 1 + tests.size) vs operands left later))
-                  (λ v vs left later. cond (jumps_at v)
-                  (spot site end vs operands left later) (spot site inside vs operands left later))
-                  (λ v vs left later.
-                  ap (λ (n : ℕ). cond (jumps_at v) (spot site n vs operands left later)
-                  (spot site (i + 1 + tests.size) vs operands left later)) (sym to_end)
-                  ∙ ap (λ (n : ℕ). cond (jumps_at v) (spot site end vs operands left later)
-                  (spot site n vs operands left later)) (sym to_inside));
-              does = λ vs suits left later.
-                  runs.piece.follows inner inside (at_end, omega arith, after_body.0, omega arith)
-                  (front site.forms inside (two.forms inner inside) _ after_test)
-                  vs suits operands left later;
-              updates = λ vs suits left later.
-                  updates.piece.follows exits (again + 1)
-                  (nearer site exits back (i + (loop_code one two three).size) (omega arith) reach)
-                  (front site.forms (again + 1) (three.forms exits (again + 1)) _ after_body.1)
-                  vs suits operands left later;
-            } in
-            whole_loop test body update i inside again back end operands exits loops variables
-            fits turns state
-            ∙ ap (λ (n : ℕ). done (loop test body update variables turns state)
-            (leaves site exits n operands)) whole;
-      };
+      follows = λ exits i reach holds variables fits operands turns state.
+          let t = (one past).size in
+          let same : t ≡ tests.size = tests.of_size past in
+          let inside : ℕ = i + 1 + t in
+          let again : ℕ = inside + two.size in
+          let back : ℕ = again + 1 + three.size in
+          let end : ℕ = inside + past in
+          let inner : Exits = Some (end, again) in
+          let after_test = behind site.forms (i + 1) t ((one past).forms exits (i + 1)) _ holds.1
+          (tests.sized past exits (i + 1)) in
+          let after_body = behind site.forms inside two.size
+          (two.forms inner inside) _ after_test (runs.sized inner inside) in
+          let after_update = behind site.forms (again + 1) three.size
+          (three.forms exits (again + 1)) _ after_body.1 (updates.sized exits (again + 1)) in
+          let is_end : back + 1 ≡ end = omega arith in
+          let is_start : back - (1 + t + two.size + 1 + three.size) ≡ i = omega arith in
+          let whole : end + 1 ≡ i + (loop_code one two three).size = omega arith in
+          let at_end : HasLabel site end = subst (HasLabel site) is_end after_update.1.0 in
+          let to_end : end ≡ i + 1 + tests.size + past = omega (arith, same) in
+          let to_inside : inside ≡ i + 1 + tests.size = omega (arith, same) in
+          let loops : Loop test body update i inside again back end operands = record {
+            test_keeps = tests.falls;
+            body_keeps = runs.falls;
+            update_keeps = updates.falls;
+            at_start = holds.0;
+            at_again = after_body.0;
+            at_end = at_end;
+            at_back = subst (λ n. HasJump site op.JumpBw back n) is_start after_update.0;
+            earlier = omega arith;
+            tests = λ vs suits left later.
+                tests.follows exits (i + 1) past
+                (nearer site exits (i + 1 + tests.size) (i + (loop_code one two three).size)
+                (omega (arith, same)) reach)
+                (front site.forms (i + 1) ((one past).forms exits (i + 1)) _ holds.1)
+                (subst (HasLabel site) to_end at_end) vs suits operands left later
+                ∙ done_same (test vs left later)
+                (λ v vs left later. cond (jumps_at v)
+                (spot site (i + 1 + tests.size + past) vs operands left later)
+                (spot site (i + 1 + tests.size) vs operands left later))
+                (λ v vs left later. cond (jumps_at v)
+                (spot site end vs operands left later) (spot site inside vs operands left later))
+                (λ v vs left later.
+                ap (λ (n : ℕ). cond (jumps_at v) (spot site n vs operands left later)
+                (spot site (i + 1 + tests.size) vs operands left later)) (sym to_end)
+                ∙ ap (λ (n : ℕ). cond (jumps_at v) (spot site end vs operands left later)
+                (spot site n vs operands left later)) (sym to_inside));
+            does = λ vs suits left later.
+                runs.follows inner inside (at_end, omega arith, after_body.0, omega arith)
+                (front site.forms inside (two.forms inner inside) _ after_test)
+                vs suits operands left later;
+            updates = λ vs suits left later.
+                updates.follows exits (again + 1)
+                (nearer site exits back (i + (loop_code one two three).size) (omega arith) reach)
+                (front site.forms (again + 1) (three.forms exits (again + 1)) _ after_body.1)
+                vs suits operands left later;
+          } in
+          whole_loop test body update i inside again back end operands exits loops variables
+          fits turns state
+          ∙ ap (λ (n : ℕ). done (loop test body update variables turns state)
+          (leaves site exits n operands)) whole;
     }

@@ -13,26 +13,21 @@ use Rattle.wap_value.specs.declared.operator.BinOp.{BinOp}
 use Rattle.wap_unit.specs.declared.row.OpName.{OpName}
 use Rattle.wap_execution.specs.declared.action.Action.TheVariants.{AssignVariable}
 use Rattle.wap_execution.specs.Actions.{action_of}
-use Rattle.wap_meaning.specs.coding.Needs.{Variable, Operator, expr_needs_by, Need, expr_needs}
-use Rattle.wap_meaning.specs.coding.Needs.{declared_needs, optional_needs, stmt_needs_by}
-use Rattle.wap_meaning.specs.coding.Needs.{stmt_needs}
+use Rattle.wap_meaning.specs.coding.Needs.{Variable, expr_needs_by, declared_needs, optional_needs}
+use Rattle.wap_meaning.specs.coding.Needs.{Operator, Need, expr_needs, stmt_needs_by, stmt_needs}
 use Rattle.wap_meaning.specs.Expressions.{assigned, stepped, step_of, eval_by, Around, eval}
-use Rattle.wap_meaning.specs.Statements.{dropped, Ending, goes_on, declared, run_by_part}
+use Rattle.wap_meaning.specs.Statements.{in_order, dropped, Ending, goes_on, declared, run_by_part}
 use Rattle.wap_meaning.specs.Statements.{run, test_of, update_of, loop}
 use Rattle.wap_meaning.specs.coding.Statements.{writes, changed_code, effect_code, stmt_code_by}
-use Rattle.wap_meaning.specs.coding.Statements.{stmt_code}
-use Rattle.wap_meaning.specs.coding.Statements.{declared_code, test_code, update_code, dropped_code}
-use Rattle.wap_meaning.specs.coding.Statements.{loop_code}
-use Rattle.wap_meaning.specs.coding.Coded.{Exits, with_operand, Coded, ◌⨾◌, empty, plain}
+use Rattle.wap_meaning.specs.coding.Statements.{stmt_code, declared_code, test_code, update_code}
+use Rattle.wap_meaning.specs.coding.Statements.{dropped_code, loop_code}
+use Rattle.wap_meaning.specs.coding.Coded.{all_code, Exits, with_operand, Coded, ◌⨾◌, empty, plain}
 use Rattle.wap_compiled_laws.proofs.Statements.Adding.{adding_piece, spares}
-use Rattle.wap_compiled_laws.proofs.Statements.Statements.{leaves, Runs, empty_runs, runs_both}
-use Rattle.wap_compiled_laws.proofs.Statements.Statements.{AllRun, all_run}
-use Rattle.wap_compiled_laws.proofs.Statements.Statements.{dropped_runs, declared_runs}
-use Rattle.wap_compiled_laws.proofs.Statements.Statements.{empty_agrees}
-use Rattle.wap_compiled_laws.proofs.Statements.Statements.{assigned_runs, stepped_runs}
-use Rattle.wap_compiled_laws.proofs.Statements.Statements.{returned_runs, ended_runs, break_runs}
-use Rattle.wap_compiled_laws.proofs.Statements.Statements.{continue_runs}
-use Rattle.wap_compiled_laws.proofs.Statements.Statements.{choice_runs}
+use Rattle.wap_compiled_laws.proofs.Statements.Statements.{leaves}
+use Rattle.wap_compiled_laws.proofs.Statements.Statements.{Runs, runs_both, break_runs, choice_runs}
+use Rattle.wap_compiled_laws.proofs.Statements.Statements.{empty_runs, declared_runs, assigned_runs}
+use Rattle.wap_compiled_laws.proofs.Statements.Statements.{dropped_runs, empty_agrees, stepped_runs}
+use Rattle.wap_compiled_laws.proofs.Statements.Statements.{returned_runs, ended_runs, continue_runs}
 use Rattle.wap_grammar.specs.declared.program.statement.Stmt.{Stmt, roll-Stmt, map-Stmt}
 use Rattle.wap_grammar.specs.declared.program.statement.Stmt.TheOpen.{Stmt-F}
 use Rattle.wap_grammar.specs.declared.program.statement.Stmt.TheFolds.{fold-roll-Stmt, ind-Stmt}
@@ -42,8 +37,8 @@ use Rattle.std.specs.Prelude.{if◌then◌else◌}
 use Rattle.wap_meaning.specs.coding.Constants.{Numbers}
 use Rattle.wap_meaning.specs.coding.Expressions.{store_code, change_name, expr_code}
 use Rattle.wap_meaning.proofs.Following.{keeps_both}
-use Rattle.wap_compiled_laws.proofs.Pieces.Pieces.{sized_both, Site, spot, onto, Piece}
-use Rattle.wap_compiled_laws.proofs.Pieces.Instructions.{as_is, nothing}
+use Rattle.wap_compiled_laws.proofs.Pieces.Pieces.{Site, onto, empty_piece}
+use Rattle.wap_compiled_laws.proofs.Pieces.Instructions.{nothing}
 use Rattle.wap_compiled_laws.proofs.Expressions.Agreeing.{Agrees}
 use Rattle.wap_meaning.proofs.KeepingParts.{give_keeps}
 use Rattle.wap_compiled_laws.proofs.Expressions.Expressions.{around, Met, met_front, met_back}
@@ -117,17 +112,10 @@ module _ {S : Type 0} (site : Site S) (numbers : Numbers)
       let evals : assigned site.string index (Some binop) (eval here right) ≡ eval here e =
       sym (fold-roll-Expr (Does Value S) (eval_by here) (Expr-F.Assign v (Some binop) right))
       ∙ ap (eval here) is in
-      let agree = expr_agrees right met'.1.1 in
-      record {
-        sized = sized_both (expr_code numbers right) (with_operand name index) agree.sized
-            (λ exits i. refl);
-        falls = keeps_both (eval here e) (λ v. give goes_on) (expr_agrees e met).falls
-            (λ v. give_keeps goes_on);
-        piece = subst (λ (does : Does Value S). Piece site (dropped does)
-            (expr_code numbers right ⨾ with_operand name index) as_is (leaves site)) evals
-            (adding_piece site name binop index (eval here right) (expr_code numbers right) acts
-            (omega (arith, met'.0, counted)) agree (spares here index right none));
-      }
+      subst (λ (does : Does Value S). Runs site (dropped does)
+      (expr_code numbers right ⨾ with_operand name index)) evals
+      (adding_piece site name binop index (eval here right) (expr_code numbers right) acts met'.1.0
+      (omega (arith, met'.0, counted)) (expr_agrees right met'.1.1) (spares here index right none))
 
   -- the same, whether it does or not
   changed_runs : (v : Id) (binop : BinOp) (name : OpName) (right e : Expr)
@@ -191,17 +179,21 @@ module _ {S : Type 0} (site : Site S) (numbers : Numbers)
 
   -- ---- lists
 
+  -- the statements
+  abbrev trees : List Part → List Stmt
+  trees ss = map (λ (s : Part). s.0) ss
+
   -- statements in order
   block_runs : (ss : List Part)
-      → IsMet (flat_map (λ (needs : List Need). needs)
-      (map stmt_needs (map (λ (s : Part). s.0) ss)))
-      → AllRun site (map (run here) (map (λ (s : Part). s.0) ss))
-      (map (stmt_code numbers) (map (λ (s : Part). s.0) ss))
-  block_runs [] met = tt
-  block_runs (s ∷ ss) met = (
-    s.1 (met_front site numbers (stmt_needs s.0) _ met),
-    block_runs ss (met_back site numbers (stmt_needs s.0) _ met),
-  )
+      → IsMet (flat_map (λ (needs : List Need). needs) (map stmt_needs (trees ss)))
+      → Runs site (in_order (map (run here) (trees ss)))
+      (all_code (map (stmt_code numbers) (trees ss)))
+  block_runs [] met = empty_runs site
+  block_runs (s ∷ ss) met =
+      runs_both site (run here s.0) (in_order (map (run here) (trees ss))) (stmt_code numbers s.0)
+      (all_code (map (stmt_code numbers) (trees ss)))
+      (s.1 (met_front site numbers (stmt_needs s.0) _ met))
+      (block_runs ss (met_back site numbers (stmt_needs s.0) _ met))
 
   -- a declaration
   variable_runs : (pair : Id × Option Expr) → IsMet (declared_needs pair)
@@ -216,12 +208,14 @@ module _ {S : Type 0} (site : Site S) (numbers : Numbers)
   -- declarations in order
   variables_run : (pairs : List (Id × Option Expr))
       → IsMet (flat_map declared_needs pairs)
-      → AllRun site (map (declared here) pairs) (map (declared_code numbers) pairs)
-  variables_run [] met = tt
-  variables_run (pair ∷ pairs) met = (
-    variable_runs pair (met_front site numbers (declared_needs pair) _ met),
-    variables_run pairs (met_back site numbers (declared_needs pair) _ met),
-  )
+      → Runs site (in_order (map (declared here) pairs))
+      (all_code (map (declared_code numbers) pairs))
+  variables_run [] met = empty_runs site
+  variables_run (pair ∷ pairs) met =
+      runs_both site (declared here pair) (in_order (map (declared here) pairs))
+      (declared_code numbers pair) (all_code (map (declared_code numbers) pairs))
+      (variable_runs pair (met_front site numbers (declared_needs pair) _ met))
+      (variables_run pairs (met_back site numbers (declared_needs pair) _ met))
 
   -- ---- loops
 
@@ -242,15 +236,8 @@ module _ {S : Type 0} (site : Site S) (numbers : Numbers)
   -- the update of a `for`
   given_updates : (update : Option Expr) → IsMet (optional_needs update)
       → Updates site (update_of here update) (update_code numbers update)
-  given_updates None met = record {
-    sized = λ exits i. refl;
-    falls = give_keeps (tt {0});
-    piece = record {
-      follows = λ exits i reach holds variables fits operands turns state.
-          let e : i ≡ i + 0 = omega arith in
-          ap (λ (n : ℕ). spot site n variables operands turns state) e;
-    };
-  }
+  given_updates None met =
+      empty_piece site tt (onto site nothing) (λ exits i operands variables turns state. refl)
   given_updates (Some e) met =
       let runs = effect_runs (out-Expr e) e (roll-out-Expr e) met in
       let size = (effect_code numbers (out-Expr e) (expr_code numbers e)).size in
@@ -258,11 +245,9 @@ module _ {S : Type 0} (site : Site S) (numbers : Numbers)
         sized = runs.sized;
         falls = keeps_both (eval here e) (λ v. give tt) (expr_agrees e met).falls
             (λ v. give_keeps (tt {0}));
-        piece = record {
-          follows = λ exits i reach holds variables fits operands turns state.
-              runs.piece.follows exits i reach holds variables fits operands turns state
-              ∙ dropped_same exits (i + size) operands (eval here e variables turns state);
-        };
+        follows = λ exits i reach holds variables fits operands turns state.
+            runs.follows exits i reach holds variables fits operands turns state
+            ∙ dropped_same exits (i + size) operands (eval here e variables turns state);
       }
 
   -- ---- statements
@@ -270,14 +255,9 @@ module _ {S : Type 0} (site : Site S) (numbers : Numbers)
   -- every construct
   layers : (y : Stmt-F Part) → Layer (map-Stmt Part Stmt (λ s. s.0) y)
   layers Stmt-F.Empty met = empty_runs site
-  layers (Stmt-F.Expr e) met =
-      effect_runs (out-Expr e) e (roll-out-Expr e) met
-  layers (Stmt-F.Block ss) met =
-      all_run site (map (run here) (map (λ (s : Part). s.0) ss))
-      (map (stmt_code numbers) (map (λ (s : Part). s.0) ss)) (block_runs ss met)
-  layers (Stmt-F.Vars pairs) met =
-      all_run site (map (declared here) pairs) (map (declared_code numbers) pairs)
-      (variables_run pairs met)
+  layers (Stmt-F.Expr e) met = effect_runs (out-Expr e) e (roll-out-Expr e) met
+  layers (Stmt-F.Block ss) met = block_runs ss met
+  layers (Stmt-F.Vars pairs) met = variables_run pairs met
   layers (Stmt-F.If c s None) met =
       branch_runs site (eval here c) (run here s.0) (expr_code numbers c) (stmt_code numbers s.0)
       (expr_agrees c (met_front site numbers (expr_needs c) _ met))

@@ -1,9 +1,9 @@
 -- Statements and their code agree, by the ways in which they are made.
-use Rattle.std.proofs.Common.{◌≡◌, ℕ, ◌+◌, ◌<◌, ◌≤◌, Bool, true, false, List, [], ◌∷◌, length, Some}
-use Rattle.std.proofs.Common.{None, refl, sym, ap, ◌∙◌, subst, arith, slice_get}
+use Rattle.std.proofs.Common.{◌≡◌, ℕ, ◌+◌, ◌<◌, Bool, true, false, List, [], length, Some}
+use Rattle.std.proofs.Common.{None, refl, sym, ◌∙◌, subst, arith, slice_get}
 use Rattle.std.specs.Prelude.{if◌then◌else◌}
 use Rattle.wap_value.specs.declared.value.Value.{Value}
-use Rattle.wap_value.specs.declared.value.Value.TheVariants.{Str}
+use Rattle.wap_value.specs.declared.value.Value.TheVariants.{Str, Invalid}
 use Rattle.wap_value.specs.declared.operator.UnOp.{UnOp}
 use Rattle.wap_value.specs.declared.operator.UnOp.TheVariants as un
 use Rattle.wap_value.specs.Unary.{unary_of}
@@ -13,28 +13,25 @@ use Rattle.wap_execution.specs.Actions.{action_of}
 use Rattle.wap_execution.specs.Effects.{jumps_at, effect_of}
 use Rattle.wap_execution.specs.Outcomes.{value, Ended}
 use Rattle.wap_execution.specs.Running.{ended}
-use Rattle.wap_meaning.specs.SourceParts.{Came, Does, ◌>>=◌, done, give, load, store}
+use Rattle.wap_meaning.specs.SourceParts.{Does, ◌>>=◌, done, give, load, store}
 use Rattle.wap_meaning.specs.Expressions.{assigned, stepped, step_of}
 use Rattle.wap_meaning.specs.Statements.{Ending, goes_on, breaks, continues, returns, if_goes_on}
-use Rattle.wap_meaning.specs.Statements.{and_then, in_order, dropped}
+use Rattle.wap_meaning.specs.Statements.{and_then, dropped}
 use Rattle.wap_meaning.specs.coding.Coded.{Exits, Coded, empty, one, ◌⨾◌, instr, plain}
 use Rattle.wap_meaning.specs.coding.Coded.{with_operand}
-use Rattle.wap_meaning.specs.coding.Coded.{all_code}
 use Rattle.wap_meaning.specs.coding.Expressions.{store_code, change_name}
 use Rattle.wap_meaning.specs.coding.Statements.{exit_form, dropped_code}
-use Rattle.wap_meaning.proofs.Following.{from_done, from_done_where, keeps_both, lessened}
-use Rattle.wap_meaning.specs.Keeping.{Lessens, Keeps}
-use Rattle.wap_compiled_laws.proofs.Pieces.Pieces.{front, behind, Sized, sized_both, Site, spot}
-use Rattle.wap_compiled_laws.proofs.Pieces.Pieces.{After, onto}
-use Rattle.wap_compiled_laws.proofs.Pieces.Pieces.{Reaches, nearer, Piece, both, op_here, op_piece}
+use Rattle.wap_meaning.proofs.Following.{from_done, gave_any, keeps_both}
+use Rattle.wap_compiled_laws.proofs.Pieces.Pieces.{Holds, Site, spot, empty_piece, in_turn, After}
+use Rattle.wap_compiled_laws.proofs.Pieces.Pieces.{onto, Reaches, Piece, both, op_here, op_piece}
 use Rattle.wap_compiled_laws.proofs.Pieces.Instructions.{as_is, pushed, nothing, store_piece}
 use Rattle.wap_compiled_laws.proofs.Pieces.Assignments.{from_same, from_from, piece_same}
 use Rattle.wap_compiled_laws.proofs.Pieces.Assignments.{change_piece}
-use Rattle.wap_compiled_laws.proofs.Pieces.Jumps.{HasLabel, jump_here, Shifts, branches}
-use Rattle.wap_compiled_laws.proofs.Pieces.Jumps.{branches_piece}
-use Rattle.wap_compiled_laws.proofs.Pieces.Sizes.{sized_branches}
-use Rattle.wap_compiled_laws.proofs.Expressions.Agreeing.{Agrees, choice_keeps}
-use Rattle.wap_meaning.proofs.KeepingParts.{give_keeps, load_keeps, store_keeps}
+use Rattle.wap_compiled_laws.proofs.Pieces.Jumps.{HasLabel, jump_here, Shifts, branches_piece}
+use Rattle.wap_compiled_laws.proofs.Pieces.Sizes.{branches}
+use Rattle.wap_compiled_laws.proofs.Expressions.Agreeing.{Agrees}
+use Rattle.wap_meaning.proofs.KeepingParts.{give_keeps}
+use Rattle.wap_meaning.proofs.Trees.{if_goes_on_keeps}
 use Rattle.wap_unit.specs.declared.row.OpName.TheVariants as op
 
 module _ {S : Type 0} (site : Site S) where
@@ -63,86 +60,34 @@ module _ {S : Type 0} (site : Site S) where
   leaves_shifts exits i n same operands (returns v) variables turns state = refl
 
   -- a statement and its code agree
-  pub record Runs (does : Does Ending S) (coded : Coded) : Type 0 where
-    pub sized : Sized coded
-    pub falls : Keeps does
-    pub piece : Piece site does coded as_is leaves
+  abbrev pub Runs : Does Ending S → Coded → Type 0
+  Runs does coded = Piece site does coded as_is leaves
 
   -- ---- one statement after the other
-
-  -- what follows a statement keeps turns and variables
-  goes_on_keeps : (next : Does Ending S) → Keeps next → (ending : Ending)
-      → Keeps (if_goes_on next ending)
-  goes_on_keeps next falls goes_on = falls
-  goes_on_keeps next falls breaks = give_keeps breaks
-  goes_on_keeps next falls continues = give_keeps continues
-  goes_on_keeps next falls (returns v) = give_keeps (returns v)
 
   -- one statement after the other
   pub runs_both : (does next : Does Ending S) (first second : Coded) → Runs does first
       → Runs next second → Runs (and_then does next) (first ⨾ second)
-  runs_both does next first second ones twos = record {
-    sized = sized_both first second ones.sized twos.sized;
-    falls = keeps_both does (if_goes_on next) ones.falls (goes_on_keeps next twos.falls);
-    piece = record {
-      follows = λ exits i reach holds variables fits operands turns state.
-          let e : i + first.size + second.size ≡ i + (first.size + second.size) = omega arith in
-          let some = first.forms exits i in
-          let other = second.forms exits (i + first.size) in
-          ones.piece.follows exits i (nearer site exits (i + first.size)
-          (i + (first.size + second.size)) (omega arith) reach)
-          (front site.forms i some other holds) variables fits operands turns state
-          ∙ from_done_where (λ ending vs left. (left ≤ turns) × (length vs ≡ length variables))
-          (does variables turns state) (if_goes_on next)
-          (leaves exits (i + first.size) operands)
-          (leaves exits (i + (first.size + second.size)) operands)
-          (lessened variables turns (does variables turns state) (ones.falls variables turns state))
-          (λ ending vs left later less. by exits (i + first.size) (i + (first.size + second.size))
-          operands vs left later ending
-          (twos.piece.follows exits (i + first.size) (subst (Reaches site exits) (sym e) reach)
-          (behind site.forms i first.size some other holds (ones.sized exits i)) vs
-          (less.1 ∙ fits) operands left later
-          ∙ ap (λ (n : ℕ). done (next vs left later) (leaves exits n operands)) e));
-    };
-  }
+  runs_both does next first second ones twos =
+      in_turn site (λ ending. Unit {0}) does (if_goes_on next) first second as_is leaves leaves ones
+      (λ variables turns state. gave_any (does variables turns state)) twos.sized
+      (if_goes_on_keeps next twos.falls) (λ ending _. by ending)
     where
-      by : (exits : Exits) (middle end : ℕ) (operands vs : List Value) (left : ℕ) (later : S)
-          (ending : Ending)
-          → spot site middle vs operands left later
-          ≡ done (next vs left later) (leaves exits end operands)
-          → leaves exits middle operands ending vs left later
-          ≡ done (if_goes_on next ending vs left later) (leaves exits end operands)
-      by exits middle end operands vs left later goes_on goes = goes
-      by exits middle end operands vs left later breaks goes = refl
-      by exits middle end operands vs left later continues goes = refl
-      by exits middle end operands vs left later (returns v) goes = refl
+      by : (ending : Ending) (exits : Exits) (i : ℕ) → Reaches site exits (i + second.size)
+          → Holds site.forms i (second.forms exits i)
+          → (variables : List Value) → length variables ≡ site.count
+          → (operands : List Value) (turns : ℕ) (state : S)
+          → leaves exits i operands ending variables turns state
+          ≡ done (if_goes_on next ending variables turns state)
+          (leaves exits (i + second.size) operands)
+      by goes_on = twos.follows
+      by breaks = λ exits i reach holds variables fits operands turns state. refl
+      by continues = λ exits i reach holds variables fits operands turns state. refl
+      by (returns v) = λ exits i reach holds variables fits operands turns state. refl
 
   -- no statement
   pub empty_runs : Runs (give goes_on) empty
-  empty_runs = record {
-    sized = λ exits i. refl;
-    falls = give_keeps goes_on;
-    piece = record {
-      follows = λ exits i reach holds variables fits operands turns state.
-          let e : i ≡ i + 0 = omega arith in
-          ap (λ (n : ℕ). spot site n variables operands turns state) e;
-    };
-  }
-
-  -- statements and their codes agree in order
-  abbrev pub AllRun : List (Does Ending S) → List Coded → Type 0
-  AllRun [] [] = Unit {0}
-  AllRun (does ∷ more) (coded ∷ codes) = Runs does coded × AllRun more codes
-  AllRun _ _ = ⊥
-
-  -- statements in order
-  pub all_run : (parts : List (Does Ending S)) (codes : List Coded) → AllRun parts codes
-      → Runs (in_order parts) (all_code codes)
-  all_run [] [] all = empty_runs
-  all_run [] (coded ∷ codes) all = absurd all
-  all_run (does ∷ parts) [] all = absurd all
-  all_run (does ∷ parts) (coded ∷ codes) all =
-      runs_both does (in_order parts) coded (all_code codes) all.0 (all_run parts codes all.1)
+  empty_runs = empty_piece site goes_on leaves (λ exits i operands variables turns state. refl)
 
   -- ---- expressions as statements
 
@@ -150,63 +95,44 @@ module _ {S : Type 0} (site : Site S) where
   pub dropped_runs : (does : Does Value S) (coded : Coded) → Agrees site does coded
       → Runs (dropped does) (dropped_code coded)
   unfolding effect_of
-  dropped_runs does coded agrees = record {
-    sized = sized_both coded (plain op.Pop) agrees.sized (λ exits i. refl);
-    falls = keeps_both does (λ v. give goes_on) agrees.falls (λ v. give_keeps goes_on);
-    piece = both site does (λ v. give goes_on) coded (plain op.Pop) as_is pushed leaves
-        agrees.sized agrees.falls agrees.piece
-        (λ v. op_piece site (give goes_on) op.Pop 0 0 0 (pushed v) leaves
-        (λ exits place i other variables operands turns state. refl));
+  dropped_runs does coded agrees =
+      both site does (λ v. give goes_on) coded (plain op.Pop) as_is pushed leaves Invalid agrees
+      (λ v. op_piece site (give goes_on) op.Pop 0 0 0 (pushed v) leaves (give_keeps goes_on)
+      (λ exits place i other variables operands turns state. refl))
+
+  -- what leaves no operand, and the next statement follows
+  goes_on_behind : (does : Does (Unit {0}) S) (coded : Coded) (pop : List Value → List Value)
+      → Piece site does coded pop (onto site nothing)
+      → Piece site (does >>= λ _. give goes_on) coded pop leaves
+  goes_on_behind does coded pop piece = record {
+    sized = piece.sized;
+    falls = keeps_both does (λ _. give goes_on) piece.falls (λ _. give_keeps goes_on);
+    follows = λ exits i reach holds variables fits operands turns state.
+        piece.follows exits i reach holds variables fits operands turns state
+        ∙ from_done (does variables turns state) (λ _. give goes_on)
+        (onto site nothing exits (i + coded.size) operands) (leaves exits (i + coded.size) operands)
+        (λ _ vs left later. refl);
   }
 
   -- a variable is written, and the next statement follows
   stored_piece : (index : ℕ) (v : Value)
       → Piece site (store index v >>= λ _. give goes_on) (store_code index) (pushed v) leaves
-  stored_piece index v = record {
-    follows = λ exits i reach holds variables fits operands turns state.
-        (store_piece site index v).follows exits i reach holds variables fits operands turns state
-        ∙ from_done (store index v variables turns state) (λ _. give goes_on)
-        (onto site nothing exits (i + 1) operands) (leaves exits (i + 1) operands)
-        (λ _ vs left later. refl);
-  }
-
-  -- which keeps turns and variables
-  stored_keeps : (index : ℕ) (v : Value)
-      → Keeps {A = Ending} {S = S} (store index v >>= λ _. give goes_on)
-  stored_keeps index v =
-      keeps_both (store index v) (λ _. give goes_on) (store_keeps index v)
-      (λ _. give_keeps goes_on)
+  stored_piece index v = goes_on_behind (store index v) (store_code index) (pushed v)
+      (store_piece site index v)
 
   -- a variable that gets a value
   pub declared_runs : (index : ℕ) (does : Does Value S) (coded : Coded) → Agrees site does coded
       → Runs (does >>= λ v. store index v >>= λ _. give goes_on) (coded ⨾ store_code index)
-  declared_runs index does coded agrees = record {
-    sized = sized_both coded (store_code index) agrees.sized (λ exits i. refl);
-    falls = keeps_both does (λ v. store index v >>= λ _. give goes_on) agrees.falls
-        (stored_keeps index);
-    piece = both site does (λ v. store index v >>= λ _. give goes_on) coded (store_code index)
-        as_is pushed leaves agrees.sized agrees.falls agrees.piece (stored_piece index);
-  }
-
-  -- a part that comes to the same
-  runs_same : (does other : Does Ending S) (coded : Coded)
-      → ((variables : List Value) (turns : ℕ) (state : S)
-      → does variables turns state ≡ other variables turns state)
-      → Runs does coded → Runs other coded
-  runs_same does other coded same runs = record {
-    sized = runs.sized;
-    falls = λ variables turns state.
-        subst (λ (came : Came Ending S). Lessens variables turns came) (same variables turns state)
-        (runs.falls variables turns state);
-    piece = piece_same site does other coded as_is leaves same runs.piece;
-  }
+  declared_runs index does coded agrees =
+      both site does (λ v. store index v >>= λ _. give goes_on) coded (store_code index) as_is
+      pushed leaves Invalid agrees (stored_piece index)
 
   -- an assignment whose value is dropped: it is stored, and not loaded again
   pub assigned_runs : (index : ℕ) (right : Does Value S) (coded : Coded) → Agrees site right coded
       → Runs (dropped (assigned site.string index None right)) (coded ⨾ store_code index)
   assigned_runs index right coded agrees =
-      runs_same (right >>= λ v. store index v >>= λ _. give goes_on)
-      (dropped (assigned site.string index None right)) (coded ⨾ store_code index)
+      piece_same site (right >>= λ v. store index v >>= λ _. give goes_on)
+      (dropped (assigned site.string index None right)) (coded ⨾ store_code index) as_is leaves
       (λ variables turns state. sym
       (from_from (right variables turns state) (λ v. store index v >>= λ _. give v)
       (λ _. give goes_on)
@@ -216,26 +142,6 @@ module _ {S : Type 0} (site : Site S) where
       (λ v vs left later. from_from (store index v vs left later) (λ _. give v)
       (λ _. give goes_on))))
       (declared_runs index right coded agrees)
-
-  -- a step, and the next statement follows
-  change_runs : (index : ℕ) (name : OpName) (unop : UnOp)
-      → action_of name ≡ ChangeVariable unop
-      → Runs ((load index >>= λ old. store index (unary_of unop old)) >>= λ _. give goes_on)
-      (with_operand name index)
-  change_runs index name unop acts = record {
-    sized = λ exits i. refl;
-    falls = keeps_both (load index >>= λ old. store index (unary_of unop old)) (λ _. give goes_on)
-        (keeps_both (load index) (λ old. store index (unary_of unop old)) (load_keeps index)
-        (λ old. store_keeps index (unary_of unop old))) (λ _. give_keeps goes_on);
-    piece = record {
-      follows = λ exits i reach holds variables fits operands turns state.
-          (change_piece site index name unop acts).follows exits i reach holds variables fits
-          operands turns state
-          ∙ from_done ((load index >>= λ old. store index (unary_of unop old)) variables turns
-          state) (λ _. give goes_on) (onto site nothing exits (i + 1) operands)
-          (leaves exits (i + 1) operands) (λ _ vs left later. refl);
-    };
-  }
 
   -- a step whose value is dropped: it isn't loaded
   stepped_same : (index : ℕ) (unop : UnOp) (prefix : Bool) (variables : List Value) (turns : ℕ)
@@ -255,52 +161,45 @@ module _ {S : Type 0} (site : Site S) where
       ∙ sym (from_from (load index variables turns state)
       (λ old. store index (unary_of unop old) >>= λ _. give (which old)) (λ _. give goes_on))
 
+  -- a step, and the next statement follows
+  change_runs : (index : ℕ) (name : OpName) (unop : UnOp) (prefix : Bool)
+      → action_of name ≡ ChangeVariable unop
+      → Runs (dropped (stepped index unop prefix)) (with_operand name index)
+  change_runs index name unop prefix acts =
+      let changes = load index >>= λ old. store index (unary_of unop old) in
+      piece_same site (changes >>= λ _. give goes_on) (dropped (stepped index unop prefix))
+      (with_operand name index) as_is leaves (stepped_same index unop prefix)
+      (goes_on_behind changes (with_operand name index) as_is
+      (change_piece site index name unop acts))
+
   -- up or down
   pub stepped_runs : (index : ℕ) (up prefix : Bool)
       → Runs (dropped (stepped index (step_of up) prefix)) (with_operand (change_name up) index)
-  stepped_runs index true prefix =
-      runs_same
-      ((load index >>= λ old. store index (unary_of un.Incr old)) >>= λ _. give goes_on)
-      (dropped (stepped index un.Incr prefix)) (with_operand op.IncrVar index)
-      (stepped_same index un.Incr prefix) (change_runs index op.IncrVar un.Incr refl)
-  stepped_runs index false prefix =
-      runs_same
-      ((load index >>= λ old. store index (unary_of un.Decr old)) >>= λ _. give goes_on)
-      (dropped (stepped index un.Decr prefix)) (with_operand op.DecrVar index)
-      (stepped_same index un.Decr prefix) (change_runs index op.DecrVar un.Decr refl)
+  stepped_runs index true prefix = change_runs index op.IncrVar un.Incr prefix refl
+  stepped_runs index false prefix = change_runs index op.DecrVar un.Decr prefix refl
 
   -- the empty text
   pub empty_agrees : Agrees site (give (Str [])) (plain op.ConstEs)
   unfolding effect_of
-  empty_agrees = record {
-    sized = λ exits i. refl;
-    falls = give_keeps (Str []);
-    piece = op_piece site (give (Str [])) op.ConstEs 0 0 0 as_is (onto site pushed)
-        (λ exits place i other variables operands turns state. refl);
-  }
+  empty_agrees =
+      op_piece site (give (Str [])) op.ConstEs 0 0 0 as_is (onto site pushed) (give_keeps (Str []))
+      (λ exits place i other variables operands turns state. refl)
 
   -- a value is returned
   pub returned_runs : (does : Does Value S) (coded : Coded) → Agrees site does coded
       → Runs (does >>= λ v. give (returns v)) (coded ⨾ plain op.Return)
   unfolding effect_of
-  returned_runs does coded agrees = record {
-    sized = sized_both coded (plain op.Return) agrees.sized (λ exits i. refl);
-    falls = keeps_both does (λ v. give (returns v)) agrees.falls (λ v. give_keeps (returns v));
-    piece = both site does (λ v. give (returns v)) coded (plain op.Return) as_is pushed leaves
-        agrees.sized agrees.falls agrees.piece
-        (λ v. op_piece site (give (returns v)) op.Return 0 0 0 (pushed v) leaves
-        (λ exits place i other variables operands turns state. refl));
-  }
+  returned_runs does coded agrees =
+      both site does (λ v. give (returns v)) coded (plain op.Return) as_is pushed leaves Invalid
+      agrees (λ v. op_piece site (give (returns v)) op.Return 0 0 0 (pushed v) leaves
+      (give_keeps (returns v)) (λ exits place i other variables operands turns state. refl))
 
   -- the empty text is returned
   pub ended_runs : Runs (give (returns (Str []))) (plain op.ReturnEs)
   unfolding effect_of
-  ended_runs = record {
-    sized = λ exits i. refl;
-    falls = give_keeps (returns (Str []));
-    piece = op_piece site (give (returns (Str []))) op.ReturnEs 0 0 0 as_is leaves
-        (λ exits place i other variables operands turns state. refl);
-  }
+  ended_runs =
+      op_piece site (give (returns (Str []))) op.ReturnEs 0 0 0 as_is leaves
+      (give_keeps (returns (Str []))) (λ exits place i other variables operands turns state. refl)
 
   -- ---- exits
 
@@ -324,12 +223,10 @@ module _ {S : Type 0} (site : Site S) where
   break_runs = record {
     sized = λ exits i. refl;
     falls = give_keeps breaks;
-    piece = record {
-      follows = λ exits i reach holds variables fits operands turns state.
-          exit_here exits i (λ labels. labels.0)
-          (λ labels is. let r = subst (λ exits. Reaches site exits (i + 1)) is reach in
-          (r.0, (omega (arith, r.1)))) holds.0 variables operands turns state;
-    };
+    follows = λ exits i reach holds variables fits operands turns state.
+        exit_here exits i (λ labels. labels.0)
+        (λ labels is. let r = subst (λ exits. Reaches site exits (i + 1)) is reach in
+        (r.0, (omega (arith, r.1)))) holds.0 variables operands turns state;
   }
 
   -- `continue`
@@ -338,12 +235,10 @@ module _ {S : Type 0} (site : Site S) where
   continue_runs = record {
     sized = λ exits i. refl;
     falls = give_keeps continues;
-    piece = record {
-      follows = λ exits i reach holds variables fits operands turns state.
-          exit_here exits i (λ labels. labels.1)
-          (λ labels is. let r = subst (λ exits. Reaches site exits (i + 1)) is reach in
-          (r.2, (omega (arith, r.3)))) holds.0 variables operands turns state;
-    };
+    follows = λ exits i reach holds variables fits operands turns state.
+        exit_here exits i (λ labels. labels.1)
+        (λ labels is. let r = subst (λ exits. Reaches site exits (i + 1)) is reach in
+        (r.2, (omega (arith, r.3)))) holds.0 variables operands turns state;
   }
 
   -- ---- choices
@@ -352,13 +247,7 @@ module _ {S : Type 0} (site : Site S) where
   pub choice_runs : (c : Does Value S) (first second : Does Ending S) (one two three : Coded)
       → Agrees site c one → Runs first two → Runs second three
       → Runs (c >>= λ v. if jumps_at v then second else first) (one ⨾ branches two three)
-  choice_runs c first second one two three ones twos threes = record {
-    sized = sized_both one (branches two three) ones.sized
-        (sized_branches two three twos.sized threes.sized);
-    falls = keeps_both c (λ v. if jumps_at v then second else first) ones.falls
-        (λ v. choice_keeps site (jumps_at v) first second twos.falls threes.falls);
-    piece = both site c (λ v. if jumps_at v then second else first) one (branches two three) as_is
-        pushed leaves ones.sized ones.falls ones.piece
-        (λ v. branches_piece site v first second two three leaves twos.sized threes.sized
-        leaves_shifts twos.piece threes.piece);
-  }
+  choice_runs c first second one two three ones twos threes =
+      both site c (λ v. if jumps_at v then second else first) one (branches two three) as_is pushed
+      leaves Invalid ones
+      (λ v. branches_piece site v first second two three leaves leaves_shifts twos threes)

@@ -3,8 +3,8 @@ use Rattle.std.proofs.Common.{◌≡◌, ◌↔◌, ℕ, ◌≤◌, ◌^◌, ltb
 use Rattle.std.proofs.Common.{◌∷◌, length, Option, Some, None, Result, Ok, Err, refl, sym, ap}
 use Rattle.std.proofs.Common.{◌∙◌, inl, inr, arith}
 use Rattle.std.specs.Prelude.{◌&&◌, is_none, option_and_then}
-use Rattle.std.specs.List.{All, AllByRecursion, list_all}
-use Rattle.std.specs.Str.{IsUtf8, is_utf8}
+use Rattle.std.specs.List.{AllByRecursion, list_all}
+use Rattle.std.specs.Str.{is_utf8}
 use Rattle.std.proofs.lemmas.Bool.{ltb-true, lt-ltb, leb-true, le-leb, and_parts}
 use Rattle.std.proofs.lemmas.Str.{IsUtf8-from_is_utf8, is_utf8-from_IsUtf8}
 use Rattle.std.proofs.lemmas.List.Elements.{recursion_from_All, All-from_recursion}
@@ -31,8 +31,8 @@ use Rattle.wap_meaning.specs.compiled.Pool.{pool}
 use Rattle.wap_meaning.specs.compiled.Wide.{function_wide}
 use Rattle.wap_meaning.specs.compiled.Accepted.{most_constants, most_code, IsSourceOf, HasRoom}
 use Rattle.wap_meaning.specs.compiled.Accepted.{IsAccepted}
-use Rattle.wap_meaning.specs.accepted.AcceptedPrograms.{tokens_at, read, spelled_by, is_short, fits, if_fits}
-use Rattle.wap_meaning.specs.accepted.AcceptedPrograms.{accepted_in}
+use Rattle.wap_meaning.specs.accepted.AcceptedPrograms.{tokens_at, read, spelled_by, is_short, fits}
+use Rattle.wap_meaning.specs.accepted.AcceptedPrograms.{if_fits, accepted_in}
 
 -- ---- room, and names in order
 
@@ -65,7 +65,8 @@ fits_so p is =
     let parts =
     and_parts (is_none (first_fault (faults p)))
     (leb (length (pool p)) most_constants && list_all is_short p.functions) is in
-    let rest = and_parts (leb (length (pool p)) most_constants) (list_all is_short p.functions) parts.1 in (
+    let rest =
+    and_parts (leb (length (pool p)) most_constants) (list_all is_short p.functions) parts.1 in (
       scoped_without_faults p (none_first (faults p) parts.0),
       record {
         constants = leb-true (length (pool p)) most_constants rest.0;

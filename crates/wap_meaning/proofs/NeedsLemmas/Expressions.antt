@@ -1,7 +1,6 @@
 -- What an expression needs is drawn from the tokens that spell it.
 use Rattle.std.proofs.Common.{◌≡◌, ℕ, zero, suc, true, false, List, [], ◌∷◌, ◌++◌, Option, Some}
-use Rattle.std.proofs.Common.{None}
-use Rattle.std.proofs.Common.{refl, length}
+use Rattle.std.proofs.Common.{None, refl, length}
 use Rattle.std.specs.List.{flat_map}
 use Rattle.wap_value.specs.declared.operator.BinOp.{BinOp}
 use Rattle.wap_value.specs.declared.operator.BinOp.TheVariants as op
@@ -27,10 +26,9 @@ use Rattle.wap_meaning.specs.coding.Needs.{Need, literal_needs, assign_needs, ex
 use Rattle.wap_meaning.specs.coding.Needs as need
 use Rattle.wap_meaning.specs.needs.Drawn.{Drawn, no_more, skip, here}
 use Rattle.wap_meaning.proofs.NeedsLemmas.Drawing.{in_a_row, same, past, Draws, several}
-use Rattle.wap_meaning.proofs.NeedsLemmas.TreeNeeds.{of_literal, of_variable, of_assignment, of_step}
-use Rattle.wap_meaning.proofs.NeedsLemmas.TreeNeeds.{of_unary}
-use Rattle.wap_meaning.proofs.NeedsLemmas.TreeNeeds.{of_chain, of_choice, of_local, of_external}
-use Rattle.wap_meaning.proofs.NeedsLemmas.TreeNeeds.{of_library}
+use Rattle.wap_meaning.proofs.NeedsLemmas.TreeNeeds.{of_literal, of_variable, of_assignment}
+use Rattle.wap_meaning.proofs.NeedsLemmas.TreeNeeds.{of_step, of_unary, of_chain, of_choice}
+use Rattle.wap_meaning.proofs.NeedsLemmas.TreeNeeds.{of_local, of_external, of_library}
 
 -- ---- what is called
 

@@ -17,8 +17,7 @@ use Rattle.wap_lex.specs.declared.token.Token.{Token}
 use Rattle.wap_grammar.specs.declared.lexeme.Lexeme.{Lexeme}
 use Rattle.wap_grammar.specs.declared.word.Word.{Word}
 use Rattle.wap_grammar.specs.declared.word.Word.TheVariants as word
-use Rattle.wap_grammar.specs.Lexemes.{word_rows, word_spelled, word_of_kind, text_in}
-use Rattle.wap_grammar.specs.Lexemes.{lexemes_of}
+use Rattle.wap_grammar.specs.Lexemes.{word_rows, word_spelled, word_of_kind, text_in, lexemes_of}
 use Rattle.wap_grammar.specs.Programs.{Spells}
 use Rattle.wap_meaning.specs.coding.Needs.{Need, Constant, Operator, Variable, Local, Other}
 use Rattle.wap_meaning.specs.coding.Needs.{Library}

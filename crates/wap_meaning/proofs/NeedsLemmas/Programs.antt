@@ -1,5 +1,5 @@
 -- What a program needs is drawn from the tokens that spell it.
-use Rattle.std.proofs.Common.{◌≡◌, ℕ, Bool, List, [], ◌∷◌, ◌++◌, Option, refl}
+use Rattle.std.proofs.Common.{ℕ, Bool, List, [], ◌∷◌, ◌++◌, Option, refl}
 use Rattle.std.specs.List.{flat_map}
 use Rattle.wap_grammar.specs.declared.program.program.Span.{Span}
 use Rattle.wap_grammar.specs.declared.program.program.Id.{Id}

@@ -18,13 +18,12 @@ use Rattle.wap_grammar.specs.Statements.{IsDeclaration, IsOptional, done_first, 
 use Rattle.wap_grammar.specs.Statements.{IsCondition, IsElse, IsStatementOf, IsStatement}
 use Rattle.wap_grammar.specs.Statements as stated
 use Rattle.wap_meaning.specs.coding.Needs.{Need, Variable, expr_needs, optional_needs}
-use Rattle.wap_meaning.specs.coding.Needs.{declared_needs}
-use Rattle.wap_meaning.specs.coding.Needs.{stmt_needs}
+use Rattle.wap_meaning.specs.coding.Needs.{declared_needs, stmt_needs}
 use Rattle.wap_meaning.specs.needs.Drawn.{Drawn, no_more, skip, here}
 use Rattle.wap_meaning.proofs.NeedsLemmas.Drawing.{in_a_row, same, past, Draws, several, listed}
-use Rattle.wap_meaning.proofs.NeedsLemmas.TreeNeeds.{of_empty, of_value, of_block, of_variables, of_if}
-use Rattle.wap_meaning.proofs.NeedsLemmas.TreeNeeds.{of_else}
-use Rattle.wap_meaning.proofs.NeedsLemmas.TreeNeeds.{of_while, of_for, of_break, of_continue, of_return}
+use Rattle.wap_meaning.proofs.NeedsLemmas.TreeNeeds.{of_empty, of_value, of_block, of_variables}
+use Rattle.wap_meaning.proofs.NeedsLemmas.TreeNeeds.{of_if, of_else, of_while, of_for, of_break}
+use Rattle.wap_meaning.proofs.NeedsLemmas.TreeNeeds.{of_continue, of_return}
 use Rattle.wap_meaning.proofs.NeedsLemmas.Expressions.{draws_expression}
 
 -- what a statement needs that may be missing

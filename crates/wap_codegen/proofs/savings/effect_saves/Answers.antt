@@ -35,7 +35,8 @@ returns-in-Chain c =
 
 pub returns-in-Cond : goal.returns-in-Cond
 returns-in-Cond c =
-    sym (of_choice c.args.expression.now c.in-Cond.field-0 c.in-Cond.field-1 c.in-Cond.field-2 c.in-Cond.is)
+    sym (of_choice c.args.expression.now c.in-Cond.field-0 c.in-Cond.field-1 c.in-Cond.field-2
+    c.in-Cond.is)
 
 pub returns-in-Call : goal.returns-in-Call
 returns-in-Call c =
@@ -43,8 +44,10 @@ returns-in-Call c =
 
 pub returns-in-External : goal.returns-in-External
 returns-in-External c =
-    sym (of_external c.args.expression.now c.in-External.field-0 c.in-External.field-1 c.in-External.field-2 c.in-External.is)
+    sym (of_external c.args.expression.now c.in-External.field-0 c.in-External.field-1
+    c.in-External.field-2 c.in-External.is)
 
 pub returns-in-Library : goal.returns-in-Library
 returns-in-Library c =
-    sym (of_library c.args.expression.now c.in-Library.field-0 c.in-Library.field-1 c.in-Library.field-2 c.in-Library.is)
+    sym (of_library c.args.expression.now c.in-Library.field-0 c.in-Library.field-1
+    c.in-Library.field-2 c.in-Library.is)

@@ -4,16 +4,14 @@ use Rattle.wap_meaning.specs.coding.Coded.{◌⨾◌, all_code, with_operand}
 use Rattle.wap_meaning.specs.coding.Expressions.{expr_code, assigned_code, step_code, joined_code}
 use Rattle.wap_meaning.specs.coding.Expressions.{cond_code}
 use Rattle.wap_codegen.specs.emission.inside.Operands.{joint_code}
-use Rattle.wap_codegen.proofs.EmissionLemmas.EmittedExpressions.{of_literal, of_variable, of_assignment, of_step}
-use Rattle.wap_codegen.proofs.EmissionLemmas.EmittedExpressions.{of_unary}
-use Rattle.wap_codegen.proofs.EmissionLemmas.EmittedExpressions.{of_chain, of_choice, of_local, of_external}
-use Rattle.wap_codegen.proofs.EmissionLemmas.EmittedExpressions.{of_library}
-use Rattle.wap_codegen.proofs.EmissionLemmas.EmittedExpressions.{call_code, part_same, parts_same, chains_same}
-use Rattle.wap_codegen.proofs.EmissionLemmas.Chaining.{adds_same, after_same, after_both}
-use Rattle.wap_codegen.proofs.EmissionLemmas.Chaining.{after_assignment}
-use Rattle.wap_codegen.proofs.EmissionLemmas.Chaining.{after_chain, cond_adds, leaves_more}
-use Rattle.wap_codegen.proofs.EmissionLemmas.Chaining.{leaves_none}
-use Rattle.wap_codegen.proofs.EmissionLemmas.Chaining.{operands_more, operand_adds}
+use Rattle.wap_codegen.proofs.EmissionLemmas.EmittedExpressions.{of_literal, of_variable}
+use Rattle.wap_codegen.proofs.EmissionLemmas.EmittedExpressions.{of_assignment, of_step, of_unary}
+use Rattle.wap_codegen.proofs.EmissionLemmas.EmittedExpressions.{of_chain, of_choice, of_local}
+use Rattle.wap_codegen.proofs.EmissionLemmas.EmittedExpressions.{of_external, of_library, call_code}
+use Rattle.wap_codegen.proofs.EmissionLemmas.EmittedExpressions.{part_same, parts_same, chains_same}
+use Rattle.wap_codegen.proofs.EmissionLemmas.Chaining.{adds_same, after_same, after_both, cond_adds}
+use Rattle.wap_codegen.proofs.EmissionLemmas.Chaining.{after_assignment, after_chain, operands_more}
+use Rattle.wap_codegen.proofs.EmissionLemmas.Chaining.{leaves_more, leaves_none, operand_adds}
 use Rattle.wap_codegen.proofs.emission.expressions.+expressions.Goals as goal
 
 pub add_expression-returns-in-Lit : goal.add_expression-returns-in-Lit

@@ -11,20 +11,17 @@ use Rattle.wap_grammar.specs.declared.program.statement.Stmt.TheVariants as stmt
 use Rattle.wap_meaning.specs.coding.Coded.{empty, ◌⨾◌, all_code}
 use Rattle.wap_meaning.specs.coding.Expressions.{expr_code, cond_code}
 use Rattle.wap_meaning.specs.coding.Statements.{stmt_code, branch_code, declared_code, loop_code}
-use Rattle.wap_meaning.specs.coding.Statements.{test_code}
-use Rattle.wap_meaning.specs.coding.Statements.{update_code}
+use Rattle.wap_meaning.specs.coding.Statements.{test_code, update_code}
 use Rattle.wap_codegen.specs.emission.inside.Exits.{exits_in}
 use Rattle.wap_codegen.proofs.EmissionLemmas.Extending.{adds_empty}
 use Rattle.wap_codegen.proofs.EmissionLemmas.Chaining.{adds_same, cond_adds, leaves_more}
 use Rattle.wap_codegen.proofs.EmissionLemmas.Chaining.{leaves_none}
 use Rattle.wap_codegen.proofs.EmissionLemmas.Branching.{branch_adds, in_same, in_any, in_both}
-use Rattle.wap_codegen.proofs.EmissionLemmas.Branching.{in_break}
-use Rattle.wap_codegen.proofs.EmissionLemmas.Branching.{in_continue}
+use Rattle.wap_codegen.proofs.EmissionLemmas.Branching.{in_break, in_continue}
 use Rattle.wap_codegen.proofs.EmissionLemmas.Looping.{whole_loop}
 use Rattle.wap_codegen.proofs.EmissionLemmas.StatementParts.{of_empty, of_block, of_variables}
-use Rattle.wap_codegen.proofs.EmissionLemmas.StatementParts.{of_if, of_else}
-use Rattle.wap_codegen.proofs.EmissionLemmas.StatementParts.{of_while, of_same_for, of_break}
-use Rattle.wap_codegen.proofs.EmissionLemmas.StatementParts.{of_continue}
+use Rattle.wap_codegen.proofs.EmissionLemmas.StatementParts.{of_if, of_else, of_while, of_same_for}
+use Rattle.wap_codegen.proofs.EmissionLemmas.StatementParts.{of_break, of_continue}
 use Rattle.wap_codegen.proofs.emission.statements.+statements.Goals as goal
 
 pub add_statement-returns-in-Empty : goal.add_statement-returns-in-Empty

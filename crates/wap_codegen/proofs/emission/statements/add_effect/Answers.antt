@@ -6,9 +6,8 @@ use Rattle.wap_meaning.specs.coding.Expressions.{change_name, expr_code}
 use Rattle.wap_codegen.specs.emission.inside.Loops.{assignment_code}
 use Rattle.wap_codegen.proofs.EmissionLemmas.Chaining.{after_same}
 use Rattle.wap_codegen.proofs.EmissionLemmas.Effects.{of_assignment, of_literal, of_variable}
-use Rattle.wap_codegen.proofs.EmissionLemmas.Effects.{of_step, of_unary}
-use Rattle.wap_codegen.proofs.EmissionLemmas.Effects.{of_chain, of_choice, of_local, of_external}
-use Rattle.wap_codegen.proofs.EmissionLemmas.Effects.{of_library}
+use Rattle.wap_codegen.proofs.EmissionLemmas.Effects.{of_step, of_unary, of_chain, of_choice}
+use Rattle.wap_codegen.proofs.EmissionLemmas.Effects.{of_local, of_external, of_library}
 use Rattle.wap_codegen.proofs.emission.statements.add_effect.Goals as goal
 
 pub returns-in-Assign : goal.returns-in-Assign

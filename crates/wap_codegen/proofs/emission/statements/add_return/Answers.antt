@@ -1,7 +1,6 @@
-use Rattle.std.proofs.Common.{sym, ap, ◌∙◌}
+use Rattle.std.proofs.Common.{sym, ap, ◌∙◌, Option}
 use Rattle.wap_grammar.specs.declared.program.statement.Stmt.TheVariants as stmt
 use Rattle.wap_grammar.specs.declared.program.expression.Expr.{Expr}
-use Rattle.std.proofs.Common.{Option}
 use Rattle.wap_meaning.specs.coding.Statements.{stmt_code}
 use Rattle.wap_codegen.proofs.EmissionLemmas.StatementParts.{of_return, of_return_of}
 use Rattle.wap_codegen.proofs.EmissionLemmas.Chaining.{after_same, after_both}

@@ -5,9 +5,8 @@ use Rattle.wap_value.specs.declared.operator.BinOp.{BinOp}
 use Rattle.wap_grammar.specs.declared.program.expression.Expr.{Expr}
 use Rattle.wap_meaning.specs.coding.Statements.{writes}
 use Rattle.wap_codegen.proofs.EmissionLemmas.WritingParts.{of_literal, of_variable, of_assignment}
-use Rattle.wap_codegen.proofs.EmissionLemmas.WritingParts.{of_step}
-use Rattle.wap_codegen.proofs.EmissionLemmas.WritingParts.{of_unary, of_chain, of_choice, of_local}
-use Rattle.wap_codegen.proofs.EmissionLemmas.WritingParts.{of_external, of_library}
+use Rattle.wap_codegen.proofs.EmissionLemmas.WritingParts.{of_step, of_unary, of_chain, of_choice}
+use Rattle.wap_codegen.proofs.EmissionLemmas.WritingParts.{of_local, of_external, of_library}
 use Rattle.wap_codegen.proofs.emission.writing.+writing.Goals as goal
 
 -- the first of two decides

@@ -6,4 +6,5 @@ use Rattle.wap_codegen.proofs.pool.constants.constants_of.Given as goal
 -- so many constants are made
 abbrev pub invariant-loop-content : goal.invariant-loop-content
 invariant-loop-content l =
-    l.constants ≡ map (λ content. constant_for (literal_of content)) (take l.content-index l.contents)
+    l.constants
+    ≡ map (λ content. constant_for (literal_of content)) (take l.content-index l.contents)

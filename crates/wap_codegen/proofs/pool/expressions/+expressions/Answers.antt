@@ -4,16 +4,13 @@ use Rattle.std.proofs.lemmas.Result.{on_ok_weaker}
 use Rattle.wap_value.specs.declared.operator.BinOp.{BinOp}
 use Rattle.wap_grammar.specs.declared.program.expression.Expr.{Expr}
 use Rattle.wap_meaning.specs.coding.Needs.{Variable, Local, Other, Library, literal_needs}
-use Rattle.wap_meaning.specs.coding.Needs.{assign_needs}
-use Rattle.wap_meaning.specs.coding.Needs.{expr_needs}
-use Rattle.wap_meaning.proofs.NeedsLemmas.TreeNeeds.{of_literal, of_variable, of_assignment, of_step}
-use Rattle.wap_meaning.proofs.NeedsLemmas.TreeNeeds.{of_unary}
-use Rattle.wap_meaning.proofs.NeedsLemmas.TreeNeeds.{of_chain, of_choice, of_local, of_external}
-use Rattle.wap_meaning.proofs.NeedsLemmas.TreeNeeds.{of_library}
+use Rattle.wap_meaning.specs.coding.Needs.{assign_needs, expr_needs}
+use Rattle.wap_meaning.proofs.NeedsLemmas.TreeNeeds.{of_literal, of_variable, of_assignment}
+use Rattle.wap_meaning.proofs.NeedsLemmas.TreeNeeds.{of_step, of_unary, of_chain, of_choice}
+use Rattle.wap_meaning.proofs.NeedsLemmas.TreeNeeds.{of_local, of_external, of_library}
 use Rattle.wap_codegen.proofs.PoolLemmas.Pooling.{pools_none, pools_same, pools_variable}
-use Rattle.wap_codegen.proofs.PoolLemmas.Pooling.{pools_local}
-use Rattle.wap_codegen.proofs.PoolLemmas.Pooling.{pools_library, pools_assign, after_same}
-use Rattle.wap_codegen.proofs.PoolLemmas.Pooling.{after_both, leaves_more, leaves_none}
+use Rattle.wap_codegen.proofs.PoolLemmas.Pooling.{pools_local, pools_library, pools_assign}
+use Rattle.wap_codegen.proofs.PoolLemmas.Pooling.{after_same, after_both, leaves_more, leaves_none}
 use Rattle.wap_codegen.proofs.pool.expressions.+expressions.Goals as goal
 
 pub add_expression-returns-in-Lit : goal.add_expression-returns-in-Lit

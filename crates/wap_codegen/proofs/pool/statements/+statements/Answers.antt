@@ -6,9 +6,9 @@ use Rattle.wap_grammar.specs.declared.program.statement.Stmt.{Stmt}
 use Rattle.wap_grammar.specs.declared.program.statement.Stmt.TheVariants as stmt
 use Rattle.wap_meaning.specs.coding.Needs.{Need, expr_needs, optional_needs, declared_needs}
 use Rattle.wap_meaning.specs.coding.Needs.{stmt_needs}
-use Rattle.wap_meaning.proofs.NeedsLemmas.TreeNeeds.{of_empty, of_value, of_block, of_variables, of_if}
-use Rattle.wap_meaning.proofs.NeedsLemmas.TreeNeeds.{of_else}
-use Rattle.wap_meaning.proofs.NeedsLemmas.TreeNeeds.{of_while, of_for, of_break, of_continue, of_return}
+use Rattle.wap_meaning.proofs.NeedsLemmas.TreeNeeds.{of_empty, of_value, of_block, of_variables}
+use Rattle.wap_meaning.proofs.NeedsLemmas.TreeNeeds.{of_if, of_else, of_while, of_for, of_break}
+use Rattle.wap_meaning.proofs.NeedsLemmas.TreeNeeds.{of_continue, of_return}
 use Rattle.wap_codegen.proofs.PoolLemmas.Pooling.{pools_none, pools_same, pools_both, after_same}
 use Rattle.wap_codegen.proofs.PoolLemmas.Pooling.{after_both, leaves_more, leaves_none}
 use Rattle.wap_codegen.proofs.pool.statements.+statements.Goals as goal

@@ -8,10 +8,9 @@ use Rattle.wap_scope.specs.Names.{Mention, refers, refers_if, declares, mentions
 use Rattle.wap_scope.proofs.TreeNames.{of_empty, of_value, of_block, of_variables, of_if, of_else}
 use Rattle.wap_scope.proofs.TreeNames.{of_while, of_for, of_break, of_continue, of_return}
 use Rattle.wap_codegen.proofs.PoolLemmas.Declared.{none_in, none_in_any, declaring_none}
-use Rattle.wap_codegen.proofs.PoolLemmas.Declared.{declaring_same}
-use Rattle.wap_codegen.proofs.PoolLemmas.Declared.{declaring_both, declaring_after, after_same}
-use Rattle.wap_codegen.proofs.PoolLemmas.Declared.{after_both}
-use Rattle.wap_codegen.proofs.PoolLemmas.Declared.{after_none, leaves_all, leaves_more, leaves_none}
+use Rattle.wap_codegen.proofs.PoolLemmas.Declared.{declaring_same, declaring_both, declaring_after}
+use Rattle.wap_codegen.proofs.PoolLemmas.Declared.{after_same, after_both, after_none, leaves_all}
+use Rattle.wap_codegen.proofs.PoolLemmas.Declared.{leaves_more, leaves_none}
 use Rattle.wap_codegen.proofs.pool.variables.+variables.Goals as goal
 
 -- what a statement says, in a loop or not
@@ -81,8 +80,9 @@ add_statement-returns-in-Some t c = λ inside.
     ∙ sym (ap (says inside) (c.in-If.is
     ∙ ap (λ (other : Option Stmt). stmt.If c.in-If.field-0 c.in-If.body other) c.in-Some.is)
     ∙ of_else inside c.in-If.field-0 c.in-If.body c.in-Some.other))
-    (after_none (refers c.in-If.field-0) _ _ _ c.add_statement-in-Some.result (none_in c.in-If.field-0)
-    (after_both _ _ _ _ _ c.add_statement-in-Some.result (c.in_ok-add_statement-in-If.ensures inside)
+    (after_none (refers c.in-If.field-0) _ _ _ c.add_statement-in-Some.result
+    (none_in c.in-If.field-0) (after_both _ _ _ _ _ c.add_statement-in-Some.result
+    (c.in_ok-add_statement-in-If.ensures inside)
     (c.add_statement-in-Some.ensures inside)))
 
 pub add_statement-returns-in-While : goal.add_statement-returns-in-While
@@ -104,7 +104,8 @@ add_statement-returns-in_ok-add_statement-in-For t c = λ inside.
     ++ (refers_if c.in-For.field-2 ++ mentions s true))) c.get-in-For-2.ensures
     ∙ sym (ap (says inside) c.in-For.is
     ∙ of_for inside c.in-For.first c.in-For.field-1 c.in-For.field-2 c.in-For.body))
-    (after_both _ _ _ _ _ c.add_statement-in-For-2.result (c.in_ok-add_statement-in-For.ensures inside)
+    (after_both _ _ _ _ _ c.add_statement-in-For-2.result
+    (c.in_ok-add_statement-in-For.ensures inside)
     (after_none (refers_if c.in-For.field-1) _ _ _ c.add_statement-in-For-2.result
     (none_in_any c.in-For.field-1)
     (after_none (refers_if c.in-For.field-2) _ _ _ c.add_statement-in-For-2.result

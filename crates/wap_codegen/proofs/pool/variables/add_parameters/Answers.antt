@@ -1,9 +1,8 @@
 use Rattle.std.proofs.Common.{[], ◌∷◌, map}
 use Rattle.wap_grammar.specs.declared.program.program.Id.{Id}
 use Rattle.wap_scope.specs.Names.{Declares}
-use Rattle.wap_codegen.proofs.PoolLemmas.Declared.{leaves_all, leaves_more, leaves_none}
-use Rattle.wap_codegen.proofs.PoolLemmas.Declared.{declares_parameter}
-use Rattle.wap_codegen.proofs.PoolLemmas.Declared.{declaring_same, parameters_flat}
+use Rattle.wap_codegen.proofs.PoolLemmas.Declared.{leaves_all, leaves_none, declaring_same}
+use Rattle.wap_codegen.proofs.PoolLemmas.Declared.{leaves_more, declares_parameter, parameters_flat}
 use Rattle.wap_codegen.proofs.pool.variables.add_parameters.Goals as goal
 
 pub loop-param-init : goal.loop-param-init

@@ -9,7 +9,8 @@ use Rattle.wap_codegen.proofs.pool.variables.variables_of.Goals as goal
 
 pub returns : goal.returns
 returns c =
-    subst (λ (names : List (List ℕ)). Declaring (said c.args.function.now) names c.add_statements.new.names)
+    subst (λ (names : List (List ℕ)).
+    Declaring (said c.args.function.now) names c.add_statements.new.names)
     c.new-names.ensures
     (declaring_same (said c.args.function.now)
     (ap (λ (params : List Id). map Declares params
