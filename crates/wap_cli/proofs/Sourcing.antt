@@ -18,8 +18,7 @@ use Rattle.wap_world.specs.inboxes.Inboxes.{Stepped}
 use Rattle.wap_world.specs.inboxes.Sessions.{session_with}
 use Rattle.wap_world.specs.scripting.UnitSites.{Pages, unit_pages}
 use Rattle.wap_context.specs.Sites.{site_of as units_over}
-use Rattle.wap_site_laws.proofs.ExchangeLemmas.Inboxes.{denied_sources_with}
-use Rattle.wap_site_laws.specs.programs.Programs.{programs}
+use Rattle.wap_site_laws.proofs.ExchangeLemmas.Stores.{denied_stores_with}
 use Rattle.wap_pages.specs.Judged.{judged}
 use Rattle.wap_pages.specs.Caches.{CachedPages, cache_of, seen_over}
 use Rattle.wap_cli.specs.declared.status.Status.{Status}
@@ -149,24 +148,23 @@ module _ (begun : Begun) (capacity : ℕ) (old new : Devices) (status : Status) 
   Over = Browses (ArePagesAndCalls old.store) (opened_over begun) (unjudged capacity old)
       (unjudged capacity new) status
 
-  -- where all keys were played, what was written is what they come to over other pages that differ
-  -- where nobody was let in
+  -- where all keys were played, what was written is what they come to over another store, too, that
+  -- differs in scripts which nobody entered
   writes_over : (bytes : List ℕ)
       → Reads (ArePagesAndCalls old.store) (opened_over begun) bytes (unjudged capacity old)
       (unjudged capacity new) status
       → (is_open : Bool) → status ≡ at_end is_open → WritesOver begun old new bytes
-  writes_over bytes so is_open is one other are among differ =
+  writes_over bytes so is_open is one contents others pages known reads among differ none =
       let keys = (keys_of bytes).keys in
       let given : keys ≡ so.given = ap (λ (k : Keys). k.keys) (so.done is_open is).1 in
-      let instead : PagesAndCalls = record one { pages = other } in
+      let instead : PagesAndCalls = record one { pages = pages } in
       let same : opened_over begun one keys ≡ opened_over begun instead keys =
       ap (λ (stepped : Stepped). stepped.step)
-      (denied_sources_with programs differ.compiler differ.agrees one.call among one.pages other
-      differ.differ push_at (Open begun.url ∷ keys)
-      (record { world = world_of begun; pushes = [] }) differ.denied) in
+      (denied_stores_with one.call among contents others one.pages pages differ push_at
+      (Open begun.url ∷ keys) (record { world = world_of begun; pushes = [] }) none) in
       subst (λ (step : Step). Appends old.sink.written new.sink.written (bytes_of step))
       (ap (opened_over begun one) (sym given) ∙ same)
-      ((so.shows one are).played is_open End is).wrote
+      ((so.shows one (contents, known, differ.are, reads)).played is_open End is).wrote
 
   denied_over : Over → (is_open : Bool) → status ≡ at_end is_open
       → IfSome old.source.left (WritesOver begun old new)

@@ -5,7 +5,6 @@ use Rattle.std.specs.Prelude.{◌≡◌, ℕ, Bool, false, List, Option, Some, I
 use Rattle.wap_base.specs.Contents.{Contents}
 use Rattle.wap_devices.specs.Stores.{StoreSeen}
 use Rattle.wap_devices.specs.Transfer.{Appends}
-use Rattle.wap_unit.specs.declared.unit.Unit.{Unit}
 use Rattle.wap_base.specs.declared.key.Key.{Key}
 use Rattle.wap_keys.specs.Lines.{keys_of}
 use Rattle.wap_world.specs.Sites.{Call, Site}
@@ -13,8 +12,8 @@ use Rattle.wap_world.specs.Steps.{Step}
 use Rattle.wap_world.specs.Sessions.{Begun}
 use Rattle.wap_push.specs.Pushes.{push_at}
 use Rattle.wap_world.specs.inboxes.Sessions.{session_with}
-use Rattle.wap_world.specs.scripting.Sources.{AllPages, Agrees, site_of, compiled_pages}
-use Rattle.wap_site_laws.specs.exchange.Denial.{is_let_in, DifferWithin}
+use Rattle.wap_world.specs.scripting.Sources.{AllPages, site_of}
+use Rattle.wap_site_laws.specs.exchange.Denial.{is_let_in, DifferInScripts}
 use Rattle.wap_site_laws.specs.programs.Programs.{Accepted, programs}
 use Rattle.wap_site_laws.specs.pages.SourcePages.{ArePages}
 use Rattle.wap_cli.specs.declared.status.Status.{Status}
@@ -49,27 +48,17 @@ opened_over begun one keys = (session_with push_at (source_site one) begun keys)
 
 -- ---- scripts to which nobody was let in
 
--- other pages than these: with the units of some compiler in place of sources, what the rules see
--- of all names is the same, and but for scripts under some names, of which each access test of a
--- step was a denial, so are the pages
-pub record DifferWhereDenied (among : List ℕ → Bool) (pages other : AllPages Accepted)
-    (step : Step) : Type 0 where
-  -- any whose units come to what the sources mean
-  pub compiler : Accepted → Unit
-  pub agrees : (one : Accepted) → Agrees programs one (compiler one)
-  pub differ : DifferWithin among (compiled_pages programs compiler pages)
-      (compiled_pages programs compiler other)
-  pub denied : is_let_in among step.tests ≡ false
-
--- what was written for these bytes of keys is what they come to over such pages
+-- what was written for these bytes of keys is what they come to over any other store, too, that
+-- differs in scripts alone, where each access test of these was a denial
 abbrev pub WritesOver : Begun → Devices → Devices → List ℕ → Type 0
 WritesOver begun old new bytes =
     let keys = (keys_of bytes).keys in
-    (one : PagesAndCalls) (other : AllPages Accepted) → ArePagesAndCalls old.store one
-    → (among : List ℕ → Bool)
-    → DifferWhereDenied among one.pages other (opened_over begun one keys)
+    (one : PagesAndCalls) (contents others : Contents) (pages : AllPages Accepted)
+    → old.store.contents ≡ Some contents → ReadsCalls one.call
+    → (among : List ℕ → Bool) → DifferInScripts among contents others one.pages pages
+    → is_let_in among (opened_over begun one keys).tests ≡ false
     → Appends old.sink.written new.sink.written
-    (bytes_of (opened_over begun (record one { pages = other }) keys))
+    (bytes_of (opened_over begun (record one { pages = pages }) keys))
 
 -- ---- the headline
 

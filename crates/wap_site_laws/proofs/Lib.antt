@@ -2,3 +2,4 @@ pub mod ExchangeLemmas
 pub mod UnaskedLemmas
 pub mod ProgramsLemmas
 pub mod PagesLemmas
+pub mod DenialLemmas

@@ -1,16 +1,12 @@
 //! Sites whose scripts are sources of programs, beside the sites of the units that these are
 //! compiled to. These functions do nothing when they are called.
-ghost use Rattle.std.specs.Prelude.{◌≡◌, ℕ, Bool, false, List, Option};
+ghost use Rattle.std.specs.Prelude.{◌≡◌, ℕ, List, Option};
 ghost use Rattle.wap_grammar.specs.declared.program.program.Program.{Program as TheProgram};
-ghost use Rattle.wap_base.specs.declared.key.Key.{Key};
 ghost use Rattle.wap_world.specs.Sites.{Call};
-ghost use Rattle.wap_world.specs.World.{World};
-ghost use Rattle.wap_world.specs.Sessions.{played};
 ghost use Rattle.wap_meaning.specs.compiled.Units.{compiled};
 ghost use Rattle.wap_world.specs.scripting.Units.{entrance_in, external_in};
 ghost use Rattle.wap_world.specs.scripting.UnitSites.{units_site};
 ghost use Rattle.wap_world.specs.scripting.Sources.{AllPages, site_of, compiled_pages};
-ghost use Rattle.wap_site_laws.specs.exchange.Denial.{is_let_in, DifferWithin};
 ghost use Rattle.wap_site_laws.specs.programs.Entrances.{entrance, external};
 ghost use Rattle.wap_site_laws.specs.programs.Programs.{Accepted, programs, unit_of};
 
@@ -28,17 +24,4 @@ pub fn programs_may_be_compiled()
     ensures { (call : List ℕ → Option Call) (pages : AllPages Accepted)
         → site_of programs call pages
         ≡ units_site call (compiled_pages programs unit_of pages) }
-{}
-
-/// Programs that were only ever denied may be any others that let the same in.
-pub fn denied_programs_do_not_matter()
-    ensures { (call : List ℕ → Option Call) (among : List ℕ → Bool)
-        (one other : AllPages Accepted)
-        → DifferWithin among (compiled_pages programs unit_of one)
-        (compiled_pages programs unit_of other)
-        → (keys : List Key) (world : World)
-        → let here = site_of programs call one in
-        let there = site_of programs call other in
-        is_let_in among (played here keys world).tests ≡ false
-        → played here keys world ≡ played there keys world }
 {}

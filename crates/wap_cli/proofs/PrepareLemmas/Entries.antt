@@ -4,7 +4,6 @@ use Rattle.std.proofs.Common.{refl, sym, ap, ap₂, subst, ◌∙◌, ◌+◌, �
 use Rattle.std.proofs.Common.{length, append_assoc}
 use Rattle.std.specs.Prelude.{All, IfOk, IfSome}
 use Rattle.std.specs.List.{AllZip, AllByRecursion}
-use Rattle.std.specs.Option.{option_map_or}
 use Rattle.std.specs.Map.{keys_of}
 use Rattle.std.specs.List.Sorted.{IsPermutation}
 use Rattle.std.proofs.lemmas.List.{take-append-drop, length-append}
@@ -48,12 +47,14 @@ same_names (job ∷ jobs) (entry ∷ entries) right =
     ap₂ (λ (name : List ℕ) (names : List (List ℕ)). name ∷ names) right.0.name
     (same_names jobs entries right.1)
 
+some_is : {one other : PageFault} → Some one ≡ Some other → one ≡ other
+some_is is = cc
+
 -- no verdict is that memory ran out
 verdict_remembers : (name : List ℕ) (page : Option (List ℕ)) (fault : PageFault)
     → IsVerdict name page (Some fault) → is_of_memory fault ≡ false
 verdict_remembers name None fault is =
-    subst (λ (verdict : Option PageFault). option_map_or is_of_memory verdict false ≡ false)
-    (sym is) refl
+    subst (λ (why : PageFault). is_of_memory why ≡ false) (sym (some_is is)) refl
 verdict_remembers name (Some bytes) fault refuses = page_remembers name bytes fault refuses
 
 -- and are right for the answers of the store

@@ -207,15 +207,15 @@ image_remembers parts budget status fault =
     same : {one other : PageFault} → Refused one ≡ Refused other → one ≡ other
     same is = cc
 
+    wanted : NoMemory ≢ Refused fault
+    wanted e = cc
+
     by_cause : (why : SaveFault) → is_of_memory (Save why) ≡ false
         → IsOrWants (Refused (Save why)) status → status ≡ Refused fault
         → is_of_memory fault ≡ false
     by_cause why so (inl is) e =
         subst (λ (f : PageFault). is_of_memory f ≡ false) (same (sym is ∙ e)) so
     by_cause why so (inr is) e = absurd (wanted (sym is ∙ e))
-      where
-        wanted : NoMemory ≡ Refused fault → ⊥
-        wanted e = cc
 
     by : (drawn short : Bool) (bytes : List ℕ)
         → EndsBy (if drawn then (if short then Ok bytes else Err Card) else Err Drawn) status

@@ -66,9 +66,9 @@ use Rattle.wap_world.specs.scripting.Hosting.{callable, callable_if, found_under
 use Rattle.wap_world.specs.scripting.Hosting.{external_call}
 use Rattle.wap_world.specs.scripting.Hosting.{library_call, hosting}
 use Rattle.wap_world.specs.scripting.Units.{external_in}
-use Rattle.wap_world.specs.scripting.ScriptPages.{script_in}
+use Rattle.wap_world.specs.scripting.ScriptPages.{script_in, page_under}
 use Rattle.wap_world.specs.scripting.UnitSites.{no_unit, end_of, ran_of}
-use Rattle.wap_site_laws.specs.exchange.Denial.{is_let_in, DifferWithin, DeniedMatterNot}
+use Rattle.wap_site_laws.specs.exchange.Denial.{is_let_in}
 use Rattle.wap_world.proofs.Joining.{joined_nothing}
 use Rattle.wap_world.specs.Access.{may_enter}
 use Rattle.wap_world.proofs.ScriptingLawsLemmas.Plain.{fronted}
@@ -79,6 +79,11 @@ use Rattle.wap_world.specs.scripting.Dialogs.{after_reply, answered_by, by_keys}
 use Rattle.wap_world.specs.scripting.UnitSites.{Pages, shelf_of, externals_of, unit_under}
 use Rattle.wap_world.specs.scripting.UnitSites.{started_at, units_site}
 use Rattle.wap_world.proofs.ScriptingLawsLemmas.Plain.{IsPlain, external_plain, library_plain}
+
+-- what the rules see of all names is the same, and outside of these names so are the pages
+pub record DifferWithin (among : List ℕ → Bool) (one other : Pages) : Type 0 where
+  pub shelf : (name : List ℕ) → shelf_of one name ≡ shelf_of other name
+  pub pages : (name : List ℕ) → among name ≡ false → page_under name one ≡ page_under name other
 
 module _ (among : List ℕ → Bool) where
   -- one of these names was entered by a test
@@ -806,5 +811,8 @@ module _ (among : List ℕ → Bool) where
           ∙ ap (λ (f : Shelf). played (site_over f) keys w) shelf_is
 
 -- over all pages
-pub denied : DeniedMatterNot
+pub denied : (call : List ℕ → Option Call) (among : List ℕ → Bool) (one other : Pages)
+    → DifferWithin among one other → (keys : List Key) (world : World)
+    → is_let_in among (played (units_site call one) keys world).tests ≡ false
+    → played (units_site call one) keys world ≡ played (units_site call other) keys world
 denied call among one other differ keys w none = same_play among call one other differ keys w none

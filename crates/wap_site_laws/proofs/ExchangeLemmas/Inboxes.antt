@@ -14,12 +14,12 @@ use Rattle.wap_world.specs.Keys.{renewed, react}
 use Rattle.wap_world.specs.inboxes.Inboxes.{Handset, Stepped, taking_none, url_at, follow}
 use Rattle.wap_world.specs.inboxes.Inboxes.{react_with}
 use Rattle.wap_world.specs.inboxes.Sessions.{after_step, followed_with, played_with_in, played_with}
-use Rattle.wap_world.specs.scripting.UnitSites.{units_site}
+use Rattle.wap_world.specs.scripting.UnitSites.{Pages, units_site}
 use Rattle.wap_world.specs.scripting.Sources.{LanguageOf, AllPages, Agrees, site_of, compiled_pages}
-use Rattle.wap_site_laws.specs.exchange.Denial.{is_let_in, DifferWithin, DeniedMatterNotWith}
+use Rattle.wap_site_laws.specs.exchange.Denial.{is_let_in}
 use Rattle.wap_site_laws.proofs.ExchangeLemmas.Replacing.{replaces}
 use Rattle.wap_site_laws.proofs.ExchangeLemmas.Denying.{Lost, first, second, StepAlike, reacts_same}
-use Rattle.wap_site_laws.proofs.ExchangeLemmas.Denying.{site_is}
+use Rattle.wap_site_laws.proofs.ExchangeLemmas.Denying.{DifferWithin, site_is}
 
 module _ (among : List ℕ → Bool) where
   -- the same steps and pushes, or both lost
@@ -124,7 +124,12 @@ module _ (among : List ℕ → Bool) where
 -- ---- pages
 
 -- over units
-pub denied_with : DeniedMatterNotWith
+pub denied_with : (read : List ℕ → Result Indication PushFault) (call : List ℕ → Option Call)
+    (among : List ℕ → Bool) (one other : Pages) → DifferWithin among one other
+    → (keys : List Key) (handset : Handset)
+    → is_let_in among (played_with read (units_site call one) keys handset).step.tests ≡ false
+    → played_with read (units_site call one) keys handset
+    ≡ played_with read (units_site call other) keys handset
 denied_with read call among one other differ keys handset none =
     let there = site_is among call one other differ in
     unless_lost among (played_with read (units_site call one) keys handset)

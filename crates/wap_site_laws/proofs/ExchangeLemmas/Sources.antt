@@ -6,9 +6,9 @@ use Rattle.wap_world.specs.World.{World}
 use Rattle.wap_world.specs.Sites.{Site, Call}
 use Rattle.wap_world.specs.Sessions.{played}
 use Rattle.wap_world.specs.scripting.Sources.{LanguageOf, AllPages, Agrees, site_of, compiled_pages}
-use Rattle.wap_site_laws.specs.exchange.Denial.{is_let_in, DifferWithin}
+use Rattle.wap_site_laws.specs.exchange.Denial.{is_let_in}
 use Rattle.wap_site_laws.proofs.ExchangeLemmas.Replacing.{replaces}
-use Rattle.wap_site_laws.proofs.ExchangeLemmas.Denying.{denied}
+use Rattle.wap_site_laws.proofs.ExchangeLemmas.Denying.{DifferWithin, denied}
 
 -- both sites are those of their units, which don't matter
 pub denied_sources : {P : Type 0} (language : LanguageOf P) (compiler : P → Unit)
