@@ -5,15 +5,12 @@ use std::env;
 use std::io::ErrorKind;
 use std::process::ExitCode;
 use wap_base::{NoMemory, Text};
-use wap_cli::{Status, run};
-use wap_devices::NoGate;
-use wap_system::{FolderStore, StdinSource, StdoutSink};
+use wap_cli::{Status, run_here};
+use wap_system::StdoutSink;
 
-/// The pages of the folder that is named first, and the words of the command after it, where there
-/// is a folder and each word is UTF-8.
-fn read_arguments(
-    rt: &HostRuntime,
-) -> Result<Option<(FolderStore<HostRuntime>, Vec<Text>)>, NoMemory> {
+/// The folder that is named first, to be read by the handle beside it, and the words of the command
+/// after it, where there is a folder and each word is UTF-8.
+fn read_arguments(rt: &HostRuntime) -> Result<Option<(HostRuntime, String, Vec<Text>)>, NoMemory> {
     let given = match env::args(rt) {
         Ok(given) => given,
         Err(error) if matches!(error.kind(), ErrorKind::OutOfMemory) => return Err(NoMemory),
@@ -27,24 +24,14 @@ fn read_arguments(
     for word in given {
         words.push(Text::from_string(word))?;
     }
-    Ok(Some((FolderStore::new(rt.clone()?, folder), words)))
+    Ok(Some((rt.clone()?, folder, words)))
 }
 
 fn main(rt: HostRuntime) -> ExitCode {
     let status = match read_arguments(&rt) {
-        Ok(Some((store, words))) => {
-            let mut keys = StdinSource::new(rt.stdin());
-            let mut out = StdoutSink::new(rt.stdout());
-            run(
-                &rt,
-                rt.alloc(),
-                words.as_slice(),
-                store,
-                &mut keys,
-                &mut out,
-                &NoGate,
-            )
-            .0
+        Ok(Some((files, folder, words))) => {
+            let words = words.as_slice();
+            run_here(&rt, files, folder, words, rt.stdin(), rt.stdout()).status
         }
         Ok(None) => Status::Usage,
         Err(NoMemory) => Status::NoMemory,

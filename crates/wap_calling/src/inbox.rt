@@ -29,7 +29,7 @@ pub fn visit_with_inbox<P: Pages>(
     pages: &mut P,
 ) -> Result<Lines, SessionFault>
     ensures shown { IfOk result (λ lines.
-        IfOver (P.seen pages.old).contents handset.old.browser (λ of.
+        IfOver (P.seen pages.new) handset.old.browser (λ of.
         ShowsOn keys.now of handset.old handset.new lines)) }
 {
     handset.play(alloc, keys, pages)

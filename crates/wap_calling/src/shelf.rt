@@ -1,8 +1,9 @@
 //! Pages of one's own: what a caller owes to a session.
 ghost use Rattle.std.specs.Prelude.{◌≡◌, [], ◌∷◌, IfOk, OnOk, IfErr, IsErrOf};
 ghost use Rattle.std.specs.Option.{option_copied};
-ghost use Rattle.wap_world.specs.site.Pages.{page_under, page_of, AreSitePages};
-ghost use Rattle.wap_world.specs.site.Asking.{Stays, Asks, Fails};
+ghost use Rattle.wap_world.specs.site.Pages.{Pages as JudgedPages, page_under, page_of};
+ghost use Rattle.wap_world.specs.site.Pages.{AreSitePages};
+ghost use Rattle.wap_world.specs.site.Asking.{MayBe, Stays, Asks, Fails};
 ghost use Rattle.wap_calling.specs.Calling.{seen_of};
 
 use std::alloc::Global;
@@ -66,8 +67,10 @@ impl Pages for Shelf {
     ghost seen = { seen_of };
 
     fn page(&mut self, _alloc: Global, name: &Text, fresh: bool) -> Result<Page, RunErr>
-        ensures found { IfOk result (λ page. page ≡ page_of name.now self.old) }
-        ensures site { AreSitePages self.old }
+        ensures found { IfOk result (λ page. (pages : JudgedPages) → MayBe (seen_of self.new) pages
+            → page ≡ page_of name.now pages) }
+        ensures site { (pages : JudgedPages) → MayBe (seen_of self.new) pages
+            → AreSitePages pages }
         ensures same { self.new ≡ self.old }
         ensures never { IfErr result (λ fault. fault ≡ RunErr.NoMemory) }
         ensures asks { OnOk result

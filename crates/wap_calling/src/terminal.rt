@@ -1,7 +1,9 @@
 //! A session over pages of one's own: what a caller gets.
-ghost use Rattle.std.specs.Prelude.{◌≡◌, ◌∷◌, [], true, false, is_some, IfOk, OnOk, IfSome, Ok};
+ghost use Rattle.std.specs.Prelude.{◌≡◌, ◌∷◌, [], true, false, is_some, IfOk, OnOk, Ok};
 ghost use Rattle.wap_base.specs.declared.key.Key.TheVariants.{Answer};
 ghost use Rattle.wap_world.specs.Sessions.{shown, played, world_of};
+ghost use Rattle.wap_world.specs.site.Asking.{MayBe};
+ghost use Rattle.wap_world.specs.site.Pages.{Pages as JudgedPages};
 ghost use Rattle.wap_world.specs.scripting.UnitSites.{unit_pages};
 ghost use Rattle.wap_context.specs.Sites.{site_of, IfOver};
 ghost use Rattle.wap_session.specs.Feeding.{beginning, shown_of};
@@ -37,11 +39,11 @@ pub fn visit<P: Pages>(
     pages: &mut P,
 ) -> Result<Lines, SessionFault>
     requires new { session.now ≡ beginning begun }
-    ensures shown { IfOk result (λ lines. IfSome (P.seen pages.old).contents (λ judged.
-        lines ≡ shown (site_of (unit_pages judged)) keys.now (world_of begun))) }
-    ensures waits { OnOk result (IfSome (P.seen pages.old).contents (λ judged.
-        is_some session.new.waiting
-        ≡ (played (site_of (unit_pages judged)) keys.now (world_of begun)).is_open)) }
+    ensures shown { IfOk result (λ lines. (judged : JudgedPages) → MayBe (P.seen pages.new) judged
+        → lines ≡ shown (site_of (unit_pages judged)) keys.now (world_of begun)) }
+    ensures waits { OnOk result ((judged : JudgedPages) → MayBe (P.seen pages.new) judged
+        → is_some session.new.waiting
+        ≡ (played (site_of (unit_pages judged)) keys.now (world_of begun)).is_open) }
 {
     session.play(alloc, keys, pages)
 }
@@ -58,7 +60,7 @@ pub fn accept_dialog<P: Pages>(
     pages: &mut P,
 ) -> Result<Lines, SessionFault>
     ensures answered { IfOk result (λ lines. is_some session.old.waiting ≡ true
-        → IfOver (P.seen pages.old).contents session.old.browser
+        → IfOver (P.seen pages.new) session.old.browser
         (λ of. lines ≡ shown_of of (Answer text ∷ []) session.old)) }
     ensures untouched { is_some session.old.waiting ≡ false
         → (session.new ≡ session.old) × (pages.new ≡ pages.old) × (result ≡ Ok []) }

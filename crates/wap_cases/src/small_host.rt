@@ -74,20 +74,24 @@ fn callable(unit: &Verified, name: &Text, count: u8, depth: u32) -> Result<u8, F
 }
 
 impl Host<FailingPages> for SmallHost {
-    ghost use Rattle.std.specs.Prelude.{◌≡◌, ◌-◌, ◌<◌, ◌≤◌, IsTrue, ◌↔◌};
+    ghost use Rattle.std.specs.Prelude.{⊤, ◌≡◌, ◌-◌, ◌<◌, ◌≤◌, IsTrue, ◌↔◌};
     ghost use Rattle.std.specs.Prelude.{Some, IfOk, IfSome, IsErrOf};
     ghost use Rattle.wap_cases.specs.Small.{Small, small};
     ghost use Rattle.wap_cases.specs.inside.Asking.{still, both, library_grows};
+
+    ghost Under = { ⊤ };
+
+    ghost may_have = { λ pages under. ⊤ };
 
     ghost State = { Small };
 
     ghost turns = { λ host. host.turns };
 
-    ghost state = { λ host pages. Some (record {
+    ghost state = { λ host pages under. record {
       first = host.first;
       second = host.second;
       asked = pages.asked;
-    }) };
+    } };
 
     ghost meaning = { small };
 
@@ -141,12 +145,14 @@ impl Host<FailingPages> for SmallHost {
         Ok(HostOut::Value(Value::Invalid))
     }
 
-    ghost counted = { λ host pages. λ i. pages.asked };
+    ghost counted = { λ host pages under. λ i. pages.asked };
 
     ghost kept_still = { λ pages. still pages.asked };
 
     ghost kept_then = { λ one two three first second.
         both one.asked two.asked three.asked first second };
+
+    ghost kept_may = { λ before after under kept may. tt };
 
     ghost external_grows = { λ before caller target name count depth. still before.asked };
 

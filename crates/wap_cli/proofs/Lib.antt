@@ -1,10 +1,9 @@
 pub mod MemoryLemmas
 pub mod Answering
 pub mod Serving
-pub mod Seeing
-pub mod Unjudging
 pub mod Calling
 pub mod Sourcing
+pub mod InMemory
 pub mod SourcedSessions
 pub mod SourcedLists
 pub mod PrepareLemmas

@@ -1,6 +1,5 @@
 -- What a run comes to where memory runs out before anything is done.
-use Rattle.std.proofs.Common.{◌≡◌, ◌≢◌, ℕ, List, Option, Some, None, Ok, Err, inl, inr, refl, arith}
-use Rattle.wap_base.specs.Contents.{Contents, page_named}
+use Rattle.std.proofs.Common.{◌≢◌, ℕ, List, Option, Some, None, Ok, Err, inl, inr, refl, arith}
 use Rattle.wap_devices.specs.Sinks.{SinkSeen}
 use Rattle.wap_keys.specs.declared.words.words.Command.{Command}
 use Rattle.wap_keys.specs.declared.words.words.Command.TheVariants.{Browse, Image, Resume, Page}
@@ -13,59 +12,29 @@ use Rattle.wap_cli.specs.declared.status.Status.TheVariants.{BadKey, OpenDialog,
 use Rattle.wap_devices.specs.Stores.{StoreSeen, Fetches}
 use Rattle.wap_devices.specs.declared.store.Fetched.{Fetched}
 use Rattle.wap_devices.specs.declared.store.StoreErr.TheVariants as store_error
+use Rattle.wap_devices.proofs.Telling.{grew_nothing}
 use Rattle.wap_cli.specs.browse.Plays.{opened}
 use Rattle.wap_cli.proofs.BrowseLemmas.Exits.{nothing_browses}
 use Rattle.wap_cli.proofs.BrowseLemmas.Summary.{browses_by}
 use Rattle.wap_cli.proofs.MemoryLemmas.Pages.{reason_remembers}
-use Rattle.wap_cli.proofs.ResumeLemmas.Fetching.{found_page}
+use Rattle.wap_cli.proofs.ResumeLemmas.Fetching.{found_page, asked_grew}
 use Rattle.wap_cli.proofs.ResumeLemmas.Going.{nothing_imaged, nothing_resumed}
 use Rattle.wap_cli.specs.prepare.Preparing.{Reports}
 use Rattle.wap_cli.proofs.PrepareLemmas.Ending.{nothing_done}
 use Rattle.wap_cli.proofs.MadeLemmas.Ending.{nothing_made}
 use Rattle.wap_cli.proofs.ReplayLemmas.Over.{nothing_replayed}
-use Rattle.wap_cli.specs.Answers.{IsPageOf, IsOfPage, Answers, page_of}
-use Rattle.wap_cli.specs.Devices.{Devices, around}
+use Rattle.wap_cli.specs.Answers.{IsOfPage, Answers, page_of}
+use Rattle.wap_cli.specs.Devices.{Devices, uncached, around}
 use Rattle.wap_cli.specs.Headline.{begun_by, each_begun_by, IsAnswer, Serves, ServesUnread, Runs}
-use Rattle.wap_cli.proofs.Seeing.{browsed}
 use Rattle.wap_cli.proofs.Sourcing.{browses_over}
 use Rattle.wap_cli.proofs.SourcedSessions.{images_over, resumes_over}
 use Rattle.wap_cli.proofs.SourcedLists.{replays_over}
-
-pub nothing_answered : (command : PageCommand) (page : Option (List ℕ)) (sink : SinkSeen)
-    → Answers command page sink sink NoMemory
-nothing_answered command page sink = record {
-  done = λ e. absurd cc;
-  refused = λ fault e. absurd cc;
-  accepted = λ text fault has e. absurd cc;
-  prefix = λ e. absurd cc;
-  failed = λ e. absurd cc;
-  unwritten = λ undone other. refl;
-  steady = λ e. refl;
-  counts = omega arith;
-  ends = tt;
-  stored = λ e. absurd cc;
-}
-
--- the page that contents have, and none where they aren't known
-abbrev pub page_in : Option Contents → List ℕ → Option (List ℕ)
-page_in None name = None
-page_in (Some pages) name = page_named name pages
-
-pub page_there : (contents : Option Contents) (name : List ℕ)
-    → IsPageOf contents name (page_in contents name)
-page_there None name = tt
-page_there (Some pages) name = refl
 
 nothing_served : (command : PageCommand) (name : List ℕ) (old : Devices)
     → ServesUnread command name old old NoMemory
 nothing_served command name old = record {
   serves = record {
-    page = λ other.
-        let page = page_in old.store.contents name in (
-          page,
-          page_there old.store.contents name,
-          nothing_answered command page old.sink,
-        );
+    page = λ read remembered. absurd (remembered refl);
     ends = tt;
     of_reason = λ fault e. absurd cc;
     store_fault = λ e. absurd cc;
@@ -77,7 +46,7 @@ nothing_served command name old = record {
     asked = λ other. absurd (other refl);
     once = inl refl;
     listings = refl;
-    kept = refl;
+    kept = grew_nothing old.store.known old.store.known refl;
     store_counts = omega arith;
     write_counts = omega arith;
   };
@@ -88,18 +57,18 @@ pub nothing_runs : (said : Option Command) (old : Devices) → Runs said old old
 nothing_runs None old = record { ends = inr refl; untouched = refl }
 nothing_runs (Some (Browse one)) old =
     browses_over (begun_by one) one.cache old old NoMemory
-    (browses_by (opened (begun_by one)) (browsed one.cache old) (browsed one.cache old) NoMemory
-    (nothing_browses (opened (begun_by one)) (browsed one.cache old)))
+    (browses_by (opened (begun_by one)) (uncached one.cache old) (uncached one.cache old) NoMemory
+    (nothing_browses (opened (begun_by one)) (uncached one.cache old)))
 nothing_runs (Some (Image one)) old =
     images_over one.cache old old NoMemory (begun_by one)
-    (nothing_imaged (begun_by one) (browsed one.cache old))
+    (nothing_imaged (begun_by one) (uncached one.cache old))
 nothing_runs (Some (Resume one)) old =
     resumes_over one.cache old old NoMemory one.name
-    (nothing_resumed one.name (browsed one.cache old))
+    (nothing_resumed one.name (uncached one.cache old))
 nothing_runs (Some (Page command name)) old = nothing_served command name old
 nothing_runs (Some (Prepare workers)) old =
     record {
-      prepares = nothing_done (λ Wrote. Reports Wrote old.store.contents) old.store old.sink;
+      prepares = nothing_done (λ Wrote. Reports Wrote old.store.known) old.store old.sink;
       unread = refl;
     }
 nothing_runs (Some (Make n)) old =
@@ -132,8 +101,8 @@ module _ (command : PageCommand) (name : List ℕ) (store store_after : StoreSee
       → Answers command (page_of fetched) sink sink_after status
       → Serves command name store store_after sink sink_after status
   serves_page fetched status fetches answers = record {
-    page = λ other.
-        (page_of fetched, found_page store.contents name fetched fetches.found, answers);
+    page = λ read remembered.
+        (page_of fetched, found_page store_after.known name fetched fetches.found, answers);
     ends = answers.ends;
     of_reason = λ fault is.
         reason_remembers command (page_of fetched) fault (answers.refused fault is);
@@ -147,7 +116,7 @@ module _ (command : PageCommand) (name : List ℕ) (store store_after : StoreSee
     asked = λ other. fetches.fetches;
     once = inr fetches.fetches;
     listings = fetches.listings;
-    kept = fetches.asked.contents;
+    kept = asked_grew name store store_after (Ok fetched) fetches;
     store_counts = fetches.asked.counts;
     write_counts = answers.counts;
   }
@@ -156,7 +125,7 @@ module _ (command : PageCommand) (name : List ℕ) (store store_after : StoreSee
   pub serves_fault : Fetches name store store_after (Err store_error.Failed)
       → Serves command name store store_after sink sink StoreFault
   serves_fault fetches = record {
-    page = λ other. absurd (other refl);
+    page = λ read remembered. absurd (read refl);
     ends = tt;
     of_reason = λ fault is. absurd cc;
     store_fault = λ is. fetches.asked.failed refl;
@@ -168,7 +137,7 @@ module _ (command : PageCommand) (name : List ℕ) (store store_after : StoreSee
     asked = λ other. fetches.fetches;
     once = inr fetches.fetches;
     listings = fetches.listings;
-    kept = fetches.asked.contents;
+    kept = asked_grew name store store_after (Err store_error.Failed) fetches;
     store_counts = fetches.asked.counts;
     write_counts = omega arith;
   }
@@ -177,9 +146,7 @@ module _ (command : PageCommand) (name : List ℕ) (store store_after : StoreSee
   pub serves_no_memory : Fetches name store store_after (Err store_error.NoMemory)
       → Serves command name store store_after sink sink NoMemory
   serves_no_memory fetches = record {
-    page = λ other.
-        let page = page_in store.contents name in
-        (page, page_there store.contents name, nothing_answered command page sink);
+    page = λ read remembered. absurd (remembered refl);
     ends = tt;
     of_reason = λ fault is. absurd cc;
     store_fault = λ is. absurd cc;
@@ -191,7 +158,7 @@ module _ (command : PageCommand) (name : List ℕ) (store store_after : StoreSee
     asked = λ other. fetches.fetches;
     once = inr fetches.fetches;
     listings = fetches.listings;
-    kept = fetches.asked.contents;
+    kept = asked_grew name store store_after (Err store_error.NoMemory) fetches;
     store_counts = fetches.asked.counts;
     write_counts = omega arith;
   }

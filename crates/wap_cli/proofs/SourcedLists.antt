@@ -13,12 +13,12 @@ use Rattle.wap_cli.proofs.Calling.{site_units}
 
 -- the site of a store's pages is that of the judged pages
 site_of_units : (store : StoreSeen) (site : Site) → IsSiteOver store site → IsSiteOf store site
-site_of_units store site (one, (contents, known, are, reads), is) =
-    (contents, known, is ∙ site_units one contents are reads)
+site_of_units store site (one, (contents, agrees, are, reads), is) =
+    (contents, agrees, is ∙ site_units one contents are reads)
 
 -- replaying over units is replaying over sources
 pub replays_over : (begun : Begun) (old new : Devices) (status : Status)
     → ReplaysSeen begun (around old) (around new) status → ReplaysOver begun old new status
 replays_over begun old new status so =
-    replays_too (IsSiteOf old.store) (IsSiteOver old.store) (site_of_units old.store) begun
+    replays_too (IsSiteOf new.store) (IsSiteOver new.store) (site_of_units new.store) begun
     (around old) (around new) status so

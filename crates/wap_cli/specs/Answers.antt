@@ -1,12 +1,12 @@
 -- What a command on one page comes to: verify, list, check, canon and compile. This project's own.
-use Rattle.std.specs.Prelude.{◌≡◌, ◌≢◌, ◌≤◌, ℕ, List, Option, Some, None, IfSome, Result, Ok}
-use Rattle.std.specs.Prelude.{Err}
+use Rattle.std.specs.Prelude.{◌≡◌, ◌≢◌, ◌≤◌, ℕ, List, Option, Some, None, Result, Ok, Err}
 use Rattle.wap_devices.specs.declared.store.Fetched.{Fetched}
 use Rattle.wap_devices.specs.declared.store.Fetched.TheVariants as fetched
 use Rattle.wap_base.specs.Contents.{Contents, page_named}
 use Rattle.wap_base.specs.Count.{Rose}
 use Rattle.wap_devices.specs.Transfer.{Appends, AppendsPrefix}
 use Rattle.wap_devices.specs.Sinks.{SinkSeen}
+use Rattle.wap_devices.specs.Stores.{Known, Agrees}
 use Rattle.wap_keys.specs.declared.words.words.PageCommand.{PageCommand}
 use Rattle.wap_keys.specs.declared.words.words.PageCommand.TheVariants as command
 use Rattle.wap_pages.specs.declared.fault.PageErr.{PageErr}
@@ -48,9 +48,9 @@ abbrev pub IsReasonOf : PageCommand → Option (List ℕ) → PageFault → Type
 IsReasonOf command None fault = fault ≡ Missing
 IsReasonOf command (Some bytes) fault = IsReason command bytes fault
 
--- the page of a name, which a store that tells its contents has among them
-abbrev pub IsPageOf : Option Contents → List ℕ → Option (List ℕ) → Type 0
-IsPageOf contents name page = IfSome contents (λ pages. page ≡ page_named name pages)
+-- the page of a name in any pages that may be those of a store of which this is known
+abbrev pub IsPageOf : Known → List ℕ → Option (List ℕ) → Type 0
+IsPageOf known name page = (pages : Contents) → Agrees known pages → page ≡ page_named name pages
 
 -- what the store answered
 abbrev pub page_of : Fetched → Option (List ℕ)
@@ -75,14 +75,14 @@ pub record Answers (command : PageCommand) (page : Option (List ℕ)) (before af
     (status : Status) : Type 0 where
   -- on Done its text was written
   pub done : status ≡ Done
-      → (text : List ℕ) × IsTextOf command page text × Appends before.written after.written text
+      → (text : List ℕ) × IsTextOf command page text × Appends before.taken after.taken text
   -- on Refused there is no text, for this reason
   pub refused : (fault : PageFault) → status ≡ Refused fault → IsReasonOf command page fault
   pub accepted : (text : List ℕ) (fault : PageFault) → IsTextOf command page text
       → status ≢ Refused fault
   -- where the sink failed, a prefix of its text was written
   pub prefix : status ≡ WriteFault → (text : List ℕ) × IsTextOf command page text
-      × AppendsPrefix before.written after.written text
+      × AppendsPrefix before.taken after.taken text
   pub failed : status ≡ WriteFault → Rose before.faults after.faults
   -- and else nothing is written
   pub unwritten : status ≢ Done → status ≢ WriteFault → after ≡ before

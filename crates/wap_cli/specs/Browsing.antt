@@ -1,9 +1,10 @@
 -- The headline: what browsing over a store comes to, where its pages are those that its contents
 -- are by the relations of bytes, and a source of a script means what its program means. This
 -- project's own.
-use Rattle.std.specs.Prelude.{◌≡◌, ℕ, Bool, false, List, Option, Some, IfSome}
+use Rattle.std.specs.Prelude.{◌≡◌, ℕ, Bool, false, List, Option}
 use Rattle.wap_base.specs.Contents.{Contents}
-use Rattle.wap_devices.specs.Stores.{StoreSeen}
+use Rattle.wap_devices.specs.Stores.{StoreSeen, Agrees}
+use Rattle.wap_devices.specs.Sources.{MayGive}
 use Rattle.wap_devices.specs.Transfer.{Appends}
 use Rattle.wap_base.specs.declared.key.Key.{Key}
 use Rattle.wap_keys.specs.Lines.{keys_of}
@@ -21,7 +22,7 @@ use Rattle.wap_cli.specs.browse.Endings.{at_end}
 use Rattle.wap_cli.specs.browse.Handling.{bytes_of}
 use Rattle.wap_cli.specs.browse.Headline.{Browses}
 use Rattle.wap_cli.specs.Calls.{ReadsCalls}
-use Rattle.wap_cli.specs.Devices.{Devices, unjudged}
+use Rattle.wap_cli.specs.Devices.{Devices, uncached}
 
 -- ---- pages, and what keys come to over them
 
@@ -30,10 +31,10 @@ pub record PagesAndCalls : Type 0 where
   pub pages : AllPages Accepted
   pub call : List ℕ → Option Call
 
--- the contents of a store are these pages, where they are known, and fragments call what they spell
+-- contents that may be those of a store are these pages, and fragments call what they spell
 abbrev pub ArePagesAndCalls : StoreSeen → PagesAndCalls → Type 0
 ArePagesAndCalls store one =
-    (contents : Contents) × (store.contents ≡ Some contents) × ArePages contents one.pages
+    (contents : Contents) × Agrees store.known contents × ArePages contents one.pages
     × ReadsCalls one.call
 
 -- the site of these pages: a source comes to what its program means, and a unit to what its
@@ -54,10 +55,10 @@ abbrev pub WritesOver : Begun → Devices → Devices → List ℕ → Type 0
 WritesOver begun old new bytes =
     let keys = (keys_of bytes).keys in
     (one : PagesAndCalls) (contents others : Contents) (pages : AllPages Accepted)
-    → old.store.contents ≡ Some contents → ReadsCalls one.call
+    → Agrees new.store.known contents → ReadsCalls one.call
     → (among : List ℕ → Bool) → DifferInScripts among contents others one.pages pages
     → is_let_in among (opened_over begun one keys).tests ≡ false
-    → Appends old.sink.written new.sink.written
+    → Appends old.sink.taken new.sink.taken
     (bytes_of (opened_over begun (record one { pages = pages }) keys))
 
 -- ---- the headline
@@ -67,9 +68,9 @@ WritesOver begun old new bytes =
 pub record BrowsesOver (begun : Begun) (capacity : ℕ) (old new : Devices) (status : Status)
     : Type 0 where
   -- what was read and written, what was asked for, and how it ended, over all pages that the
-  -- contents are; and the contents stay
-  pub browses : Browses (ArePagesAndCalls old.store) (opened_over begun) (unjudged capacity old)
-      (unjudged capacity new) status
+  -- contents may be, with which all agrees that the store told
+  pub browses : Browses (ArePagesAndCalls new.store) (opened_over begun) (uncached capacity old)
+      (uncached capacity new) status
   -- where all keys were played, scripts to which nobody was let in might have been any others
   pub denied : (is_open : Bool) → status ≡ at_end is_open
-      → IfSome old.source.left (WritesOver begun old new)
+      → (bytes : List ℕ) → MayGive old.source new.source bytes → WritesOver begun old new bytes

@@ -1,8 +1,9 @@
 -- The store, the source and the sink of a run at a moment. This project's own.
-use Rattle.std.specs.Prelude.{ℕ, [], Some, None}
+use Rattle.std.specs.Prelude.{ℕ, []}
 use Rattle.wap_devices.specs.Stores.{StoreSeen}
 use Rattle.wap_devices.specs.Sources.{SourceSeen}
 use Rattle.wap_devices.specs.Sinks.{SinkSeen}
+use Rattle.wap_pages.specs.Caches.{seen_over}
 use Rattle.wap_cli.specs.browse.Outside.{Outside}
 use Rattle.wap_cli.specs.replay.Outside.{Outside as Around}
 
@@ -12,18 +13,10 @@ pub record Devices : Type 0 where
   pub source : SourceSeen
   pub sink : SinkSeen
 
--- as a browser sees them: of the pages there are the bytes, and not what they are judged, and none
--- of so many is kept yet
-abbrev pub unjudged : ℕ → Devices → Outside
-unjudged capacity devices = record {
-  pages = record {
-    contents = None;
-    behind = devices.store.contents;
-    cache = Some (record { names = []; capacity = capacity });
-    faults = devices.store.faults;
-    fetches = devices.store.fetches;
-    listings = devices.store.listings;
-  };
+-- as a browser sees them whose cache has room for so many pages, and keeps none yet
+abbrev pub uncached : ℕ → Devices → Outside
+uncached capacity devices = record {
+  pages = seen_over devices.store (record { names = []; capacity = capacity });
   source = devices.source;
   sink = devices.sink;
 }

@@ -1,7 +1,7 @@
 -- What a run comes to, by its command. This project's own.
 use Rattle.std.specs.Prelude.{◌≡◌, ◌≢◌, ◌⊎◌, ℕ, ◌≤◌, false, List, Option, Some, None}
 use Rattle.wap_base.specs.Count.{raised, Rose}
-use Rattle.wap_devices.specs.Stores.{StoreSeen}
+use Rattle.wap_devices.specs.Stores.{StoreSeen, Grew}
 use Rattle.wap_devices.specs.Sinks.{SinkSeen}
 use Rattle.wap_pages.specs.declared.fault.PageFault.{PageFault}
 use Rattle.wap_keys.specs.declared.words.words.Browse.{Browse as Browsing}
@@ -42,9 +42,9 @@ IsAnswer status =
 pub record Serves (command : PageCommand) (name : List ℕ) (store store_after : StoreSeen)
     (sink sink_after : SinkSeen) (status : Status) : Type 0 where
   -- its text was written, or it was refused for a reason, for some page, which is that of the name
-  -- where the contents of the store are known
-  pub page : status ≢ StoreFault → (page : Option (List ℕ)) × IsPageOf store.contents name page
-      × Answers command page sink sink_after status
+  -- in any pages that may be the store's
+  pub page : status ≢ StoreFault → status ≢ NoMemory → (page : Option (List ℕ))
+      × IsPageOf store_after.known name page × Answers command page sink sink_after status
   pub ends : IsOfPage status
   -- out of memory is no reason to refuse
   pub of_reason : (fault : PageFault) → status ≡ Refused fault → is_of_memory fault ≡ false
@@ -67,7 +67,7 @@ pub record Serves (command : PageCommand) (name : List ℕ) (store store_after :
       ⊎ (store_after.fetches ≡ raised store.fetches)
   pub listings : store_after.listings ≡ store.listings
   -- however it ends
-  pub kept : store_after.contents ≡ store.contents
+  pub kept : Grew store.known store_after.known
   pub store_counts : store.faults ≤ store_after.faults
   pub write_counts : sink.faults ≤ sink_after.faults
 

@@ -1,10 +1,12 @@
 pub mod Statuses
 pub mod Headline
 pub mod Browsing
+pub mod InMemory
 pub mod Replaying
 pub mod SavedSessions
 pub mod Calls
 pub mod Devices
+pub mod Here
 pub mod Answers
 pub mod Memory
 pub mod Folders

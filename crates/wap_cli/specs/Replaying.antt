@@ -10,13 +10,13 @@ use Rattle.wap_cli.specs.replay.Headline.{Replays}
 use Rattle.wap_cli.specs.Browsing.{PagesAndCalls, ArePagesAndCalls, source_site}
 use Rattle.wap_cli.specs.Devices.{Devices, around}
 
--- the site of pages that the contents of a store are
+-- the site of pages that the contents of a store may be
 abbrev pub IsSiteOver : StoreSeen → Site → Type 0
 IsSiteOver store site =
     (one : PagesAndCalls) × ArePagesAndCalls store one × (site ≡ source_site one)
 
--- sessions that begin so, one for each list of keys: the store, the keys and what was written before
--- and after, and the status
+-- sessions that begin so, one for each list of keys: the store, the keys and what was written
+-- before and after, and the status
 abbrev pub ReplaysOver : Begun → Devices → Devices → Status → Type 0
 ReplaysOver begun old new status =
-    Replays (IsSiteOver old.store) begun (around old) (around new) status
+    Replays (IsSiteOver new.store) begun (around old) (around new) status

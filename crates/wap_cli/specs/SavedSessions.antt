@@ -1,22 +1,22 @@
 -- The headlines of saved sessions: what saving one over a store comes to, and going on with one,
--- where the store's pages are those that its contents are by the relations of bytes, and a source of
--- a script means what its program means. This project's own.
+-- over any pages that may be the store's by the relations of bytes, where a source of a script
+-- means what its program means. This project's own.
 use Rattle.std.specs.Prelude.{ℕ, List}
 use Rattle.wap_world.specs.Sessions.{Begun}
 use Rattle.wap_cli.specs.declared.status.Status.{Status}
 use Rattle.wap_cli.specs.resume.Saving.{Images}
 use Rattle.wap_cli.specs.resume.Resuming.{Resumes}
 use Rattle.wap_cli.specs.Browsing.{ArePagesAndCalls, source_site}
-use Rattle.wap_cli.specs.Devices.{Devices, unjudged}
+use Rattle.wap_cli.specs.Devices.{Devices, uncached}
 
 -- a session that begins so is played, with room for so many pages in the cache, and saved where its
 -- keys end: the store, the keys and what was written before and after, and the status
 abbrev pub ImagesOver : Begun → ℕ → Devices → Devices → Status → Type 0
-ImagesOver begun capacity old new status = Images (ArePagesAndCalls old.store) source_site begun
-    (unjudged capacity old) (unjudged capacity new) status
+ImagesOver begun capacity old new status = Images (ArePagesAndCalls new.store) source_site begun
+    (uncached capacity old) (uncached capacity new) status
 
 -- a session goes on with what was saved under a name, with room for so many pages in the cache: the
 -- same before and after, and the status
 abbrev pub ResumesOver : List ℕ → ℕ → Devices → Devices → Status → Type 0
-ResumesOver name capacity old new status = Resumes (ArePagesAndCalls old.store) source_site name
-    (unjudged capacity old) (unjudged capacity new) status
+ResumesOver name capacity old new status = Resumes (ArePagesAndCalls new.store) source_site name
+    (uncached capacity old) (uncached capacity new) status

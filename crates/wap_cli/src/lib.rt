@@ -20,6 +20,7 @@
 pub mod browse;
 mod browsing;
 mod commands;
+mod here;
 pub mod inspect;
 mod laws;
 pub mod made;
@@ -35,5 +36,6 @@ pub mod saving;
 mod status;
 
 pub use commands::run;
-pub use laws::calls_are_read_one_way;
+pub use here::{Ended, run_here};
+pub use laws::{calls_are_read_one_way, held_devices_are_browsed_exactly};
 pub use status::Status;

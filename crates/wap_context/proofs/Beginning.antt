@@ -33,7 +33,8 @@ use Rattle.wap_world.specs.Requests.{test, test_of}
 use Rattle.wap_world.specs.Starting.{script_line, is_too_long, not_started, ended_script}
 use Rattle.wap_world.proofs.Joining.{once_before}
 use Rattle.wap_world.specs.scripting.Units.{entrance_in, index_named, external_in}
-use Rattle.wap_world.specs.scripting.UnitSites.{Pages, shelf_of, keyed_host, ran_of, started_at}
+use Rattle.wap_world.specs.scripting.UnitSites.{Pages, shelf_of, unit_pages, keyed_host, ran_of}
+use Rattle.wap_world.specs.scripting.UnitSites.{started_at}
 use Rattle.wap_world.specs.scripting.Waiting.{inside}
 use Rattle.wap_state.specs.Scenes.{Line}
 use Rattle.wap_context.specs.declared.waiting.Went.{Went}
@@ -52,7 +53,7 @@ use Rattle.wap_context.proofs.Ending.{failed_is}
 use Rattle.wap_context.proofs.Places.{held_now}
 use Rattle.wap_context.proofs.Plays.{history_kept, over_kept, turns_kept, plays_behind}
 use Rattle.wap_context.proofs.Arrivals.{moves_settled}
-use Rattle.wap_context.proofs.Takings.{Rule, over_all, takes_moves, takes_by, takes_from, takes_after}
+use Rattle.wap_context.proofs.Takings.{Rule, takes_moves, takes_by, takes_from, takes_after}
 
 -- ---- what is started can be entered
 
@@ -167,13 +168,14 @@ module _ (seen : Seen) (old new : Browser) (before shown : List Line) (unit : Un
   start_rejects why found string went is limit rejected moves none =
       takes_moves Starting seen old new before shown went
       (not_started_at why (place_held old) old.world) (λ shelf. IsOver shelf old) moves none
-      (over_all seen.contents old (λ pages over. (
+      (λ judged may over.
+      let pages = unit_pages judged in (
         over,
         λ keys.
             ap (λ (one : Start). started_with unit sets caller url one pages keys old.world)
             (ap (λ (n : ℕ). start_of unit n url) (sym limit) ∙ sym is ∙ rejected)
             ∙ not_started_is (shelf_of pages) old over why keys,
-      )))
+      ))
 
   pub start_begins : (after : Seen) (result : Result Went RunErr) (found : Start) (string : ℕ)
       (index : ℕ) (arguments : List Value)
@@ -202,12 +204,12 @@ module _ (seen : Seen) (old new : Browser) (before shown : List Line) (unit : Un
       let one = test_of url caller (entrance_in unit) in
       takes_after (script_with unit sets caller url) (Allowed b) (test [] one old.world) seen seen
       after old new before before shown result (sym (append-nil before)) refl (Stays-same seen) refl
-      (over_all seen.contents old (λ pages over. (
+      (λ judged may over. (
         Asks-nil seen,
         λ keys.
             ap (λ (c : Bool). after_step (test keys one old.world)
-            (allowed_with unit sets caller url c pages keys old.world)) (sym is),
-      )))
+            (allowed_with unit sets caller url c (unit_pages judged) keys old.world)) (sym is),
+      ))
       takes
 
   pub script_allowed : (after : Seen) (result : Result Went RunErr) (b : Bool)
@@ -226,8 +228,10 @@ module _ (seen : Seen) (old new : Browser) (before shown : List Line) (unit : Un
       tested seen (Ok went) false (sym denied ∙ is)
       (takes_moves (Allowed false) seen old new before shown went
       (not_started_at fatal.Denied (place_held old) old.world) (λ shelf. IsOver shelf old) moves none
-      (over_all seen.contents old
-      (λ pages over. (over, λ keys. not_started_is (shelf_of pages) old over fatal.Denied keys))))
+      (λ judged may over. (
+        over,
+        not_started_is (shelf_of (unit_pages judged)) old over fatal.Denied,
+      )))
 
 -- ---- the start
 
@@ -352,10 +356,11 @@ pub stop_takes : (seen : Seen) (old new : Browser) (before shown : List Line) (b
 stop_takes seen old new before shown base at went at_is moves none =
     takes_moves (Stops base) seen old new before shown went
     (failed_at fatal.Stopped (place_held old) old.world) (λ shelf. IsOver shelf old) moves none
-    (over_all seen.contents old (λ pages over. (
+    (λ judged may over.
+    let shelf = shelf_of (unit_pages judged) in (
       over,
       λ keys.
-          failed_is (shelf_of pages) base (quiet keys (still old.world)) fatal.Stopped
+          failed_is shelf base (quiet keys (still old.world)) fatal.Stopped
           ∙ ap (λ (p : Option Place). once_before keys (failed_at fatal.Stopped p old.world))
-          (held_now (shelf_of pages) old over),
-    )))
+          (held_now shelf old over),
+    ))

@@ -6,11 +6,11 @@ use Rattle.std.specs.Prelude.{Result, IsErr, IsErrAnd}
 use Rattle.std.specs.Option.{option_map}
 use Rattle.std.proofs.lemmas.Bool.{lt-ltb, le-ltb, false≢true}
 use Rattle.wap_base.specs.declared.fault.RunErr.{RunErr}
-use Rattle.wap_base.specs.declared.fault.RunErr.TheVariants.{NoMemory}
+use Rattle.wap_base.specs.declared.fault.RunErr.TheVariants.{Store, NoMemory}
 use Rattle.wap_base.specs.declared.key.Key.{Key}
 use Rattle.wap_cardrules.specs.declared.event.Event.TheVariants as event
 use Rattle.wap_cardrules.specs.declared.task.Task.{Task}
-use Rattle.wap_world.specs.site.Asking.{Seen, Stays}
+use Rattle.wap_world.specs.site.Asking.{Seen}
 use Rattle.wap_world.proofs.SiteLemmas.Asking.{Asks-nil, Stays-same}
 use Rattle.wap_world.specs.declared.timer.Timer.{Timer}
 use Rattle.wap_world.specs.declared.timer.Timer.TheVariants.{NotStarted, Running, Off, Expired}
@@ -23,7 +23,7 @@ use Rattle.wap_world.specs.Tasks.{act}
 use Rattle.wap_world.specs.Keys.{ignored, act_or, expire, pass_time, at_card}
 use Rattle.wap_world.proofs.Joining.{joined_nothing}
 use Rattle.wap_world.specs.scripting.Dialogs.{tick_waiting}
-use Rattle.wap_world.specs.scripting.UnitSites.{Pages, shelf_of, units_site}
+use Rattle.wap_world.specs.scripting.UnitSites.{Pages, shelf_of, unit_pages, units_site}
 use Rattle.wap_state.specs.Scenes.{Line}
 use Rattle.wap_context.specs.declared.waiting.Went.{Went}
 use Rattle.wap_context.specs.declared.waiting.Went.TheVariants.{Settled, Leads, Asks as AsksUser}
@@ -34,15 +34,28 @@ use Rattle.wap_context.specs.Sites.{site_of}
 use Rattle.wap_context.specs.Missing.{Missed}
 use Rattle.wap_context.specs.Acting.{tick}
 use Rattle.wap_context.specs.inside.AtHand.{event_at}
-use Rattle.wap_context.specs.inside.Moving.{PlaysAt, next_in, waits_in, pursued, Pursues}
+use Rattle.wap_context.specs.inside.Moving.{PlaysAt, next_in, waits_in, pursued, Ends, Pursues}
 use Rattle.wap_context.specs.inside.Ticking.{left_of, left_at, end_place, run_out}
 use Rattle.wap_context.specs.inside.Ticking.{count_down_at}
 use Rattle.wap_context.proofs.Places.{held_now}
-use Rattle.wap_context.proofs.Plays.{history_kept, over_kept}
-use Rattle.wap_context.proofs.Takings.{over_all, over_map, if_ok_both}
+use Rattle.wap_context.proofs.Plays.{history_kept, over_kept, if_ok}
+use Rattle.wap_context.proofs.Takings.{over_map}
 use Rattle.wap_context.proofs.Pursuing.{StepRule, Going, ends_settled, pursues_after}
 
 -- ---- by other rules
+
+ends_from : (pages : Pages) (rule other : List Key → Step) (seen after : Seen) (new : Browser)
+    (before : List Line) (did : Did) → ((keys : List Key) → other keys ≡ rule keys)
+    → Ends pages other seen after new before did → Ends pages rule seen after new before did
+ends_from pages rule other seen after new before did is ended = record {
+  step = ended.step;
+  world = ended.world;
+  lines = ended.lines;
+  closed = ended.closed;
+  over = ended.over;
+  asks = ended.asks;
+  on = λ keys. sym (is keys) ∙ ended.on keys;
+}
 
 pub pursues_from : (rule other : StepRule) (seen after : Seen) (old new : Browser)
     (before : List Line) (result : Result Did RunErr)
@@ -51,18 +64,12 @@ pub pursues_from : (rule other : StepRule) (seen after : Seen) (old new : Browse
     → Pursues other seen after old new before result
     → Pursues rule seen after old new before result
 pursues_from rule other seen after old new before result is so = record {
-  follows = if_ok_both result (λ did. over_map seen.contents old old (λ pages over. over)
-      (λ pages over ended. record {
-        step = ended.step;
-        world = ended.world;
-        lines = ended.lines;
-        closed = ended.closed;
-        over = ended.over;
-        asks = ended.asks;
-        on = λ keys. sym (is pages over keys) ∙ ended.on keys;
-      })) so.follows;
+  follows = if_ok result (λ did. over_map after old old (λ pages over. over)
+      (λ pages over ended. ends_from pages (λ keys. rule pages keys old.world)
+      (λ keys. other pages keys old.world) seen after new before did (is pages over) ended))
+      so.follows;
   steady = so.steady;
-  missed = λ failed. over_map seen.contents old old (λ pages over. over)
+  missed = λ failed. over_map after old old (λ pages over. over)
       (λ pages over missed. subst (λ (s : Step). Missed s.asked seen after) (is pages over [])
       missed) (so.missed failed);
   rose = so.rose;
@@ -70,18 +77,19 @@ pursues_from rule other seen after old new before result is so = record {
 }
 
 -- out of memory
-pub pursues_rejected : (rule : StepRule) (seen after : Seen) (old new : Browser)
-    (before : List Line) (result : Result Did RunErr) → Stays seen after
-    → IsErr result → IsErrAnd result (λ err. err ≡ NoMemory)
-    → Pursues rule seen after old new before result
-pursues_rejected rule seen after old new before (Ok did) stays is so = absurd (false≢true is)
-pursues_rejected rule seen after old new before (Err err) stays is so = record {
+pub pursues_rejected : {rule : StepRule} {seen : Seen} {old new : Browser} {before : List Line}
+    (result : Result Did RunErr) → IsErr result → IsErrAnd result (λ err. err ≡ NoMemory)
+    → Pursues rule seen seen old new before result
+pursues_rejected (Ok did) is so = absurd (false≢true is)
+pursues_rejected {rule} {seen} (Err err) is so = record {
   follows = tt;
   steady = tt;
-  missed = λ failed. absurd (cc);
-  rose = λ failed. absurd (cc);
-  stays = stays;
-}
+  missed = λ e. absurd (cc (sym so ∙ same err e));
+  rose = λ e. absurd (cc (sym so ∙ same err e));
+  stays = Stays-same seen;
+} where
+  same : (fault : RunErr) → ◌≡◌ {A = Result Did RunErr} (Err fault) (Err Store) → fault ≡ Store
+  same fault e = cc e
 
 -- ---- a scene, and then what is left to do
 
@@ -93,15 +101,15 @@ pub after_scene : (rule : StepRule) (seen : Seen) (old mid : Browser) (before mi
     → rule pages keys old.world ≡ then_step (quiet [] scene) (pursued went pages keys scene.world))
     → Going rule seen seen old mid before middle went
 after_scene rule seen old mid before middle scene went world lines onto is = record {
-  follows = over_all seen.contents old (λ pages over. record {
+  follows = λ judged may over. record {
     step = quiet [] scene;
     world = world;
     lines = lines;
     closed = refl;
-    over = onto (shelf_of pages) over;
+    over = onto (shelf_of (unit_pages judged)) over;
     asks = Asks-nil seen;
-    on = is pages over;
-  });
+    on = is (unit_pages judged) over;
+  };
   steady = refl;
   stays = Stays-same seen;
 }

@@ -18,7 +18,7 @@ use Rattle.wap_world.specs.Steps.{Step, Once, Next, still, quiet, then_step}
 use Rattle.wap_world.specs.Tasks.{go_on, onward, act, task_once}
 use Rattle.wap_world.proofs.Joining.{before, joined_assoc, joined_nothing}
 use Rattle.wap_world.proofs.SessionLawsLemmas.Following.{act_goes_on}
-use Rattle.wap_world.specs.scripting.UnitSites.{Pages, shelf_of}
+use Rattle.wap_world.specs.scripting.UnitSites.{Pages, shelf_of, unit_pages}
 use Rattle.wap_world.specs.scripting.Waiting.{Waits, left_over, resumed_step}
 use Rattle.wap_world.specs.scripting.Halves.{once_by}
 use Rattle.wap_world.specs.scripting.Feeding.{meaning}
@@ -37,7 +37,8 @@ use Rattle.wap_context.specs.Acting.{lines_in, waiting_in, fed_of, Follows, Acts
 use Rattle.wap_context.specs.inside.Moving.{next_in, waits_in, Goes, Takes, Spends, pursued}
 use Rattle.wap_context.specs.inside.Moving.{Ends, Pursues}
 use Rattle.wap_context.proofs.Missing.{Asks-missed, Missed-more}
-use Rattle.wap_context.proofs.Takings.{Rule, over_all, over_map, both_told, on_ok_both}
+use Rattle.wap_context.proofs.Plays.{on_ok}
+use Rattle.wap_context.proofs.Takings.{Rule, over_map, both_told}
 
 -- a rule for a whole call
 abbrev pub StepRule : Type 0
@@ -102,7 +103,7 @@ pub record Behind (pages : Pages) (rule : List Key → Step) (seen now : Seen) (
 
 pub record Going (rule : StepRule) (seen now : Seen) (old browser : Browser)
     (before shown : List Line) (went : Went) : Type 0 where
-  pub follows : IfOver seen.contents old
+  pub follows : IfOver now old
       (λ pages. Behind pages (λ keys. rule pages keys old.world) seen now browser before shown went)
   pub steady : now.faults ≡ seen.faults
   pub stays : Stays seen now
@@ -111,7 +112,7 @@ pub record Going (rule : StepRule) (seen now : Seen) (old browser : Browser)
 pub begins : (first : Went) (seen : Seen) (old : Browser) (before shown : List Line)
     → shown ≡ before → Going (pursued first) seen seen old old before shown first
 begins first seen old before shown same = record {
-  follows = over_all seen.contents old (λ pages over. record {
+  follows = λ judged may over. record {
     step = quiet [] (still old.world);
     world = refl;
     lines = same ∙ sym (append-nil before);
@@ -119,7 +120,7 @@ begins first seen old before shown same = record {
     over = over;
     asks = Asks-nil seen;
     on = λ keys. refl;
-  });
+  };
   steady = refl;
   stays = Stays-same seen;
 }
@@ -192,12 +193,12 @@ pub goes_on : (rule : StepRule) (seen now after : Seen) (old b new : Browser)
 goes_on rule seen now after old b new before shown more went task from next is so_far takes =
     let done = subst (Going rule seen now old b before shown) is so_far in
     record {
-      follows = both_told seen.contents now.contents old b
+      follows = both_told now after old b
           {P = λ pages. Behind pages (λ keys. rule pages keys old.world) seen now b before shown
           (Leads task from)}
           {Q = λ pages. Goes pages (λ keys. Tasks task from pages keys b.world) now after new shown
           more next}
-          done.stays.contents (λ pages behind. behind.over)
+          takes.stays (λ pages behind. behind.over)
           (λ pages behind goes.
           behind_then pages (λ keys. rule pages keys old.world) seen now after b new before shown
           more (Leads task from) next behind
@@ -215,16 +216,17 @@ pub ends : (rule : StepRule) (seen now : Seen) (old b : Browser) (before shown :
     → Going rule seen now old b before shown went
     → Pursues rule seen now old b before (Ok did)
 ends rule seen now old b before shown went did shows left so_far = record {
-  follows = over_map seen.contents old old (λ pages over. over)
-      (λ pages over behind. record {
+  follows = λ judged may over.
+      let behind = so_far.follows judged may over in record {
         step = behind.step;
         world = behind.world;
         lines = shows ∙ behind.lines;
         closed = behind.closed;
         over = behind.over;
         asks = behind.asks;
-        on = λ keys. behind.on keys ∙ ap (then_step behind.step) (left pages keys behind.step.world);
-      }) so_far.follows;
+        on = λ keys. behind.on keys
+            ∙ ap (then_step behind.step) (left (unit_pages judged) keys behind.step.world);
+      };
   steady = so_far.steady;
   missed = λ failed. absurd (cc);
   rose = λ failed. absurd (cc);
@@ -280,11 +282,11 @@ fails rule seen now after old b new before shown more went task from err is so_f
     record {
       follows = tt;
       steady = tt;
-      missed = λ failed. both_told seen.contents now.contents old b
+      missed = λ failed. both_told now after old b
           {P = λ pages. Behind pages (λ keys. rule pages keys old.world) seen now b before shown
           (Leads task from)}
           {Q = λ pages. Missed (Tasks task from pages [] b.world).step.asked now after}
-          done.stays.contents (λ pages behind. behind.over)
+          takes.stays (λ pages behind. behind.over)
           (λ pages behind missed.
           fails_behind pages (λ keys. rule pages keys old.world) seen now after b before shown task
           from takes.stays behind missed)
@@ -354,20 +356,20 @@ ends_after pages rule seen now after mid new before shown went did first second 
 
 then_ok : (rule : StepRule) (seen now after : Seen) (old mid new : Browser)
     (before shown : List Line) (went : Went) (result : Result Did RunErr)
-    → Going rule seen now old mid before shown went
-    → IfOk result (λ did. IfOver now.contents mid
+    → Going rule seen now old mid before shown went → Stays now after
+    → IfOk result (λ did. IfOver after mid
     (λ pages. Ends pages (λ keys. pursued went pages keys mid.world) now after new shown did))
-    → IfOk result (λ did. IfOver seen.contents old
+    → IfOk result (λ did. IfOver after old
     (λ pages. Ends pages (λ keys. rule pages keys old.world) seen after new before did))
-then_ok rule seen now after old mid new before shown went (Ok did) first second =
-    both_told seen.contents now.contents old mid
+then_ok rule seen now after old mid new before shown went (Ok did) first stays second =
+    both_told now after old mid
     {P = λ pages. Behind pages (λ keys. rule pages keys old.world) seen now mid before shown went}
     {Q = λ pages. Ends pages (λ keys. pursued went pages keys mid.world) now after new shown did}
-    first.stays.contents (λ pages behind. behind.over)
+    stays (λ pages behind. behind.over)
     (λ pages behind ended. ends_after pages (λ keys. rule pages keys old.world) seen now after mid new
     before shown went did behind ended)
     first.follows second
-then_ok rule seen now after old mid new before shown went (Err err) first second = tt
+then_ok rule seen now after old mid new before shown went (Err err) first stays second = tt
 
 missed_after : (pages : Pages) (rule : List Key → Step) (seen now after : Seen) (mid : Browser)
     (before shown : List Line) (went : Went) → Stays now after
@@ -388,13 +390,14 @@ pub pursues_after : (rule : StepRule) (seen now after : Seen) (old mid new : Bro
     → Pursues (pursued went) now after mid new shown result
     → Pursues rule seen after old new before result
 pursues_after rule seen now after old mid new before shown went result first second = record {
-  follows = then_ok rule seen now after old mid new before shown went result first second.follows;
-  steady = on_ok_both result (λ (same : after.faults ≡ now.faults). same ∙ first.steady)
+  follows = then_ok rule seen now after old mid new before shown went result first second.stays
+      second.follows;
+  steady = on_ok result (λ (same : after.faults ≡ now.faults). same ∙ first.steady)
       second.steady;
-  missed = λ failed. both_told seen.contents now.contents old mid
+  missed = λ failed. both_told now after old mid
       {P = λ pages. Behind pages (λ keys. rule pages keys old.world) seen now mid before shown went}
       {Q = λ pages. Missed (pursued went pages [] mid.world).asked now after}
-      first.stays.contents (λ pages behind. behind.over)
+      second.stays (λ pages behind. behind.over)
       (λ pages behind missed. missed_after pages (λ keys. rule pages keys old.world) seen now after
       mid before shown went second.stays behind missed)
       first.follows (second.missed failed);
@@ -407,7 +410,7 @@ pub taken : (rule : Rule) (seen now : Seen) (old mid : Browser) (before shown : 
     (went : Went) → Takes rule seen now old mid before shown (Ok went)
     → Going (Onward rule) seen now old mid before shown went
 taken rule seen now old mid before shown went takes = record {
-  follows = over_map seen.contents old old (λ pages over. over)
+  follows = over_map now old old (λ pages over. over)
       (λ pages over goes. goes_behind pages (λ keys. rule pages keys old.world) seen now mid before
       shown went goes) takes.follows;
   steady = takes.steady;
@@ -421,7 +424,7 @@ pub taken_err : (rule : Rule) (seen now : Seen) (old mid : Browser) (before show
 taken_err rule seen now old mid before shown err takes = record {
   follows = tt;
   steady = tt;
-  missed = λ failed. over_map seen.contents old old (λ pages over. over)
+  missed = λ failed. over_map now old old (λ pages over. over)
       (λ pages over missed.
       let once = rule pages [] old.world in
       let rest = asked_by (act (site_of pages)) once.step once.next in
@@ -491,21 +494,21 @@ module _ (pages : Pages) (rule : List Key → World → Step) (seen after : Seen
 
 acts_follow : (rule : StepRule) (seen after : Seen) (old new : Browser)
     (result : Result Did RunErr)
-    → IfOk result (λ did. IfOver seen.contents old
+    → IfOk result (λ did. IfOver after old
     (λ pages. Ends pages (λ keys. rule pages keys old.world) seen after new [] did))
-    → IfOk result (λ did. IfOver seen.contents old
+    → IfOk result (λ did. IfOver after old
     (λ pages. Follows pages (rule pages) old new did))
 acts_follow rule seen after old new (Ok did) so =
-    over_map seen.contents old old (λ pages over. over)
+    over_map after old old (λ pages over. over)
     (λ pages over ended. follows_so pages (rule pages) seen after old new did ended) so
 acts_follow rule seen after old new (Err err) so = tt
 
 acts_ask : (rule : StepRule) (seen after : Seen) (old new : Browser) (result : Result Did RunErr)
-    → IfOk result (λ did. IfOver seen.contents old
+    → IfOk result (λ did. IfOver after old
     (λ pages. Ends pages (λ keys. rule pages keys old.world) seen after new [] did))
-    → OnOk result (IfOver seen.contents old (λ pages. Asks (rule pages [] old.world).asked seen after))
+    → OnOk result (IfOver after old (λ pages. Asks (rule pages [] old.world).asked seen after))
 acts_ask rule seen after old new (Ok did) so =
-    over_map seen.contents old old (λ pages over. over)
+    over_map after old old (λ pages over. over)
     (λ pages over ended. asks_so pages (rule pages) seen after old new did ended) so
 acts_ask rule seen after old new (Err err) so = tt
 

@@ -20,7 +20,7 @@ use Rattle.wap_cardrules.specs.Values.{Pairs}
 use Rattle.wap_world.specs.declared.site.page.Page.{Page as JudgedPage}
 use Rattle.wap_world.specs.declared.site.page.Page.TheVariants as judged_page
 use Rattle.wap_world.specs.site.Pages.{Pages as JudgedPages, page_of, AreSitePages}
-use Rattle.wap_world.specs.site.Asking.{Seen, Stays, Asks}
+use Rattle.wap_world.specs.site.Asking.{Seen, Asks}
 use Rattle.wap_world.specs.site.Misses.{Asked as Question}
 use Rattle.wap_world.specs.declared.history.Entry.{Entry}
 use Rattle.wap_world.specs.declared.refusal.Refusal.{Refusal}
@@ -64,9 +64,9 @@ use Rattle.wap_context.proofs.Navigations.{stay_by, stay_found, base_held, go_is
 use Rattle.wap_context.proofs.Navigations.{open_is}
 use Rattle.wap_context.proofs.Navigations.{open_refused, back_by, back_found}
 use Rattle.wap_context.proofs.Navigations.{turn_is, turn_none, over_turn}
-use Rattle.wap_context.proofs.Takings.{Rule, over_all, over_same, takes_moves, takes_task}
+use Rattle.wap_context.proofs.Takings.{Rule, takes_moves, takes_task}
 use Rattle.wap_context.proofs.Takings.{takes_from, takes_after}
-use Rattle.wap_context.proofs.Takings.{After, told_asked, takes_by, takes_err, takes_missed}
+use Rattle.wap_context.proofs.Takings.{After, told_asked, takes_by, takes_rejected, takes_missed}
 use Rattle.wap_context.proofs.Takings.{onces_from}
 use Rattle.wap_context.proofs.Scripts.{script_is}
 
@@ -114,11 +114,12 @@ module _ (seen : Seen) (old new : Browser) (before : List Line) where
   refused_takes rule shown next went refusal leads none is moves =
       takes_task rule seen old new before shown next went
       (refused_at refusal (place_held old) old.world) (λ shelf. IsOver shelf old) leads none moves
-      (over_all seen.contents old (λ pages over. (
+      (λ judged may over.
+      let pages = unit_pages judged in (
         over,
         λ keys.
             is pages over keys ∙ refused_on (shelf_of pages) old over refusal keys,
-      )))
+      ))
 
   -- ---- a request, and what answers
 
@@ -172,17 +173,14 @@ module _ (seen : Seen) (old new : Browser) (before : List Line) where
       takes_after (Asking sets caller one) (Answering sets caller one) (ask [] one old.world)
       seen after after old new before mid shown (Ok went) asked.lines refl asked.stays
       asked.asks.steady
-      (over_all seen.contents old
-      (λ pages over. asked_after sets caller one after pages asked.asks))
+      (λ judged may over. asked_after sets caller one after (unit_pages judged) asked.asks)
       (takes_task (Answering sets caller one) after old new mid shown next went
       (answered_at sets caller one.url (place_held old) old.world answer)
       (Answers one.url answer old) leads none
       (subst (λ (u : Url). Moves (answered_at sets caller u (place_held old) old.world answer)
       (Answers u answer old) old new mid shown (option_map then_task next)) is moves)
-      (over_same seen.contents after.contents old (Answered sets caller one answer)
-      asked.stays.contents
       (told_asked one seen after old before mid page (Answered sets caller one answer) asked
-      (answered_law sets caller one page answer entered))))
+      (answered_law sets caller one page answer entered)))
 
   -- a script
   abbrev Started : Pairs → Option Url → Request → Unit → Pages → Type 0
@@ -274,7 +272,7 @@ module _ (seen : Seen) (old new : Browser) (before : List Line) where
       (arrive_at sets at (place_held old) old.world page.1) (HasDeck at page.1) leads none
       (subst (λ (u : Url). Moves (arrive_at sets u (place_held old) old.world page.1)
       (HasDeck u page.1) old new before shown (option_map then_task next)) same moves)
-      (over_all seen.contents old (stays_law sets caller one found page here is))
+      (λ judged may. stays_law sets caller one found page here is (unit_pages judged))
 
   asks_law : (sets : Pairs) (caller : Option Url) (one : Request) (found : Option Page)
       → found ≡ page_here one (place_held old) → found ≡ None
@@ -340,14 +338,12 @@ module _ (seen : Seen) (old new : Browser) (before : List Line) where
       takes_after (AsksBack sets earlier) (Returning sets earlier) (ask [] get old.world)
       seen after after old new before mid shown (Ok went) asked.lines refl asked.stays
       asked.asks.steady
-      (over_all seen.contents old (λ pages over. (asked.asks, λ keys. refl)))
+      (λ judged may over. (asked.asks, λ keys. refl))
       (takes_task (Returning sets earlier) after old new mid shown next went
       (returned_at sets earlier (place_held old) old.world answer)
       (Answers earlier.url answer old) leads none moves
-      (over_same seen.contents after.contents old (Returned sets earlier answer)
-      asked.stays.contents
       (told_asked get seen after old before mid page (Returned sets earlier answer) asked
-      (returned_law sets earlier page answer is))))
+      (returned_law sets earlier page answer is)))
 
   returns_law : (sets : Pairs) (earlier : Entry) (found : Option Page) (page : Page)
       → found ≡ page_under earlier.url (place_held old) → found ≡ Some page
@@ -379,7 +375,7 @@ module _ (seen : Seen) (old new : Browser) (before : List Line) where
       (return_at sets at (place_held old) old.world page.1) (HasDeck page.0 page.1) leads none
       (subst (λ (e : Entry). Moves (return_at sets e (place_held old) old.world page.1)
       (HasDeck e.url page.1) old new before shown (option_map then_task next)) same moves)
-      (over_all seen.contents old (returns_law sets earlier found page here is))
+      (λ judged may. returns_law sets earlier found page here is (unit_pages judged))
 
   pub back_asks : (sets : Pairs) (earlier : Entry) (after : Seen) (shown : List Line)
       (found : Option Page) (result : Result Went RunErr)
@@ -442,13 +438,11 @@ page_missed rule one seen after old new before shown err result is first so =
     (takes_missed rule one seen after old new before shown err first so)
 
 -- out of memory
-pub onces_rejected : (rule : Rule) (seen after : Seen) (old new : Browser)
-    (before shown : List Line) (result : Result Went RunErr) → Stays seen after
-    → IsErr result → IsErrAnd result (λ err. err ≡ NoMemory)
-    → Onces rule seen after old new before shown result
-onces_rejected rule seen after old new before shown (Ok went) stays is so = absurd (false≢true is)
-onces_rejected rule seen after old new before shown (Err err) stays is so =
-    record { takes = takes_err rule seen after old new before shown err stays so; spends = tt }
+pub onces_rejected : {rule : Rule} {seen : Seen} {old new : Browser} {before shown : List Line}
+    (result : Result Went RunErr) → IsErr result → IsErrAnd result (λ err. err ≡ NoMemory)
+    → Onces rule seen seen old new before shown result
+onces_rejected (Ok went) is so = absurd (false≢true is)
+onces_rejected (Err err) is so = record { takes = takes_rejected (Err err) is so; spends = tt }
 
 -- ---- tasks
 
@@ -599,12 +593,13 @@ module _ (seen : Seen) (old new : Browser) (before : List Line) where
             (settled (quiet [] (refresh_at sets (place_held old) old.world)))
             (λ shelf. IsOver shelf old) (moves_settled (refresh_at sets) old new before shown plays)
             refl
-            (over_all seen.contents old (λ pages over. (
+            (λ judged may over.
+            let pages = unit_pages judged in (
               over,
               λ keys.
                   ap (λ (scene : Scene). settled (quiet keys scene))
                   (refresh_is (shelf_of pages) sets old.world (place_held old)
                   (held_now (shelf_of pages) old over)),
-            )));
+            ));
         spends = tt;
       })

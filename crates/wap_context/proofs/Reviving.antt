@@ -3,18 +3,19 @@ use Rattle.std.proofs.Common.{◌≡◌, ◌∙◌, sym, ap, subst, List, [], fa
 use Rattle.std.proofs.Common.{Option, Some, None, IfSome, Result, Ok, Err}
 use Rattle.std.proofs.lemmas.Bool.{false≢true}
 use Rattle.std.specs.Prelude.{IsErr, IsErrAnd, OnOk, IfOk, length, nat_lt}
-use Rattle.std.specs.Option.{option_map, option_map_or, option_to_list}
+use Rattle.std.specs.Option.{option_and_then, option_map_or, option_to_list}
 use Rattle.wap_base.specs.declared.fault.RunErr.{RunErr}
 use Rattle.wap_base.specs.declared.fault.RunErr.TheVariants.{Store, NoMemory}
+use Rattle.wap_url.specs.declared.url.Url.{Url}
 use Rattle.wap_url.specs.Printing.{name_for}
 use Rattle.wap_tokens.specs.declared.markup.deck.Deck.{Deck}
 use Rattle.wap_image.specs.declared.context_parts.parts.ContextParts.{ContextParts}
 use Rattle.wap_world.specs.declared.site.page.Page.{Page}
 use Rattle.wap_world.specs.declared.site.page.Page.TheVariants as page
-use Rattle.wap_world.specs.site.Pages.{Pages as JudgedPages, page_of}
+use Rattle.wap_world.specs.site.Pages.{Pages as JudgedPages, page_of, AreSitePages}
 use Rattle.wap_world.specs.site.Misses.{Asked as Question}
-use Rattle.wap_world.specs.site.Asking.{Seen, Stays, Asks}
-use Rattle.wap_world.proofs.SiteLemmas.Asking.{Stays-same}
+use Rattle.wap_world.specs.site.Asking.{Seen, MayBe, Stays, Asks}
+use Rattle.wap_world.proofs.SiteLemmas.Asking.{Asks-nil, Stays-same}
 use Rattle.wap_world.specs.declared.history.Entry.{Entry}
 use Rattle.wap_world.specs.World.{World, last_entry, deck_at, deck_in}
 use Rattle.wap_world.specs.History.{all_but_last, in_deck}
@@ -29,8 +30,6 @@ use Rattle.wap_context.specs.Missing.{Missed}
 use Rattle.wap_context.specs.Saved.{with_last_in, revived_on, revived, asked_for, StandsOver}
 use Rattle.wap_context.specs.Saved.{IsRevived, Revives}
 use Rattle.wap_context.specs.inside.Reviving.{AsksPage, IsReturned, Returns}
-use Rattle.wap_world.proofs.SiteLemmas.Asking.{Asks-nil}
-use Rattle.wap_world.specs.site.Pages.{AreSitePages}
 use Rattle.wap_context.specs.host.Finding.{shelved_page}
 use Rattle.wap_context.proofs.HostLemmas.Shelves.{shelved_is}
 
@@ -44,6 +43,19 @@ last_is deck world last is =
     }) (sym is)
 
 -- ---- a page that was asked for
+
+pub asks_rejected : (url : Url) (seen : Seen) (result : Result Page RunErr) → IsErr result
+    → IsErrAnd result (λ err. err ≡ NoMemory) → AsksPage url seen seen result
+asks_rejected url seen (Ok answer) is so = absurd (false≢true is)
+asks_rejected url seen (Err err) is so = record {
+  answer = tt;
+  site = tt;
+  asks = tt;
+  missed = λ e. absurd (cc (sym so ∙ same err e));
+  stays = Stays-same seen;
+} where
+  same : (one : RunErr) → ◌≡◌ {A = Result Page RunErr} (Err one) (Err Store) → one ≡ Store
+  same one e = cc e
 
 pub returns_ok : (world : World) (last : Entry) (before after : Seen) (answer : Page) (it : Revived)
     → AsksPage last.url before after (Ok answer) → it ≡ revived_on world answer
@@ -93,13 +105,10 @@ abbrev bare : World → Browser
 bare world = record { world = world; deck = None }
 
 -- without a card
-bare_over : (contents : Option JudgedPages) (world : World) → last_entry world ≡ None
-    → IfSome (option_map unit_pages contents)
-    (λ pages. StandsOver (shelf_of pages) (Context (bare world)))
-bare_over None world none = tt
-bare_over (Some pages) world none =
-    ap (λ (o : Option Entry). Rattle.std.specs.Option.option_and_then
-    (λ entry. deck_at (shelf_of (unit_pages pages)) entry.url) o) none
+bare_over : (pages : JudgedPages) (world : World) → last_entry world ≡ None
+    → StandsOver (shelf_of (unit_pages pages)) (Context (bare world))
+bare_over pages world none =
+    ap (option_and_then (λ (entry : Entry). deck_at (shelf_of (unit_pages pages)) entry.url)) none
 
 revived_bare : (parts : ContextParts) (answer : Page) → last_entry (saved_world parts) ≡ None
     → Context (bare (saved_world parts)) ≡ revived parts answer
@@ -111,15 +120,6 @@ asked_none : (parts : ContextParts) → last_entry (saved_world parts) ≡ None 
 asked_none parts none =
     ap (λ (o : Option Entry). map (λ entry. (name_for entry.url, false)) (option_to_list o)) none
 
-no_answer : (contents : Option JudgedPages) (parts : ContextParts)
-    → last_entry (saved_world parts) ≡ None
-    → IfSome contents (λ pages. IfSome (last_entry (saved_world parts))
-    (λ entry. page.Missing ≡ page_of (name_for entry.url) pages))
-no_answer None parts none = tt
-no_answer (Some pages) parts none =
-    subst (λ (o : Option Entry). IfSome o
-    (λ entry. page.Missing ≡ page_of (name_for entry.url) pages)) (sym none) tt
-
 pub revives_bare : (parts : ContextParts) (seen : Seen) (state : World)
     → state ≡ saved_world parts → last_entry state ≡ None
     → Revives parts seen seen (Ok (Context (bare state)))
@@ -128,9 +128,10 @@ revives_bare parts seen state same none =
     record {
       is = record {
         answer = page.Missing;
-        found = no_answer seen.contents parts empty;
+        found = λ pages may. subst (λ (o : Option Entry).
+            IfSome o (λ entry. page.Missing ≡ page_of (name_for entry.url) pages)) (sym empty) tt;
         is = ap (λ (w : World). Context (bare w)) same ∙ revived_bare parts page.Missing empty;
-        over = bare_over seen.contents state none;
+        over = λ pages may. bare_over pages state none;
       };
       asks =
           subst (λ (asked : List Question). Asks asked seen seen) (sym (asked_none parts empty))
@@ -154,8 +155,7 @@ deck_over pages world last deck site is answer =
     let last_one : last_entry (with_last_in deck world) ≡ Some entry =
     ap (λ (w : World). last_entry w) (sym (last_is deck world last is))
     ∙ last_pushed None (all_but_last world.history) entry in
-    ap (λ (o : Option Entry). Rattle.std.specs.Option.option_and_then
-    (λ one. deck_at shelf one.url) o) last_one
+    ap (option_and_then (λ (one : Entry). deck_at shelf one.url)) last_one
     ∙ ap (deck_at shelf)
     (earlier_url (nat_lt last.card (length (cards_of deck))) last)
     ∙ ap deck_in (shelved_is (name_for last.url) pages site
@@ -172,24 +172,6 @@ stands_over pages world last (page.Words text) site is answer = tt
 stands_over pages world last page.Refused site is answer = tt
 stands_over pages world last page.Missing site is answer = tt
 
-over_if : (contents : Option JudgedPages) (world : World) (last : Entry) (answer : Page)
-    → IfSome contents AreSitePages → last_entry world ≡ Some last
-    → IfSome contents (λ pages. answer ≡ page_of (name_for last.url) pages)
-    → IfSome (option_map unit_pages contents)
-    (λ pages. StandsOver (shelf_of pages) (revived_on world answer))
-over_if None world last answer site is found = tt
-over_if (Some pages) world last answer site is found =
-    stands_over pages world last answer site is found
-
-found_if : (contents : Option JudgedPages) (one : Option Entry) (last : Entry) (answer : Page)
-    → one ≡ Some last → IfSome contents (λ pages. answer ≡ page_of (name_for last.url) pages)
-    → IfSome contents
-    (λ pages. IfSome one (λ entry. answer ≡ page_of (name_for entry.url) pages))
-found_if None one last answer is found = tt
-found_if (Some pages) one last answer is found =
-    subst (λ (o : Option Entry).
-    IfSome o (λ entry. answer ≡ page_of (name_for entry.url) pages)) (sym is) found
-
 module _ (parts : ContextParts) (last : Entry) (is : last_entry (saved_world parts) ≡ Some last) where
   abbrev world : World
   world = saved_world parts
@@ -203,28 +185,30 @@ module _ (parts : ContextParts) (last : Entry) (is : last_entry (saved_world par
       ap (λ (o : Option Entry). option_map_or (λ entry. revived_on world answer) o
       (Context (bare world))) (sym is)
 
-  made : (contents : Option JudgedPages) (it : Revived) → IsReturned world last contents it
-      → IfSome contents AreSitePages → IsRevived parts contents it
-  made contents it returned site = record {
+  made : (seen : Seen) (it : Revived) → IsReturned world last seen it
+      → ((pages : JudgedPages) → MayBe seen pages → AreSitePages pages) → IsRevived parts seen it
+  made seen it returned site = record {
     answer = returned.answer;
-    found = found_if contents (last_entry world) last returned.answer is returned.found;
+    found = λ pages may. subst (λ (o : Option Entry).
+        IfSome o (λ entry. returned.answer ≡ page_of (name_for entry.url) pages)) (sym is)
+        (returned.found pages may);
     is = returned.is ∙ revived_is returned.answer;
-    over =
-        subst (λ (r : Revived). IfSome (option_map unit_pages contents)
-        (λ pages. StandsOver (shelf_of pages) r)) (sym returned.is)
-        (over_if contents world last returned.answer site is returned.found);
+    over = λ pages may. subst (StandsOver (shelf_of (unit_pages pages))) (sym returned.is)
+        (stands_over pages world last returned.answer (site pages may) is
+        (returned.found pages may));
   }
 
-  made_if : (contents : Option JudgedPages) (result : Result Revived RunErr)
-      → IfOk result (IsReturned world last contents) → OnOk result (IfSome contents AreSitePages)
-      → IfOk result (IsRevived parts contents)
-  made_if contents (Ok it) returned site = made contents it returned site
-  made_if contents (Err err) returned site = tt
+  made_if : (seen : Seen) (result : Result Revived RunErr)
+      → IfOk result (IsReturned world last seen)
+      → OnOk result ((pages : JudgedPages) → MayBe seen pages → AreSitePages pages)
+      → IfOk result (IsRevived parts seen)
+  made_if seen (Ok it) returned site = made seen it returned site
+  made_if seen (Err err) returned site = tt
 
   pub revives_on : (before after : Seen) (result : Result Revived RunErr)
       → Returns world last before after result → Revives parts before after result
   revives_on before after result returns = record {
-    is = made_if before.contents result returns.returned returns.site;
+    is = made_if after result returns.returned returns.site;
     asks =
         subst (λ (asked : List Question). OnOk result (Asks asked before after)) (sym asked_is)
         returns.asks;

@@ -22,7 +22,7 @@ use Rattle.wap_machine.specs.declared.machine.Outcome.{Outcome}
 use Rattle.wap_world.specs.site.Pages.{Pages as JudgedPages}
 use Rattle.wap_world.specs.site.Misses.{Cache, Asked as Question, is_miss, after_asking, after_all}
 use Rattle.wap_world.specs.site.Misses.{misses}
-use Rattle.wap_world.specs.site.Asking.{Seen, raised_by, RaisedWithin, Stays, Asks}
+use Rattle.wap_world.specs.site.Asking.{Seen, MayBe, raised_by, RaisedWithin, Stays, Asks}
 use Rattle.wap_world.proofs.SiteLemmas.Counts.{raised_by-then}
 use Rattle.wap_world.specs.declared.history.Entry.{Entry}
 use Rattle.wap_world.specs.World.{World, Place, place_now, deck_at, last_entry}
@@ -44,14 +44,12 @@ use Rattle.wap_state.specs.Scenes.{Line}
 use Rattle.wap_context.specs.host.Stages.{Stage, told, counted_in, count_of, fetched_in}
 use Rattle.wap_context.specs.declared.waiting.Went.{Went}
 use Rattle.wap_context.specs.Browsers.{Browser, IsOver, place_held}
-use Rattle.wap_context.specs.Sites.{IfOver}
 use Rattle.wap_context.specs.Missing.{Missed}
 use Rattle.wap_context.proofs.Missing.{Missed-more}
 use Rattle.wap_context.specs.inside.Moving.{Moves, Goes, Takes, next_in, waits_in}
 use Rattle.wap_context.specs.inside.Starting.{run_of, run_with, CameTo, RunsTo, end_at, waits_by}
 use Rattle.wap_context.proofs.Places.{held_now}
 use Rattle.wap_context.proofs.Ending.{half_is}
-use Rattle.wap_context.proofs.Takings.{over_map}
 
 -- ---- a run leaves whether a dialog is open
 
@@ -225,12 +223,12 @@ module _ (machine : Stack) (first : List Line) (seen after : Seen) (old : Browse
           pages = pages;
           counted = counted_in after;
         }
-        → IsEnd seen_end outcome stage.turns (Some now)
+        → IsEnd seen_end outcome stage.turns now
         → CameTo pages end seen after new outcome lines
     came_to new stage outcome lines now new_is lines_is steady now_is is =
         let kin = both_ends in
         let some : now ≡ view_of pages old.deck (counted_in seen) end.state =
-        ap (λ (o : Option View). unwrap_or o view) is.state_is ∙ kin.state.is in
+        is.state_is ∙ kin.state.is in
         let same = sym now_is ∙ some in
         let world_is : new.world ≡ record end.state.world { turns = end.turns } =
         ap (λ (b : Browser). b.world) new_is
@@ -258,82 +256,23 @@ module _ (machine : Stack) (first : List Line) (seen after : Seen) (old : Browse
           stays.fetches.0 (ap (λ (v : View). v.counted) both_ends.state.is) stays.fetches.1 so;
     }
 
-  -- ---- whether the pages are known or not
-
-  came_by : (contents here : Option JudgedPages) → seen.contents ≡ contents → here ≡ seen.contents
-      → (new : Browser) (stage : Stage) (outcome : Outcome) (lines : List Line)
-      → new ≡ record { world = record stage.world { turns = stage.turns }; deck = stage.deck }
-      → lines ≡ stage.lines → after.faults ≡ seen.faults
-      → IfSome (option_map (λ judged. record {
-        world = inside old.world;
-        deck = old.deck;
-        lines = first;
-        pages = unit_pages judged;
-        counted = counted_in seen;
-      }) contents)
-      (λ before. IsEnd (machine_run machine viewing old.world.turns before) outcome stage.turns
-      (option_map (λ judged. record {
-        world = stage.world;
-        deck = stage.deck;
-        lines = stage.lines;
-        pages = unit_pages judged;
-        counted = counted_in after;
-      }) here))
-      → IfOver contents old (λ pages. CameTo pages (run_of machine first pages old.world) seen after
-      new outcome lines)
-  came_by None here is same new stage outcome lines new_is lines_is steady so = tt
-  came_by (Some judged) here is same new stage outcome lines new_is lines_is steady so = λ over.
-      let pages = unit_pages judged in
-      let now : View = record {
-        world = stage.world;
-        deck = stage.deck;
-        lines = stage.lines;
-        pages = pages;
-        counted = counted_in after;
-      } in
-      came_to pages over new stage outcome lines now new_is lines_is steady refl
-      (subst (λ (o : Option JudgedPages).
-      IsEnd (machine_run machine viewing old.world.turns (view pages over)) outcome stage.turns
-      (option_map (λ (j : JudgedPages). record {
-        world = stage.world;
-        deck = stage.deck;
-        lines = stage.lines;
-        pages = unit_pages j;
-        counted = counted_in after;
-      }) o)) (same ∙ is) so)
-
-  missed_told : (contents : Option JudgedPages) → Stays seen after → Rose seen.faults after.faults
-      → IfSome (option_map (λ judged. record {
-        world = inside old.world;
-        deck = old.deck;
-        lines = first;
-        pages = unit_pages judged;
-        counted = counted_in seen;
-      }) contents)
-      (λ before. Fetches (fetched_in before) (count_of after.fetches)
-      (fetched_in (machine_run machine viewing old.world.turns before).state))
-      → IfOver contents old
-      (λ pages. Missed (run_of machine first pages old.world).state.asked seen after)
-  missed_told None stays rose so = tt
-  missed_told (Some judged) stays rose so =
-      λ over. missed_at (unit_pages judged) over stays rose so
-
   -- what is known of the machine that ran
   pub runs_ok : (new : Browser) (stage : Stage) (outcome : Outcome) (lines : List Line)
       (begun : Stage) → begun ≡ begins
       → new ≡ record { world = record stage.world { turns = stage.turns }; deck = stage.deck }
       → lines ≡ stage.lines → Stays seen after → after.faults ≡ seen.faults
-      → IfSome (told begun seen) (λ before.
-      IsEnd (machine_run machine viewing begun.turns before) outcome stage.turns (told stage after))
+      → ((judged : JudgedPages) → MayBe after judged
+      → IsEnd (machine_run machine viewing begun.turns (told begun seen judged)) outcome stage.turns
+      (told stage after judged))
       → KeepsLimits machine.limits outcome → stage.turns ≤ begun.turns
       → RunsTo machine first seen after old new (Ok (outcome, lines))
   runs_ok new stage outcome lines begun begun_is new_is lines_is stays steady so keeps fewer =
       record {
-        came = came_by seen.contents after.contents refl stays.contents new stage outcome lines
-            new_is lines_is steady
-            (subst (λ (s : Stage). IfSome (told s seen) (λ before.
-            IsEnd (machine_run machine viewing s.turns before) outcome stage.turns
-            (told stage after))) begun_is so);
+        came = λ judged may over.
+            came_to (unit_pages judged) over new stage outcome lines (told stage after judged)
+            new_is lines_is steady refl
+            (subst (λ (s : Stage). IsEnd (machine_run machine viewing s.turns (told s seen judged))
+            outcome stage.turns (told stage after judged)) begun_is (so judged may));
         steady = steady;
         missed = λ failed. absurd (cc);
         rose = λ failed. absurd (cc);
@@ -353,19 +292,19 @@ module _ (machine : Stack) (first : List Line) (seen after : Seen) (old : Browse
 
   pub runs_err : (new : Browser) (err : RunErr) (begun : Stage) → begun ≡ begins
       → Stays seen after → (err ≡ Store → Rose seen.faults after.faults)
-      → (err ≡ Store → IfSome (told begun seen) (λ before.
-      Fetches (fetched_in before) (count_of after.fetches)
-      (fetched_in (machine_run machine viewing begun.turns before).state)))
+      → (err ≡ Store → (judged : JudgedPages) → MayBe after judged
+      → Fetches (fetched_in (told begun seen judged)) (count_of after.fetches)
+      (fetched_in (machine_run machine viewing begun.turns (told begun seen judged)).state))
       → RunsTo machine first seen after old new (Err err)
   runs_err new err begun begun_is stays rose so = record {
     came = tt;
     steady = tt;
-    missed = λ failed.
+    missed = λ failed judged may over.
         let store = store_of err failed in
-        missed_told seen.contents stays (rose store)
-        (subst (λ (s : Stage). IfSome (told s seen) (λ before.
-        Fetches (fetched_in before) (count_of after.fetches)
-        (fetched_in (machine_run machine viewing s.turns before).state))) begun_is (so store));
+        missed_at (unit_pages judged) over stays (rose store)
+        (subst (λ (s : Stage). Fetches (fetched_in (told s seen judged)) (count_of after.fetches)
+        (fetched_in (machine_run machine viewing s.turns (told s seen judged)).state)) begun_is
+        (so store judged may));
     rose = λ failed. rose (store_of err failed);
     stays = stays;
     turns = tt;
@@ -433,10 +372,9 @@ pub ended_ok : (machine : Stack) (base : Url) (first : List Line) (seen after : 
     → Takes (run_with machine base first) seen after old new before shown (Ok went)
 ended_ok machine base first seen after old mid new before line shown outcome more went added moves
     asks runs = record {
-      follows = over_map seen.contents old old (λ pages over. over)
-          (λ pages over came. goes_to_end machine base first seen after old mid new before line shown
-          outcome more went added moves asks runs.limits pages came)
-          runs.came;
+      follows = λ judged may over.
+          goes_to_end machine base first seen after old mid new before line shown outcome more went
+          added moves asks runs.limits (unit_pages judged) (runs.came judged may over);
       steady = runs.steady;
       missed = λ failed. absurd (cc);
       rose = λ failed. absurd (cc);
@@ -497,12 +435,12 @@ pub ran_err : (machine : Stack) (base : Url) (first : List Line) (seen after : S
 ran_err machine base first seen after old new start shown err runs = record {
   follows = tt;
   steady = tt;
-  missed = λ failed. over_map seen.contents old old (λ pages over. over)
-      (λ pages over missed.
+  missed = λ failed judged may over.
+      let pages = unit_pages judged in
       let rest = run_asks machine base first pages old in
       subst (λ (a : List Question). Missed a seen after) (sym rest.1)
-      (Missed-more (run_of machine first pages old.world).state.asked rest.0 seen after missed))
-      (runs.missed (outcome_err err failed));
+      (Missed-more (run_of machine first pages old.world).state.asked rest.0 seen after
+      (runs.missed (outcome_err err failed) judged may over));
   rose = λ failed. runs.rose (outcome_err err failed);
   stays = runs.stays;
   turns = tt;

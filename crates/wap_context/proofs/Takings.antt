@@ -14,7 +14,7 @@ use Rattle.wap_world.specs.declared.site.page.Page.{Page}
 use Rattle.wap_world.specs.site.Pages.{Pages as JudgedPages, page_of, AreSitePages}
 use Rattle.wap_world.specs.site.Asking.{Seen, Stays, Asks}
 use Rattle.wap_world.specs.site.Misses.{Asked as Question}
-use Rattle.wap_world.proofs.SiteLemmas.Asking.{Asks-nil, Asks-then, Stays-same, Stays-then}
+use Rattle.wap_world.proofs.SiteLemmas.Asking.{Asks-nil, Asks-then, Stays-same, Stays-then, Stays-may}
 use Rattle.wap_world.specs.Shelves.{Shelf}
 use Rattle.wap_world.specs.World.{World}
 use Rattle.wap_world.specs.Steps.{Step, Once, Next, then_task, after_step}
@@ -32,87 +32,50 @@ use Rattle.wap_context.specs.Missing.{Missed}
 use Rattle.wap_context.specs.inside.Moving.{Moves, Asked, next_in, waits_in, Goes, Takes, Spends}
 use Rattle.wap_context.specs.inside.Moving.{Onces}
 use Rattle.wap_context.proofs.Missing.{Asks-missed, Missed-more}
+use Rattle.wap_context.proofs.Plays.{if_ok, on_ok}
 
 -- a rule for one navigation
 abbrev pub Rule : Type 0
 Rule = Pages → List Key → World → Once
 
--- ---- what holds of all pages, and of known ones
+-- ---- what holds of any pages that may be there
 
-pub over_all : (contents : Option JudgedPages) (browser : Browser) {Fact : Pages → Type 0}
-    → ((pages : Pages) → IsOver (shelf_of pages) browser → Fact pages)
-    → IfOver contents browser Fact
-over_all None browser f = tt
-over_all (Some judged) browser f = f (unit_pages judged)
-
-pub over_map : (contents : Option JudgedPages) (old mid : Browser) {Fact Goal : Pages → Type 0}
+pub over_map : (seen : Seen) (old mid : Browser) {Fact Goal : Pages → Type 0}
     → ((pages : Pages) → IsOver (shelf_of pages) old → IsOver (shelf_of pages) mid)
     → ((pages : Pages) → IsOver (shelf_of pages) old → Fact pages → Goal pages)
-    → IfOver contents mid Fact → IfOver contents old Goal
-over_map None old mid onto f so = tt
-over_map (Some judged) old mid onto f so =
+    → IfOver seen mid Fact → IfOver seen old Goal
+over_map seen old mid onto f so = λ judged may over.
     let pages = unit_pages judged in
-    λ over. f pages over (so (onto pages over))
+    f pages over (so judged may (onto pages over))
 
--- facts of known pages, where both are of the same ones
-pub both_told : (contents here : Option JudgedPages) (old b : Browser) {P Q G : Pages → Type 0}
-    → here ≡ contents
+-- facts of what may be there first, and later
+pub both_told : (mid after : Seen) (old b : Browser) {P Q G : Pages → Type 0}
+    → Stays mid after
     → ((pages : Pages) → P pages → IsOver (shelf_of pages) b)
     → ((pages : Pages) → P pages → Q pages → G pages)
-    → IfOver contents old P → IfOver here b Q → IfOver contents old G
-both_told None here old b is onto f one two = tt
-both_told (Some judged) here old b {P} {Q} {G} is onto f one two =
+    → IfOver mid old P → IfOver after b Q → IfOver after old G
+both_told mid after old b stays onto f one two = λ judged may over.
     let pages = unit_pages judged in
-    λ over.
-    f pages (one over)
-    (subst (λ (o : Option JudgedPages). IfOver o b Q) is two (onto pages (one over)))
-
--- the same of the same pages
-pub over_same : (contents here : Option JudgedPages) (old : Browser) (Fact : Pages → Type 0)
-    → here ≡ contents → IfOver contents old Fact → IfOver here old Fact
-over_same contents here old Fact is so =
-    subst (λ (c : Option JudgedPages). IfOver c old Fact) (sym is) so
-
--- judged pages that are known
-pub told_map : (contents : Option JudgedPages) (old : Browser) (Goal : Pages → Type 0)
-    {One Other : JudgedPages → Type 0}
-    → ((judged : JudgedPages) → IsOver (shelf_of (unit_pages judged)) old → One judged
-    → Other judged → Goal (unit_pages judged))
-    → IfSome contents One → IfSome contents Other → IfOver contents old Goal
-told_map None old Goal f one other = tt
-told_map (Some judged) old Goal f one other = λ over. f judged over one other
-
-pub if_ok_both : {X E : Type 0} {P Q : X → Type 0} (result : Result X E) → ((x : X) → P x → Q x)
-    → IfOk result P → IfOk result Q
-if_ok_both (Ok x) f so = f x so
-if_ok_both (Err e) f so = tt
-
-pub on_ok_both : {X E P Q : Type 0} (result : Result X E) → (P → Q) → OnOk result P → OnOk result Q
-on_ok_both (Ok x) f so = f so
-on_ok_both (Err e) f so = tt
+    let first = one judged (Stays-may mid after stays judged may) over in
+    f pages first (two judged may (onto pages first))
 
 -- ---- ends
 
--- out of memory
-pub takes_err : (rule : Rule) (seen after : Seen) (old new : Browser)
-    (before shown : List Line) (err : RunErr)
-    → Stays seen after → err ≡ NoMemory → Takes rule seen after old new before shown (Err err)
-takes_err rule seen after old new before shown err stays is = record {
+-- out of memory before a page was asked for
+pub takes_rejected : {rule : Rule} {seen : Seen} {old new : Browser} {before shown : List Line}
+    (result : Result Went RunErr) → IsErr result → IsErrAnd result (λ err. err ≡ NoMemory)
+    → Takes rule seen seen old new before shown result
+takes_rejected (Ok went) is so = absurd (false≢true is)
+takes_rejected {rule} {seen} (Err err) is so = record {
   follows = tt;
   steady = tt;
-  missed = λ failed. absurd (cc);
-  rose = λ failed. absurd (cc);
-  stays = stays;
+  missed = λ e. absurd (cc (sym so ∙ same err e));
+  rose = λ e. absurd (cc (sym so ∙ same err e));
+  stays = Stays-same seen;
   turns = tt;
-}
-
-pub takes_rejected : (rule : Rule) (seen after : Seen) (old new : Browser)
-    (before shown : List Line) (result : Result Went RunErr) → Stays seen after
-    → IsErr result → IsErrAnd result (λ err. err ≡ NoMemory)
-    → Takes rule seen after old new before shown result
-takes_rejected rule seen after old new before shown (Ok next) stays is so = absurd (false≢true is)
-takes_rejected rule seen after old new before shown (Err err) stays is so =
-    takes_err rule seen after old new before shown err stays so
+} where
+  same : (fault : RunErr) → ◌≡◌ {A = Result Went RunErr} (Err fault) (Err Store) → fault ≡ Store
+  same fault e = cc e
 
 -- a navigation that starts no script leaves the keys after it
 goes_moves : (pages : Pages) (rule : List Key → Once) (seen : Seen) (old new : Browser)
@@ -137,13 +100,15 @@ no_more old new same = omega (arith, same)
 pub takes_moves : (rule : Rule) (seen : Seen) (old new : Browser) (before shown : List Line)
     (went : Went) (once : Once) (IsSuch : Shelf → Type 0)
     → Moves once IsSuch old new before shown (next_in went) → waits_in went ≡ None
-    → IfOver seen.contents old (λ pages. IsSuch (shelf_of pages)
+    → IfOver seen old (λ pages. IsSuch (shelf_of pages)
     × ((keys : List Key) → rule pages keys old.world ≡ once_before keys once))
     → Takes rule seen seen old new before shown (Ok went)
 takes_moves rule seen old new before shown went once IsSuch moves none is = record {
-  follows = over_map seen.contents old old (λ pages over. over)
-      (λ pages over so. goes_moves pages (λ keys. rule pages keys old.world) seen old new before
-      shown went once IsSuch moves none so.0 so.1) is;
+  follows = λ judged may over.
+      let pages = unit_pages judged in
+      let so = is judged may over in
+      goes_moves pages (λ keys. rule pages keys old.world) seen old new before shown went once IsSuch
+      moves none so.0 so.1;
   steady = refl;
   missed = λ failed. absurd (cc);
   rose = λ failed. absurd (cc);
@@ -156,7 +121,7 @@ pub takes_task : (rule : Rule) (seen : Seen) (old new : Browser) (before shown :
     (next : Option Task) (went : Went) (once : Once) (IsSuch : Shelf → Type 0)
     → next_in went ≡ option_map then_task next → waits_in went ≡ None
     → Moves once IsSuch old new before shown (option_map then_task next)
-    → IfOver seen.contents old (λ pages. IsSuch (shelf_of pages)
+    → IfOver seen old (λ pages. IsSuch (shelf_of pages)
     × ((keys : List Key) → rule pages keys old.world ≡ once_before keys once))
     → Takes rule seen seen old new before shown (Ok went)
 takes_task rule seen old new before shown next went once IsSuch is none moves law =
@@ -190,18 +155,18 @@ pub takes_by : (rule other : Rule) (seen after : Seen) (old mid new : Browser)
     → Takes other seen after mid new before shown result
     → Takes rule seen after old new before shown result
 takes_by rule other seen after old mid new before shown result onto is fewer so = record {
-  follows = if_ok_both result
-      (λ went. over_map seen.contents old mid onto (λ pages over goes.
+  follows = if_ok result
+      (λ went. over_map after old mid onto (λ pages over goes.
       goes_from pages (λ keys. rule pages keys old.world) (λ keys. other pages keys mid.world) seen
       after new before shown went (is pages over) goes))
       so.follows;
   steady = so.steady;
-  missed = λ failed. over_map seen.contents old mid onto (λ pages over missed.
+  missed = λ failed. over_map after old mid onto (λ pages over missed.
       subst (λ (o : Once). Missed o.step.asked seen after) (is pages over []) missed)
       (so.missed failed);
   rose = so.rose;
   stays = so.stays;
-  turns = on_ok_both result (λ (few : new.world.turns ≤ mid.world.turns). omega (arith, few, fewer))
+  turns = on_ok result (λ (few : new.world.turns ≤ mid.world.turns). omega (arith, few, fewer))
       so.turns;
 }
 
@@ -273,22 +238,19 @@ After rule other first seen mid old pages =
 
 after_ok : (rule other : Rule) (first : Step) (seen mid after : Seen) (old new : Browser)
     (before line shown : List Line) → line ≡ before ++ first.lines → first.is_open ≡ false
-    → Stays seen mid → (result : Result Went RunErr)
-    → IfOver seen.contents old (After rule other first seen mid old)
-    → IfOk result (λ went. IfOver mid.contents old
+    → Stays mid after → (result : Result Went RunErr)
+    → IfOver mid old (After rule other first seen mid old)
+    → IfOk result (λ went. IfOver after old
     (λ pages. Goes pages (λ keys. other pages keys old.world) mid after new line shown went))
-    → IfOk result (λ went. IfOver seen.contents old
+    → IfOk result (λ went. IfOver after old
     (λ pages. Goes pages (λ keys. rule pages keys old.world) seen after new before shown went))
 after_ok rule other first seen mid after old new before line shown lines shut stays (Ok went) law so
-    =
-    both_told seen.contents mid.contents old old
-    {P = λ pages. IsOver (shelf_of pages) old × After rule other first seen mid old pages}
-    {Q = λ pages. Goes pages (λ keys. other pages keys old.world) mid after new line shown went}
-    stays.contents (λ pages both. both.0)
-    (λ pages both goes. goes_after pages first seen mid after new before line shown lines shut
-    both.1.0 (λ keys. rule pages keys old.world) (λ keys. other pages keys old.world) went both.1.1
-    goes)
-    (over_map seen.contents old old (λ pages over. over) (λ pages over one. (over, one)) law) so
+    = λ judged may over.
+    let pages = unit_pages judged in
+    let one = law judged (Stays-may mid after stays judged may) over in
+    goes_after pages first seen mid after new before line shown lines shut one.0
+    (λ keys. rule pages keys old.world) (λ keys. other pages keys old.world) went one.1
+    (so judged may over)
 after_ok rule other first seen mid after old new before line shown lines shut stays (Err err) law so
     = tt
 
@@ -296,25 +258,19 @@ pub takes_after : (rule other : Rule) (first : Step) (seen mid after : Seen) (ol
     (before line shown : List Line) (result : Result Went RunErr)
     → line ≡ before ++ first.lines → first.is_open ≡ false → Stays seen mid
     → mid.faults ≡ seen.faults
-    → IfOver seen.contents old (After rule other first seen mid old)
+    → IfOver mid old (After rule other first seen mid old)
     → Takes other mid after old new line shown result
     → Takes rule seen after old new before shown result
 takes_after rule other first seen mid after old new before line shown result lines shut stays steady
     law so = record {
-      follows = after_ok rule other first seen mid after old new before line shown lines shut stays
-          result law so.follows;
-      steady = on_ok_both result (λ (same : after.faults ≡ mid.faults). same ∙ steady) so.steady;
-      missed = λ failed.
-          both_told seen.contents mid.contents old old
-          {P = λ pages. IsOver (shelf_of pages) old × After rule other first seen mid old pages}
-          {Q = λ pages. Missed (other pages [] old.world).step.asked mid after}
-          stays.contents (λ pages both. both.0)
-          (λ pages both missed.
-          subst (λ (o : Once). Missed o.step.asked seen after) (sym (both.1.1 []))
-          (Asks-missed first.asked (other pages [] old.world).step.asked seen mid after so.stays
-          both.1.0 missed))
-          (over_map seen.contents old old (λ pages over. over) (λ pages over one. (over, one)) law)
-          (so.missed failed);
+      follows = after_ok rule other first seen mid after old new before line shown lines shut
+          so.stays result law so.follows;
+      steady = on_ok result (λ (same : after.faults ≡ mid.faults). same ∙ steady) so.steady;
+      missed = λ failed judged may over.
+          let one = law judged (Stays-may mid after so.stays judged may) over in
+          subst (λ (o : Once). Missed o.step.asked seen after) (sym (one.1 []))
+          (Asks-missed first.asked (other (unit_pages judged) [] old.world).step.asked seen mid
+          after so.stays one.0 (so.missed failed judged may over));
       rose = λ failed. subst (λ (k : ℕ). Rose k after.faults) steady (so.rose failed);
       stays = Stays-then seen mid after stays so.stays;
       turns = so.turns;
@@ -322,15 +278,30 @@ takes_after rule other first seen mid after old new before line shown result lin
 
 -- ---- a page that was asked for
 
+-- out of memory before that
+pub asked_rejected : {one : Request} {seen : Seen} {before shown : List Line}
+    (result : Result Page RunErr) → IsErr result → IsErrAnd result (λ err. err ≡ NoMemory)
+    → Asked one seen seen before shown result
+asked_rejected (Ok page) is so = absurd (false≢true is)
+asked_rejected {one} {seen} (Err err) is so = record {
+  answer = tt;
+  site = tt;
+  lines = tt;
+  asks = tt;
+  missed = λ e. absurd (cc (sym so ∙ same err e));
+  stays = Stays-same seen;
+} where
+  same : (fault : RunErr) → ◌≡◌ {A = Result Page RunErr} (Err fault) (Err Store) → fault ≡ Store
+  same fault e = cc e
+
 -- what is known of judged pages that answer
 pub told_asked : (one : Request) (seen mid : Seen) (old : Browser) (before line : List Line)
     (page : Page) (Fact : Pages → Type 0) → Asked one seen mid before line (Ok page)
     → ((judged : JudgedPages) → AreSitePages judged → IsOver (shelf_of (unit_pages judged)) old
     → page ≡ page_of (name_for one.url) judged → Fact (unit_pages judged))
-    → IfOver seen.contents old Fact
-told_asked one seen mid old before line page Fact asked f =
-    told_map seen.contents old Fact (λ judged over site answer. f judged site over answer)
-    asked.site asked.answer
+    → IfOver mid old Fact
+told_asked one seen mid old before line page Fact asked f = λ judged may over.
+    f judged (asked.site judged may) over (asked.answer judged may)
 
 page_err : (err : RunErr) → ◌≡◌ {A = Result Went RunErr} (Err err) (Err Store)
     → ◌≡◌ {A = Result Page RunErr} (Err err) (Err Store)
@@ -346,10 +317,11 @@ pub takes_missed : (rule : Rule) (one : Request) (seen after : Seen) (old new : 
 takes_missed rule one seen after old new before shown err asked so = record {
   follows = tt;
   steady = tt;
-  missed = λ failed. over_all seen.contents old (λ pages over.
-      let rest = asked pages in
+  missed = λ failed judged may over.
+      let rest = asked (unit_pages judged) in
       subst (λ (a : List Question). Missed a seen after) (sym rest.1)
-      (Missed-more ((name_for one.url, one.fresh) ∷ []) rest.0 seen after (so.missed (page_err err failed))));
+      (Missed-more ((name_for one.url, one.fresh) ∷ []) rest.0 seen after
+      (so.missed (page_err err failed)));
   rose = λ failed. (so.missed (page_err err failed)).rose;
   stays = so.stays;
   turns = tt;

@@ -65,15 +65,15 @@ pub record Follows (pages : Pages) (rule : List Key → World → Step) (old new
 pub record Acts (rule : Pages → List Key → World → Step) (before after : Seen)
     (old new : Browser) (result : Result Did RunErr) : Type 0 where
   pub follows : IfOk result
-      (λ did. IfOver before.contents old (λ pages. Follows pages (rule pages) old new did))
+      (λ did. IfOver after old (λ pages. Follows pages (rule pages) old new did))
   -- the step's pages were asked for, in order
-  pub asks : OnOk result (IfOver before.contents old
-      (λ pages. Asks (rule pages [] old.world).asked before after))
+  pub asks : OnOk result
+      (IfOver after old (λ pages. Asks (rule pages [] old.world).asked before after))
   pub steady : OnOk result (after.faults ≡ before.faults)
   -- the store failed at one of them
   pub failed : result ≡ Err Store → Rose before.faults after.faults
-  pub missed : result ≡ Err Store → IfOver before.contents old
-      (λ pages. Missed (rule pages [] old.world).asked before after)
+  pub missed : result ≡ Err Store
+      → IfOver after old (λ pages. Missed (rule pages [] old.world).asked before after)
   -- however it ends
   pub stays : Stays before after
 

@@ -1,7 +1,7 @@
 -- What is made of the parts of a context that was saved. This project's own.
-use Rattle.std.specs.Prelude.{◌≡◌, ⊤, false, List, ◌++◌, map, Option, Some, None}
+use Rattle.std.specs.Prelude.{◌≡◌, ⊤, false, List, ◌++◌, map, Some, None}
 use Rattle.std.specs.Prelude.{IfSome, IfOk, OnOk, Result, Err}
-use Rattle.std.specs.Option.{option_map, option_map_or, option_to_list}
+use Rattle.std.specs.Option.{option_map_or, option_to_list}
 use Rattle.wap_base.specs.declared.fault.RunErr.{RunErr}
 use Rattle.wap_base.specs.declared.fault.RunErr.TheVariants.{Store}
 use Rattle.wap_base.specs.Count.{Rose}
@@ -12,7 +12,7 @@ use Rattle.wap_world.specs.declared.site.page.Page.{Page}
 use Rattle.wap_world.specs.declared.site.page.Page.TheVariants as page
 use Rattle.wap_world.specs.site.Pages.{Pages as JudgedPages, page_of}
 use Rattle.wap_world.specs.site.Misses.{Asked}
-use Rattle.wap_world.specs.site.Asking.{Seen, Stays, Asks}
+use Rattle.wap_world.specs.site.Asking.{Seen, MayBe, Stays, Asks}
 use Rattle.wap_world.specs.Shelves.{Shelf}
 use Rattle.wap_world.specs.World.{World, last_entry}
 use Rattle.wap_world.specs.History.{all_but_last, in_deck}
@@ -56,21 +56,20 @@ StandsOver shelf (Context browser) = IsOver shelf browser
 StandsOver shelf Missing = ⊤
 StandsOver shelf Refused = ⊤
 
--- what is made of parts over these contents, where they are known
-pub record IsRevived (parts : ContextParts) (contents : Option JudgedPages) (result : Revived) :
-    Type 0 where
+-- what is made of parts over any pages that these may be
+pub record IsRevived (parts : ContextParts) (seen : Seen) (result : Revived) : Type 0 where
   -- the page of the current card
   pub answer : Page
-  pub found : IfSome contents (λ pages. IfSome (last_entry (saved_world parts))
-      (λ entry. answer ≡ page_of (name_for entry.url) pages))
+  pub found : (pages : JudgedPages) → MayBe seen pages → IfSome (last_entry (saved_world parts))
+      (λ entry. answer ≡ page_of (name_for entry.url) pages)
   pub is : result ≡ revived parts answer
-  pub over : IfSome (option_map unit_pages contents)
-      (λ pages. StandsOver (shelf_of pages) result)
+  pub over : (pages : JudgedPages) → MayBe seen pages
+      → StandsOver (shelf_of (unit_pages pages)) result
 
 -- a call that makes a context of parts: the pages before and after, and the answer
 pub record Revives (parts : ContextParts) (before after : Seen) (result : Result Revived RunErr) :
     Type 0 where
-  pub is : IfOk result (IsRevived parts before.contents)
+  pub is : IfOk result (IsRevived parts after)
   pub asks : OnOk result (Asks (asked_for parts) before after)
   -- the store failed at the page
   pub failed : result ≡ Err Store → Rose before.faults after.faults

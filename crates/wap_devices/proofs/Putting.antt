@@ -1,6 +1,6 @@
 -- A text that is put into a sink piece by piece, and one text after another.
 use Rattle.std.proofs.Common.{◌≡◌, ℕ, ◌+◌, ◌<◌, ◌≤◌, List, [], ◌∷◌, ◌++◌, length, take, drop}
-use Rattle.std.proofs.Common.{get_or, Option, Result, Ok, Err, refl, sym, ap, ◌∙◌, subst}
+use Rattle.std.proofs.Common.{get_or, Result, Ok, Err, refl, sym, ap, ◌∙◌, subst}
 use Rattle.std.proofs.Common.{append_assoc, arith}
 use Rattle.std.specs.List.{flat_map}
 use Rattle.std.proofs.lemmas.List.{length-take, append-nil, nil_from_length, take_more}
@@ -15,7 +15,7 @@ use Rattle.wap_devices.proofs.Transfers.{Appends-then, Appends-nil}
 
 -- so far this prefix of a text was put
 pub record HasPut (prefix : List ℕ) (before after : SinkSeen) : Type 0 where
-  pub written : Appends before.written after.written prefix
+  pub taken : Appends before.taken after.taken prefix
   pub untouched : prefix ≡ [] → after ≡ before
   pub faults : after.faults ≡ before.faults
 
@@ -40,13 +40,13 @@ none_from_length x test = nil_from_length x (eqb-true (length x) 0 (sym test))
 
 -- a write that took nothing moved nothing
 pub unmoved_by_none : (rest : List ℕ) (before after : SinkSeen) → Writes rest before after (Ok 0)
-    → after.written ≡ before.written
-unmoved_by_none rest before after wrote = wrote.bytes ∙ sym (Appends-nil before.written)
+    → after.taken ≡ before.taken
+unmoved_by_none rest before after wrote = wrote.bytes ∙ sym (Appends-nil before.taken)
 
 -- before anything is put
 pub has_put_nothing : (sink : SinkSeen) → HasPut [] sink sink
 has_put_nothing sink = record {
-  written = Appends-nil sink.written;
+  taken = Appends-nil sink.taken;
   untouched = λ _. refl;
   faults = refl;
 }
@@ -55,8 +55,8 @@ has_put_nothing sink = record {
 pub has_put_more : (prefix rest : List ℕ) (a b c : SinkSeen) (count : ℕ) → HasPut prefix a b
     → Writes rest b c (Ok count) → (count ≡ 0 → ⊥) → HasPut (prefix ++ take count rest) a c
 has_put_more prefix rest a b c count put wrote some = record {
-  written =
-      Appends-then a.written b.written c.written prefix (take count rest) put.written wrote.bytes;
+  taken =
+      Appends-then a.taken b.taken c.taken prefix (take count rest) put.taken wrote.bytes;
   untouched = λ none.
       let empty : length (take count rest) ≡ 0 = ap length (second_nil prefix (take count rest) none) in
       absurd (some (omega (arith, empty, length-take count rest, wrote.within)));
@@ -70,7 +70,7 @@ pub puts_whole : {A : Type 0} (prefix rest : List ℕ) (a b : SinkSeen) (done : 
 puts_whole prefix rest a b done put text is none =
     let same : text ≡ prefix = is ∙ ap (λ (l : List ℕ). prefix ++ l) none ∙ append-nil prefix in
     record {
-      whole = subst (λ (l : List ℕ). Appends a.written b.written l) (sym same) put.written;
+      whole = subst (λ (l : List ℕ). Appends a.taken b.taken l) (sym same) put.taken;
       prefix = tt;
       untouched = λ nothing. put.untouched (sym same ∙ nothing);
       counts = omega (arith, put.faults);
@@ -80,14 +80,14 @@ puts_whole prefix rest a b done put text is none =
 
 -- a text of which a write failed that had taken nothing
 pub puts_stopped : {A : Type 0} (prefix rest : List ℕ) (a b c : SinkSeen)
-    → HasPut prefix a b → 0 < length rest → c.written ≡ b.written
+    → HasPut prefix a b → 0 < length rest → c.taken ≡ b.taken
     → b.faults ≤ c.faults → Rose b.faults c.faults
     → (text : List ℕ) → text ≡ prefix ++ rest → (result : Result A Failed) → IsErr result
     → Puts text a c result
 puts_stopped prefix rest a b c put some unmoved counts rose text is (Ok done) failed = absurd cc
 puts_stopped prefix rest a b c put some unmoved counts rose text is (Err fault) failed = record {
   whole = tt;
-  prefix = (prefix, rest, is, unmoved ∙ put.written);
+  prefix = (prefix, rest, is, unmoved ∙ put.taken);
   untouched = λ none.
       absurd (omega (arith, some, ap length (second_nil prefix rest (sym is ∙ none))));
   counts = omega (arith, put.faults, counts);
@@ -98,13 +98,13 @@ puts_stopped prefix rest a b c put some unmoved counts rose text is (Err fault) 
 -- ---- one text after another
 
 -- a prefix of a text is one of a longer text
-pub prefix_longer : (before after : Option (List ℕ)) (text more : List ℕ)
+pub prefix_longer : (before after : List ℕ) (text more : List ℕ)
     → AppendsPrefix before after text → AppendsPrefix before after (text ++ more)
 prefix_longer before after text more is =
     (is.0, is.1 ++ more, ap (λ (l : List ℕ). l ++ more) is.2 ∙ append_assoc is.0 is.1 more, is.3)
 
 -- a whole text, and a prefix of what follows
-pub prefix_then : (before between after : Option (List ℕ)) (text more : List ℕ)
+pub prefix_then : (before between after : List ℕ) (text more : List ℕ)
     → Appends before between text → AppendsPrefix between after more
     → AppendsPrefix before after (text ++ more)
 prefix_then before between after text more whole is = (
@@ -118,7 +118,7 @@ prefix_then before between after text more whole is = (
 pub puts_then : {A B : Type 0} {done : A} (x y : List ℕ) (a b c : SinkSeen) → Puts x a b (Ok done)
     → (result : Result B Failed) → Puts y b c result → Puts (x ++ y) a c result
 puts_then x y a b c first (Ok value) second = record {
-  whole = Appends-then a.written b.written c.written x y first.whole second.whole;
+  whole = Appends-then a.taken b.taken c.taken x y first.whole second.whole;
   prefix = tt;
   untouched = λ none. second.untouched (second_nil x y none) ∙ first.untouched (first_nil x y none);
   counts = omega (arith, first.counts, second.counts);
@@ -127,7 +127,7 @@ puts_then x y a b c first (Ok value) second = record {
 }
 puts_then x y a b c first (Err fault) second = record {
   whole = tt;
-  prefix = prefix_then a.written b.written c.written x y first.whole second.prefix;
+  prefix = prefix_then a.taken b.taken c.taken x y first.whole second.prefix;
   untouched = λ none. second.untouched (second_nil x y none) ∙ first.untouched (first_nil x y none);
   counts = omega (arith, first.counts, second.counts);
   failed = subst (λ count. Rose count c.faults) first.steady second.failed;
@@ -141,7 +141,7 @@ pub puts_fails : {A B : Type 0} {fault : Failed} (x y : List ℕ) (a b : SinkSee
 puts_fails x y a b first (Ok value) failed = absurd cc
 puts_fails x y a b first (Err other) failed = record {
   whole = tt;
-  prefix = prefix_longer a.written b.written x y first.prefix;
+  prefix = prefix_longer a.taken b.taken x y first.prefix;
   untouched = λ none. first.untouched (first_nil x y none);
   counts = first.counts;
   failed = first.failed;
@@ -183,10 +183,10 @@ pub puts_next : {X A : Type 0} {done : A} (f : X → List ℕ) (xs : List X) (i 
     → (a b c : SinkSeen) → HasPut (flat_map f (take i xs)) a b
     → Puts (f (get_or xs i d)) b c (Ok done) → HasPut (flat_map f (take (i + 1) xs)) a c
 puts_next f xs i d within a b c put next = record {
-  written =
-      subst (Appends a.written c.written) (sym (one_more f xs i d within))
-      (Appends-then a.written b.written c.written (flat_map f (take i xs)) (f (get_or xs i d))
-      put.written next.whole);
+  taken =
+      subst (Appends a.taken c.taken) (sym (one_more f xs i d within))
+      (Appends-then a.taken b.taken c.taken (flat_map f (take i xs)) (f (get_or xs i d))
+      put.taken next.whole);
   untouched = λ none.
       let both = sym (one_more f xs i d within) ∙ none in
       next.untouched (second_nil (flat_map f (take i xs)) (f (get_or xs i d)) both)

@@ -1,20 +1,27 @@
 -- What moves between a buffer and a device, piece by piece.
-use Rattle.std.proofs.Common.{◌≡◌, ℕ, ◌+◌, ◌≤◌, List, [], ◌++◌, length, take, drop, Option}
-use Rattle.std.proofs.Common.{Some, None, refl, sym, ap, ◌∙◌, append_assoc, arith}
-use Rattle.std.specs.Option.{option_map}
-use Rattle.std.proofs.lemmas.List.{take_at, take-append-drop, length-take, drop-drop, append-nil}
+use Rattle.std.proofs.Common.{◌≡◌, ℕ, ◌+◌, ◌≤◌, List, [], ◌++◌, length, take, drop}
+use Rattle.std.proofs.Common.{sym, ap, ◌∙◌, append_assoc, arith}
+use Rattle.std.proofs.lemmas.List.{take_at, take-append-drop, take-take, drop-take, length-take}
+use Rattle.std.proofs.lemmas.List.{drop-drop, append-nil}
 use Rattle.wap_devices.specs.Transfer.{Appends}
 
 -- one piece after another is the two together
-pub Appends-then : (a b c : Option (List ℕ)) (x y : List ℕ) → Appends a b x → Appends b c y
-    → Appends a c (x ++ y)
-Appends-then None b c x y first second = second ∙ ap (option_map (λ w. w ++ y)) first
-Appends-then (Some w) b c x y first second =
-    second ∙ ap (option_map (λ w. w ++ y)) first ∙ ap Some (append_assoc w x y)
+pub Appends-then : (a b c x y : List ℕ) → Appends a b x → Appends b c y → Appends a c (x ++ y)
+Appends-then a b c x y first second =
+    second ∙ ap (λ (l : List ℕ). l ++ y) first ∙ append_assoc a x y
 
-pub Appends-nil : (a : Option (List ℕ)) → Appends a a []
-Appends-nil None = refl
-Appends-nil (Some w) = ap Some (sym (append-nil w))
+-- no bytes are none more
+pub Appends-nil : (a : List ℕ) → Appends a a []
+Appends-nil a = sym (append-nil a)
+
+-- what was given, and what a read takes, is what is given then
+pub given : (at count : ℕ) (bytes : List ℕ)
+    → take (at + count) bytes ≡ take at bytes ++ take count (drop at bytes)
+given at count bytes =
+    sym (take-append-drop at (take (at + count) bytes))
+    ∙ ap (λ (l : List ℕ). l ++ drop at (take (at + count) bytes))
+    (take-take at (at + count) bytes (omega arith))
+    ∙ ap (λ (l : List ℕ). take at bytes ++ l) (drop-take at count bytes)
 
 -- what was left is what a read took to the beginning of a buffer, and what is left now
 pub taken : (bytes rest : List ℕ) (at count : ℕ) → count ≤ length (drop at bytes)

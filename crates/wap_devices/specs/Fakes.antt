@@ -1,14 +1,14 @@
 -- Stores, sources and sinks in memory, which fail at the calls that a list names. This project's
 -- own.
-use Rattle.std.specs.Prelude.{ℕ, ◌+◌, ◌-◌, Some, All, Bool, not, ◌==◌, ◌||◌, ◌&&◌, nat_lt, List}
+use Rattle.std.specs.Prelude.{ℕ, ◌-◌, All, Bool, not, ◌==◌, ◌||◌, ◌&&◌, nat_lt, List}
 use Rattle.std.specs.Prelude.{◌++◌, length, take, drop, min, if◌then◌else◌}
 use Rattle.std.specs.List.{list_any}
 use Rattle.wap_base.specs.Count.{raised}
 use Rattle.wap_base.specs.Texts.{AreDistinct}
 use Rattle.wap_base.specs.Contents.{Contents, names_of}
 use Rattle.wap_devices.specs.Pages.{IsPage}
-use Rattle.wap_devices.specs.Stores.{StoreSeen}
-use Rattle.wap_devices.specs.Sources.{SourceSeen}
+use Rattle.wap_devices.specs.Stores.{StoreSeen, Held}
+use Rattle.wap_devices.specs.Sources.{SourceSeen, Left}
 use Rattle.wap_devices.specs.Sinks.{SinkSeen}
 
 -- the numbers, from 1, of the calls that fail; how many calls were made; how often one failed
@@ -45,10 +45,10 @@ pub record StoreState : Type 0 where
   pub fetches : ℕ
   pub listings : ℕ
 
--- a store tells all
+-- a store holds its pages
 abbrev pub seen_of_store : StoreState → StoreSeen
 seen_of_store store = record {
-  contents = Some store.pages;
+  known = Held store.pages;
   faults = store.calls.faults;
   fetches = store.fetches;
   listings = store.listings;
@@ -72,20 +72,20 @@ after_listing store = record {
   listings = raised store.listings;
 }
 
--- a source: the bytes that are left, how many it gave, how many one call moves at most, and how
--- often it reported its end
+-- a source: the bytes that it gave and those that are left, how many one call moves at most, and
+-- how often it reported its end
 pub record SourceState : Type 0 where
+  pub given : List ℕ
   pub left : List ℕ
-  pub given : ℕ
   pub piece : ℕ
   pub calls : Schedule
   pub ends : ℕ
 
--- so does a source
+-- a source holds its bytes
 abbrev pub seen_of_source : SourceState → SourceSeen
 seen_of_source source = record {
-  left = Some source.left;
   given = source.given;
+  coming = Left source.left;
   reads = source.calls.made;
   ends = source.ends;
   faults = source.calls.faults;
@@ -98,9 +98,10 @@ read_count source room = min source.piece (min room (length source.left))
 -- after a read into so much room
 abbrev pub after_read : SourceState → ℕ → SourceState
 after_read source room = record {
-  left = if fails_next source.calls then source.left else drop (read_count source room) source.left;
   given =
-      if fails_next source.calls then source.given else source.given + read_count source room;
+      if fails_next source.calls then source.given
+      else source.given ++ take (read_count source room) source.left;
+  left = if fails_next source.calls then source.left else drop (read_count source room) source.left;
   piece = source.piece;
   calls = called source.calls (fails_next source.calls);
   ends =
@@ -115,10 +116,10 @@ pub record SinkState : Type 0 where
   pub piece : ℕ
   pub calls : Schedule
 
--- and so does a sink
+-- a sink holds what it took
 abbrev pub seen_of_sink : SinkState → SinkSeen
 seen_of_sink sink =
-    record { written = Some sink.written; writes = sink.calls.made; faults = sink.calls.faults }
+    record { taken = sink.written; writes = sink.calls.made; faults = sink.calls.faults }
 
 -- the next write fails: it is one that the list names, or there is no room for any of it
 abbrev pub fails_write : SinkState → List ℕ → Bool

@@ -1,10 +1,13 @@
 //! The outside of the browser: stores of pages, sources of keys and sinks of what is shown, with
-//! fakes in memory that fail at the calls that a list names.
+//! fakes in memory that fail at the calls that a list names, and histories of what devices
+//! answered, gave and took, which only proofs read.
 #![tactic(auto)]
 
 mod calls;
 mod fault;
 mod gate;
+mod history;
+mod log;
 mod printing;
 mod sink;
 mod source;
@@ -12,6 +15,8 @@ mod store;
 
 pub use fault::Failed;
 pub use gate::{Gate, NoGate};
+pub use history::History;
+pub use log::Log;
 pub use printing::{print_fault, print_name, print_one};
 pub use sink::{MemSink, Sink, write_all};
 pub use source::{MemSource, Source};

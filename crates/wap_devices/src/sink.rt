@@ -1,5 +1,5 @@
 //! Where what is shown goes to.
-ghost use Rattle.std.specs.Prelude.{◌≡◌, ◌≤◌, [], true, ◌↔◌, Some, IfOk, IsErr};
+ghost use Rattle.std.specs.Prelude.{◌≡◌, ◌≤◌, [], true, ◌↔◌, IfOk, IsErr};
 ghost use Rattle.wap_devices.specs.Sinks.{SinkSeen, Writes, Puts};
 ghost use Rattle.wap_devices.specs.Fakes.{SinkState, fresh, fails_write, write_count};
 ghost use Rattle.wap_devices.specs.Fakes.{seen_of_sink, after_write};
@@ -75,7 +75,7 @@ impl MemSink {
         ensures holds { IfOk result (λ sink.
             sink ≡ record { written = []; room = room; piece = piece; calls = fresh fail.items }) }
         ensures known { IfOk result
-            (λ sink. (⟦<MemSink as Sink>⟧.seen sink).written ≡ Some []) }
+            (λ sink. (⟦<MemSink as Sink>⟧.seen sink).taken ≡ []) }
     {
         Ok(MemSink {
             written: Vec::with_capacity(alloc, room)?,

@@ -1,7 +1,7 @@
 //! Where key lines come from.
 ghost use Rattle.std.specs.Prelude.{◌≡◌, ◌<◌, ◌≤◌, ◌++◌, length, take, true, ◌↔◌};
-ghost use Rattle.std.specs.Prelude.{Some, Ok, IfOk, IsErr};
-ghost use Rattle.wap_devices.specs.Sources.{SourceSeen, Reads, ends_after};
+ghost use Rattle.std.specs.Prelude.{[], Ok, IfOk, IsErr};
+ghost use Rattle.wap_devices.specs.Sources.{SourceSeen, Left, Reads, ends_after};
 ghost use Rattle.wap_devices.specs.Fakes.{SourceState, fresh, fails_next, seen_of_source};
 ghost use Rattle.wap_devices.specs.Fakes.{read_count, after_read};
 
@@ -33,14 +33,14 @@ pub struct MemSource {
 }
 
 impl Model for MemSource {
-    ghost use Rattle.std.specs.Prelude.{◌≤◌, length, drop};
+    ghost use Rattle.std.specs.Prelude.{◌≤◌, length, take, drop};
     ghost use Rattle.wap_devices.specs.Fakes.{SourceState};
 
     ghost Value = { SourceState };
 
     ghost view = { λ source. record {
+      given = take source.at source.bytes;
       left = drop source.at source.bytes;
-      given = source.at;
       piece = source.piece;
       calls = source.calls;
       ends = source.ends;
@@ -55,13 +55,13 @@ impl MemSource {
     pub fn new(bytes: Bytes, piece: usize, fail: Vec<u64>) -> MemSource
         requires { 1 ≤ piece }
         ensures holds { result ≡ record {
+          given = [];
           left = bytes;
-          given = 0;
           piece = piece;
           calls = fresh fail.items;
           ends = 0;
         } }
-        ensures known { (⟦<MemSource as Source>⟧.seen result).left ≡ Some bytes }
+        ensures known { (⟦<MemSource as Source>⟧.seen result).coming ≡ Left bytes }
     {
         MemSource {
             bytes,

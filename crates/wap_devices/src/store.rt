@@ -1,5 +1,5 @@
 //! Where pages come from.
-ghost use Rattle.std.specs.Prelude.{◌≡◌, true, All, Option, Some};
+ghost use Rattle.std.specs.Prelude.{◌≡◌, true, All, Option};
 ghost use Rattle.std.specs.Prelude.{IfOk, IsErrOf, IsTrue, ◌↔◌};
 ghost use Rattle.std.specs.Option.{option_copied};
 ghost use Rattle.std.specs.List.Sorted.{IsPermutation};
@@ -7,7 +7,7 @@ ghost use Rattle.wap_base.specs.Texts.{AreAscending, AreDistinct};
 ghost use Rattle.wap_base.specs.Contents.{names_of, page_named};
 ghost use Rattle.wap_devices.specs.Contents.{answer_for};
 ghost use Rattle.wap_devices.specs.Pages.{IsPage, IsSmall};
-ghost use Rattle.wap_devices.specs.Stores.{StoreSeen, Fetches, Lists};
+ghost use Rattle.wap_devices.specs.Stores.{StoreSeen, Held, Fetches, Lists};
 ghost use Rattle.wap_devices.specs.Fakes.{StoreState, ArePages, fresh, fails_next};
 ghost use Rattle.wap_devices.specs.Fakes.{seen_of_store, after_fetch, after_listing};
 
@@ -84,7 +84,8 @@ impl From<StoreErr> for RunErr {
     }
 }
 
-/// A store of pages by their names, which may fail. Its pages never change.
+/// A store of pages by their names, which may fail. What it answers is that of the same pages
+/// each time, or of none.
 pub trait Store {
     /// What a contract sees of it.
     ghost seen: { Self → StoreSeen };
@@ -132,7 +133,7 @@ impl MemStore {
         requires { ArePages pages.items }
         ensures holds { result
             ≡ record { pages = pages.items; calls = fresh fail.items; fetches = 0; listings = 0 } }
-        ensures known { (⟦<MemStore as Store>⟧.seen result).contents ≡ Some pages.items }
+        ensures known { (⟦<MemStore as Store>⟧.seen result).known ≡ Held pages.items }
     {
         MemStore {
             pages,

@@ -28,7 +28,7 @@ module _ (a b c : SinkSeen) (p q r : State) (x y : List ℕ) (first : Gathers a 
         earlier.0,
         record {
           moved = one.moved ++ two.moved;
-          written = Appends-then a.written b.written c.written one.moved two.moved one.written two.written;
+          written = Appends-then a.taken b.taken c.taken one.moved two.moved one.written two.written;
           same =
               sym (append_assoc p.bytes x y) ∙ ap (λ (l : List ℕ). l ++ y) one.same
               ∙ append_assoc one.moved q.bytes y
@@ -38,7 +38,7 @@ module _ (a b c : SinkSeen) (p q r : State) (x y : List ℕ) (first : Gathers a 
       )
 
   both_broken : r.failed ≡ true → p.failed ≡ false
-      → AppendsPrefix a.written c.written (p.bytes ++ (x ++ y)) × Rose a.faults c.faults
+      → AppendsPrefix a.taken c.taken (p.bytes ++ (x ++ y)) × Rose a.faults c.faults
   both_broken bad good =
       let counts_one = first.counts in
       let counts_two = second.counts in
@@ -47,10 +47,10 @@ module _ (a b c : SinkSeen) (p q r : State) (x y : List ℕ) (first : Gathers a 
             let broken = first.broken early good in
             let stays = second.stays early in
             let rose = broken.1 in (
-              subst (λ (s : SinkSeen). AppendsPrefix a.written s.written (p.bytes ++ (x ++ y)))
+              subst (λ (s : SinkSeen). AppendsPrefix a.taken s.taken (p.bytes ++ (x ++ y)))
                   (sym stays.1)
-                  (subst (AppendsPrefix a.written b.written) (append_assoc p.bytes x y)
-                  (prefix_longer a.written b.written (p.bytes ++ x) y broken.0)),
+                  (subst (AppendsPrefix a.taken b.taken) (append_assoc p.bytes x y)
+                  (prefix_longer a.taken b.taken (p.bytes ++ x) y broken.0)),
               omega arith,
             )
         | inr fine ↦
@@ -60,8 +60,8 @@ module _ (a b c : SinkSeen) (p q r : State) (x y : List ℕ) (first : Gathers a 
             let all : one.moved ++ (q.bytes ++ y) ≡ p.bytes ++ (x ++ y) =
             sym (append_assoc one.moved q.bytes y) ∙ ap (λ (l : List ℕ). l ++ y) (sym one.same)
             ∙ append_assoc p.bytes x y in (
-              subst (AppendsPrefix a.written c.written) all
-                  (prefix_then a.written b.written c.written one.moved (q.bytes ++ y) one.written broken.0),
+              subst (AppendsPrefix a.taken c.taken) all
+                  (prefix_then a.taken b.taken c.taken one.moved (q.bytes ++ y) one.written broken.0),
               omega arith,
             )
       ]
@@ -92,7 +92,7 @@ writes_both a b c p r piece fine good empty first second = record {
     fine,
     record {
       moved = p.bytes ++ piece;
-      written = Appends-then a.written b.written c.written p.bytes piece first.whole second.whole;
+      written = Appends-then a.taken b.taken c.taken p.bytes piece first.whole second.whole;
       same =
           sym (append-nil (p.bytes ++ piece))
           ∙ ap (λ (l : List ℕ). (p.bytes ++ piece) ++ l) (sym empty);
@@ -111,7 +111,7 @@ fails_first a b p r piece fine bad first = record {
   steady = λ good. absurd (unlike r.failed bad good);
   whole = λ good. absurd (unlike r.failed bad good);
   broken = λ also good.
-      (prefix_longer a.written b.written p.bytes piece first.prefix, first.failed);
+      (prefix_longer a.taken b.taken p.bytes piece first.prefix, first.failed);
   stays = λ broke. absurd (unlike p.failed broke fine);
 }
 
@@ -124,7 +124,7 @@ fails_second a b c p r piece fine bad first second = record {
   steady = λ good. absurd (unlike r.failed bad good);
   whole = λ good. absurd (unlike r.failed bad good);
   broken = λ also good. (
-    prefix_then a.written b.written c.written p.bytes piece first.whole second.prefix,
+    prefix_then a.taken b.taken c.taken p.bytes piece first.whole second.prefix,
     subst (λ count. Rose count c.faults) first.steady second.failed,
   );
   stays = λ broke. absurd (unlike p.failed broke fine);
@@ -160,7 +160,7 @@ gathers_whole text a c p r done some start good empty all =
     ap (λ (l : List ℕ). l ++ text) (sym start) ∙ moves.same
     ∙ ap (λ (l : List ℕ). moves.moved ++ l) empty ∙ append-nil moves.moved in
     record {
-      whole = subst (Appends a.written c.written) (sym same) moves.written;
+      whole = subst (Appends a.taken c.taken) (sym same) moves.written;
       prefix = tt;
       untouched = λ none. absurd (omega (arith, some, ap length none));
       counts = all.counts;
@@ -177,7 +177,7 @@ gathers_broken text a c p r fault some start fine bad all =
     record {
       whole = tt;
       prefix =
-          subst (AppendsPrefix a.written c.written) (ap (λ (l : List ℕ). l ++ text) start) broken.0;
+          subst (AppendsPrefix a.taken c.taken) (ap (λ (l : List ℕ). l ++ text) start) broken.0;
       untouched = λ none. absurd (omega (arith, some, ap length none));
       counts = all.counts;
       failed = broken.1;

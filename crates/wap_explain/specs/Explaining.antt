@@ -1,7 +1,8 @@
 -- What the explaining of a page tells by how it ends. This project's own.
-use Rattle.std.specs.Prelude.{◌≡◌, ◌≢◌, ℕ, List, IfSome}
+use Rattle.std.specs.Prelude.{◌≡◌, ◌≢◌, ℕ, List}
+use Rattle.wap_base.specs.Contents.{Contents}
 use Rattle.wap_devices.specs.Contents.{answer_for}
-use Rattle.wap_devices.specs.Stores.{StoreSeen}
+use Rattle.wap_devices.specs.Stores.{StoreSeen, Agrees, Grew}
 use Rattle.wap_devices.specs.declared.store.Fetched.{Fetched}
 use Rattle.wap_devices.specs.declared.store.Fetched.TheVariants as fetched
 use Rattle.wap_pages.specs.Judged.{Refuses}
@@ -35,9 +36,10 @@ abbrev pub IsRightOf : List ℕ → Fetched → Ending → Type 0
 IsRightOf name (fetched.Found bytes) ending = IsRight name bytes ending
 IsRightOf name fetched.Missing ending = IsRightOfNone ending
 
--- an ending is right of the page of a name in a store; where its contents are known, that is theirs
-pub record Explains (name : List ℕ) (store : StoreSeen) (ending : Ending) : Type 0 where
+-- an ending is right of the page of a name in a store: that of any pages that may be its own
+pub record Explains (name : List ℕ) (before after : StoreSeen) (ending : Ending) : Type 0 where
   pub answer : Fetched
   pub found : ending ≢ StoreFault → ending ≢ NoMemory
-      → IfSome store.contents (λ pages. answer ≡ answer_for name pages)
+      → (pages : Contents) → Agrees after.known pages → answer ≡ answer_for name pages
   pub right : IsRightOf name answer ending
+  pub kept : Grew before.known after.known

@@ -79,13 +79,14 @@ fn explain_page<O: Sink>(alloc: Global, name: &Text, page: &Fetched, out: &mut O
 }
 
 /// Says of the page of a name whether it is refused, and why, and shows it.
+#[tactic(auto, using(wap_devices::proofs::Telling::grew_nothing))]
 pub(crate) fn explain<S: Store, O: Sink>(
     alloc: Global,
     name: &Text,
     store: &mut S,
     out: &mut O,
 ) -> Ending
-    ensures { Explains name.now (S.seen store.old) result }
+    ensures { Explains name.now (S.seen store.old) (S.seen store.new) result }
 {
     match store.fetch(name) {
         Ok(page) => explain_page(alloc, name, &page, out),

@@ -3,6 +3,7 @@ mod KeyLaws
 mod FormLaws
 pub mod LineLaws
 mod LineSteps
+pub mod GivingLaws
 pub mod ReaderLaws
 mod ReaderSteps
 pub mod WholeLaws

@@ -1,63 +1,32 @@
 -- What a reader has said of the bytes that it took.
 use Rattle.std.proofs.Common.{◌≡◌, ℕ, zero, suc, ◌+◌, ◌-◌, ◌<◌, ◌≤◌, take, Bool, true, false}
-use Rattle.std.proofs.Common.{cond, List, [], ◌∷◌, ◌++◌, length, Option, Some, None}
-use Rattle.std.proofs.Common.{refl, sym, ap, subst, ◌∙◌, inl, inr, append_assoc, arith}
+use Rattle.std.proofs.Common.{cond, List, [], ◌∷◌, ◌++◌, length}
+use Rattle.std.proofs.Common.{refl, sym, ap, ◌∙◌, inl, inr, append_assoc, arith}
 use Rattle.std.specs.Prelude.{nat_lt}
-use Rattle.std.specs.Option.{option_map, IfSome}
 use Rattle.std.proofs.Math.Seq.{take-append-add}
 use Rattle.std.proofs.lemmas.Bool.{le-leb, le-ltb}
-use Rattle.wap_base.proofs.Choices.{some_same}
 use Rattle.wap_base.specs.Count.{raised}
 use Rattle.std.proofs.lemmas.List.{append-nil, length-append}
-use Rattle.wap_devices.specs.Transfer.{TakesFrom, IsAtEnd}
-use Rattle.wap_devices.specs.Sources.{SourceSeen}
+use Rattle.wap_devices.specs.Sources.{SourceSeen, MayCome}
 use Rattle.wap_base.specs.declared.key.Key.{Key}
 use Rattle.wap_keys.specs.declared.limits.TheConstants.{KEYS_LIMIT, LINE_LIMIT}
 use Rattle.wap_keys.specs.declared.ending.Ending.{Ending}
 use Rattle.wap_keys.specs.declared.ending.Ending.TheVariants.{End, TooManyKeys, ReadFault}
 use Rattle.wap_keys.specs.Lines.{Keys, is_end, lines_of, keys_from, keys_at, keys_of}
-use Rattle.wap_keys.specs.Read.{Takes, TakesSome, TakesAtOnce, AtMostOnce, rose, ending_after}
+use Rattle.wap_keys.specs.Read.{TakesSome, TakesAtOnce, EndsAtMostOnce, rose, ending_after}
 use Rattle.wap_keys.specs.Read.{AreFirst, IsJustRead, IsPrompt, HasGiven, keys_among}
 use Rattle.wap_keys.specs.KeyReaders.{Reading, keys_then, said_yet, said_then, ends_known, HasRead}
 use Rattle.wap_keys.specs.KeyReaders.{GivesUp}
 use Rattle.wap_keys.specs.Prefixes.{is_unended}
 use Rattle.wap_keys.specs.inside.Taking.{LosesPiece}
 use Rattle.wap_keys.proofs.LineLaws.{cut_line}
-
--- ---- bytes that are taken
-
--- no bytes are taken where nothing is done
-from_none : (left : Option (List ℕ)) → TakesFrom left left []
-from_none None = refl
-from_none (Some bytes) = refl
-
--- one piece after another is the two together
-from_both : (start now last : Option (List ℕ)) (taken piece : List ℕ)
-    → TakesFrom start now taken → TakesFrom now last piece → TakesFrom start last (taken ++ piece)
-from_both start now None taken piece first second =
-    first ∙ ap (option_map (λ l. taken ++ l)) second
-from_both start now (Some rest) taken piece first second =
-    first ∙ ap (option_map (λ l. taken ++ l)) second
-    ∙ ap (λ (l : List ℕ). Some l) (sym (append_assoc taken piece rest))
-
-takes_none : (seen : SourceSeen) → Takes [] seen seen
-takes_none seen =
-    record { left = from_none seen.left; least = omega arith; most = omega arith }
-
--- one piece after another is taken as the two together
-pub takes_both : (start now last : SourceSeen) (taken piece : List ℕ) → Takes taken start now
-    → Takes piece now last → Takes (taken ++ piece) start last
-takes_both start now last taken piece first second = record {
-  left = from_both start.left now.left last.left taken piece first.left second.left;
-  least = omega (arith, first.least, second.least, length-append taken piece);
-  most = omega (arith, first.most, second.most, length-append taken piece);
-}
+use Rattle.wap_keys.proofs.GivingLaws.{gives_none, gives_both, may_split, none_to_come}
 
 -- ---- in how many reads
 
 pub some_none : (seen : SourceSeen) → TakesSome [] seen seen
 some_none seen = record {
-  takes = takes_none seen;
+  takes = gives_none seen seen refl refl;
   reads = 0;
   some = omega arith;
   least = omega arith;
@@ -71,7 +40,7 @@ pub some_both : (start now last : SourceSeen) (taken piece : List ℕ) → Takes
     → TakesAtOnce piece now last → 0 < length piece → last.faults ≡ now.faults
     → TakesSome (taken ++ piece) start last
 some_both start now last taken piece first second some steady = record {
-  takes = takes_both start now last taken piece first.takes second.takes;
+  takes = gives_both start now last taken piece first.takes second.takes;
   reads = first.reads + 1;
   some = omega (arith, first.some, some, length-append taken piece);
   least = omega (arith, first.least, second.reads);
@@ -81,11 +50,6 @@ some_both start now last taken piece first second some steady = record {
 }
 
 -- ---- how often the source gave its end
-
--- once at most
-once_by : (over : Bool) (ends now : ℕ) → now ≡ cond over (raised ends) ends → AtMostOnce ends now
-once_by true ends now is = inr is
-once_by false ends now is = inl is
 
 -- where it gave its end its count rose
 rose_by : (ends now : ℕ) → now ≡ raised ends → rose ends now ≡ true
@@ -134,7 +98,7 @@ begun_by ending rest unread none =
 pub begun : (seen : SourceSeen) (unread : List ℕ) → unread ≡ []
     → HasRead seen seen [] [] (record { unread = unread; number = 1; count = 0; over = false })
 begun seen unread none = record {
-  takes = takes_none seen;
+  takes = gives_none seen seen refl refl;
   counted = refl;
   few = omega arith;
   some = λ goes_on. some_none seen;
@@ -153,6 +117,10 @@ pub record IsOpen (reader : Reading) : Type 0 where
   pub unended : is_unended reader.unread ≡ true
   pub short : length reader.unread ≤ LINE_LIMIT
 
+-- it isn't over
+pub not_both : (reader : Reading) → reader.over ≡ false → reader.over ≡ true → ⊥
+not_both reader goes_on over = cc
+
 -- it has yet to say what its bytes say
 pub then_yet : (reader : Reading) (ending : Ending) (rest : List ℕ) → reader.over ≡ false
     → said_then reader ending rest ≡ said_yet reader ending rest
@@ -165,11 +133,8 @@ pub said_open : (start now : SourceSeen) (taken : List ℕ) (keys : List Key) (r
     → HasRead start now taken keys reader → reader.over ≡ false → (ending : Ending) (rest : List ℕ)
     → keys_at ending (taken ++ rest) ≡ keys_then keys (said_yet reader ending rest)
 said_open start now taken keys reader read goes_on ending rest =
-    read.says ending rest (λ over. absurd (no_both over))
+    read.says ending rest (λ over. absurd (not_both reader goes_on over))
     ∙ ap (keys_then keys) (then_yet reader ending rest goes_on)
-  where
-    no_both : reader.over ≡ true → ⊥
-    no_both over = absurd cc
 
 -- an unfinished line says nothing
 pub cut_open : (start now : SourceSeen) (taken : List ℕ) (keys : List Key) (reader : Reading)
@@ -201,10 +166,6 @@ take_past taken rest few =
     let n = KEYS_LIMIT - length taken in
     let all : KEYS_LIMIT ≡ length taken + n = omega (arith, few) in
     ap (λ (count : ℕ). take count (taken ++ rest)) all ∙ take-append-add taken rest n
-
--- bytes that are known stay so
-pub no_bytes : (bytes : List ℕ) → Some bytes ≡ None → ⊥
-no_bytes bytes e = cc
 
 -- of all bytes those up to the limit count
 pub all_by : (taken rest : List ℕ) → length taken ≤ KEYS_LIMIT
@@ -242,22 +203,25 @@ first_by start now taken keys reader read =
 
 -- and the first of what all bytes say
 of_all_by : (start now : SourceSeen) (taken : List ℕ) (keys : List Key) (reader : Reading)
-    → HasRead start now taken keys reader → (before left : Option (List ℕ))
-    → TakesFrom before left taken → (reader.over ≡ true → IsAtEnd left)
-    → IfSome before (λ bytes. AreFirst keys (keys_of bytes).keys)
-of_all_by start now taken keys reader read None left takes ended = tt
-of_all_by start now taken keys reader read (Some bytes) None takes ended =
-    absurd (no_bytes bytes takes)
-of_all_by start now taken keys reader read (Some bytes) (Some rest) takes ended =
+    → HasRead start now taken keys reader → (bytes rest : List ℕ) → bytes ≡ taken ++ rest
+    → (reader.over ≡ true → rest ≡ []) → AreFirst keys (keys_of bytes).keys
+of_all_by start now taken keys reader read bytes rest is ended =
     let few : length taken ≤ KEYS_LIMIT = omega (arith, read.counted, read.few) in
     let ending = ending_past (taken ++ rest) in
     let more = take (KEYS_LIMIT - length taken) rest in (
       (said_then reader ending more).keys,
-      ap (λ (l : List ℕ). (keys_of l).keys) (some_same bytes (taken ++ rest) takes)
+      ap (λ (l : List ℕ). (keys_of l).keys) is
           ∙ ap (λ (all : Keys). all.keys) (all_by taken rest few)
           ∙ ap (λ (all : Keys). all.keys)
           (read.says ending more (λ over. none_follows taken rest few (ended over))),
     )
+
+-- once at most
+once_by : (start now : SourceSeen) (over : Bool)
+    → now.ends ≡ cond over (raised start.ends) start.ends
+    → (over ≡ true → MayCome now.coming []) → EndsAtMostOnce start now
+once_by start now true ends none = inr (record { none = none refl; ends = ends })
+once_by start now false ends none = inl ends
 
 -- a reader's bytes were taken
 pub given_of : (start now : SourceSeen) (taken : List ℕ) (keys : List Key) (reader : Reading)
@@ -267,9 +231,12 @@ given_of start now taken keys reader read = record {
   few = omega (arith, read.counted, read.few);
   prompt = read.prompt;
   first = first_by start now taken keys reader read;
-  of_all = of_all_by start now taken keys reader read start.left now.left
-      read.takes.left read.ended;
-  end_once = once_by reader.over start.ends now.ends read.ends;
+  of_all = λ bytes may.
+      of_all_by start now taken keys reader read bytes may.rest
+      (may_split start now taken bytes read.takes may)
+      (λ over. none_to_come start now bytes may
+      (over_ends reader start.ends now.ends read.ends over));
+  end_once = once_by start now reader.over read.ends read.ended;
 }
 
 pub gives_up_at_once : (seen : SourceSeen) (reader : Reading) → GivesUp seen seen reader
@@ -296,14 +263,21 @@ next_just start now last taken piece keys reader read is_open takes = record {
   split = refl;
 }
 
+-- at most once after no time at all
+once_more : (start now last : SourceSeen) → now.ends ≡ start.ends → EndsAtMostOnce now last
+    → EndsAtMostOnce start last
+once_more start now last same (inl none) = inl (none ∙ same)
+once_more start now last same (inr end) =
+    inr (record { none = end.none; ends = end.ends ∙ ap raised same })
+
 -- no key of them was said yet
 pub given_more : (start now last : SourceSeen) (taken piece : List ℕ) (keys : List Key)
     (reader : Reading) → HasRead start now taken keys reader → IsOpen reader
     → TakesAtOnce piece now last
-    → reader.count + length piece ≤ KEYS_LIMIT + 1 → AtMostOnce now.ends last.ends
+    → reader.count + length piece ≤ KEYS_LIMIT + 1 → EndsAtMostOnce now last
     → HasGiven start last (taken ++ piece) keys
 given_more start now last taken piece keys reader read is_open takes few once = record {
-  takes = takes_both start now last taken piece read.takes takes.takes;
+  takes = gives_both start now last taken piece read.takes takes.takes;
   few = omega (arith, length-append taken piece, read.counted, few);
   prompt = inr (next_just start now last taken piece keys reader read is_open takes);
   first =
@@ -312,10 +286,14 @@ given_more start now last taken piece keys reader read is_open takes few once = 
         ap (λ (all : Keys). all.keys)
             (said_open start now taken keys reader read is_open.goes_on ending piece),
       );
-  of_all = of_all_by start now taken keys reader read start.left now.left
-      read.takes.left read.ended;
+  of_all = λ bytes may.
+      of_all_by start now taken keys reader read bytes (piece ++ may.rest)
+      (may_split start last (taken ++ piece) bytes
+      (gives_both start now last taken piece read.takes takes.takes) may
+      ∙ append_assoc taken piece may.rest)
+      (λ over. absurd (not_both reader is_open.goes_on over));
   end_once =
-      subst (λ (ends : ℕ). AtMostOnce ends last.ends)
+      once_more start now last
       (open_ends reader start.ends now.ends read.ends is_open.goes_on) once;
 }
 

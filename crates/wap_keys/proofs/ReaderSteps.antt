@@ -7,9 +7,7 @@ use Rattle.std.specs.Result.{IfOk, OnOk, OnErr}
 use Rattle.wap_base.specs.Count.{raised}
 use Rattle.wap_base.specs.declared.fault.NoMemory.{NoMemory}
 use Rattle.std.proofs.lemmas.List.{append-nil, length-append, take-append-le}
-use Rattle.wap_devices.specs.Transfer.{TakesFrom, IsAtEnd}
 use Rattle.wap_devices.specs.Sources.{SourceSeen}
-use Rattle.wap_base.proofs.Choices.{some_same}
 use Rattle.wap_base.specs.declared.key.Key.{Key}
 use Rattle.wap_keys.specs.declared.limits.TheConstants.{KEYS_LIMIT}
 use Rattle.wap_keys.specs.declared.fault.KeyFault.{KeyFault}
@@ -27,7 +25,8 @@ use Rattle.wap_keys.specs.KeyReaders.{AnswersAt, Answers, GivesUp, CountsFaults,
 use Rattle.wap_keys.specs.inside.Taking.{said_of, TakesSaid, TakesLine, ReadsPiece, ReadsEnd}
 use Rattle.wap_keys.specs.inside.Taking.{ReadsPast, FailsToRead, last_next}
 use Rattle.wap_keys.proofs.LineLaws.{last_line_says, content_wants_none}
-use Rattle.wap_keys.proofs.ReaderLaws.{IsOpen, takes_both, same_ends, open_ends, no_more, then_yet}
+use Rattle.wap_keys.proofs.GivingLaws.{gives_both}
+use Rattle.wap_keys.proofs.ReaderLaws.{IsOpen, same_ends, open_ends, no_more, not_both, then_yet}
 use Rattle.wap_keys.proofs.ReaderLaws.{said_open, cut_open, given_of, some_both, given_more}
 use Rattle.wap_keys.proofs.ReaderLaws.{next_just, more_just, just_by}
 
@@ -37,10 +36,6 @@ Keeps before now old reader =
     (start : SourceSeen) (taken : List ℕ) (keys : List Key)
     → HasRead start before taken keys old
     → (piece : List ℕ) × HasRead start now (taken ++ piece) keys reader
-
--- it isn't over
-still_open : (old new : Reading) → new.over ≡ old.over → old.over ≡ false → new.over ≡ true → ⊥
-still_open old new same goes_on over = cc
 
 -- ---- a whole line is taken
 
@@ -58,7 +53,7 @@ line_goes now old new goes_on ((count, over, fewer), says) start taken keys read
           said_open start now taken keys old read goes_on ending rest
           ∙ ap (keys_then keys) (says ending rest)
           ∙ ap (keys_then keys) (sym (then_yet new ending rest (over ∙ goes_on)));
-      ended = λ is_over. absurd (still_open old new over goes_on is_over);
+      ended = λ is_over. absurd (not_both new (over ∙ goes_on) is_over);
       ends = same_ends old new start.ends now.ends now.ends read.ends refl over;
       steady = read.steady;
     } in
@@ -85,7 +80,7 @@ line_answers now old new key goes_on ((count, over, fewer), says) start taken ke
           ∙ ap (λ (all : List Key). record { keys = all; ending = others.ending })
           (sym (append_assoc keys (key ∷ []) others.keys))
           ∙ ap (keys_then (keys ++ key ∷ [])) (sym (then_yet new ending rest (over ∙ goes_on)));
-      ended = λ is_over. absurd (still_open old new over goes_on is_over);
+      ended = λ is_over. absurd (not_both new (over ∙ goes_on) is_over);
       ends = same_ends old new start.ends now.ends now.ends read.ends refl over;
       steady = read.steady;
     } in
@@ -134,7 +129,7 @@ piece_goes now last old new is_open reads start taken keys read =
       ends = λ some. reads.ends;
     } in
     let goes : HasRead start last (taken ++ piece) keys after = record {
-      takes = takes_both start now last taken piece read.takes reads.takes;
+      takes = gives_both start now last taken piece read.takes reads.takes;
       counted = omega (arith, length-append taken piece, read.counted);
       few = reads.few;
       some = λ _.
@@ -147,7 +142,7 @@ piece_goes now last old new is_open reads start taken keys read =
           ∙ ap (λ (l : List ℕ). keys_then keys (keys_from ending old.number (lines_of l)))
           (sym (append_assoc old.unread piece rest))
           ∙ ap (keys_then keys) (sym (then_yet after ending rest is_open.goes_on));
-      ended = λ over. absurd (still_open old after refl is_open.goes_on over);
+      ended = λ over. absurd (not_both old is_open.goes_on over);
       ends = same_ends old after start.ends now.ends last.ends read.ends reads.ends refl;
       steady = reads.steady ∙ read.steady;
     } in
@@ -215,7 +210,7 @@ over_answers now old over start taken keys read =
       given = given_of start now taken keys old read;
       ends = (
         record {
-          left = read.ended over;
+          none = read.ended over;
           ends =
               read.ends ∙ ap (λ (b : Bool). cond b (raised start.ends) start.ends) over;
         },
@@ -245,13 +240,6 @@ last_says now old start taken keys is_open read key says =
     ∙ ap (λ (key : Result (Option Key) KeyFault).
     keys_then keys (key_before old.number key (record { keys = []; ending = End }))) says
 
--- no bytes are left after the end
-end_of : (now last : Option (List ℕ)) → IsAtEnd now → TakesFrom now last [] → IsAtEnd last
-end_of None None none takes = tt
-end_of None (Some rest) none takes = absurd cc
-end_of (Some bytes) None none takes = tt
-end_of (Some bytes) (Some rest) none takes = sym (some_same bytes rest takes) ∙ none
-
 -- a reader whose last line was taken
 abbrev closed : Reading → Reading
 closed old = record old { over = true; unread = [] }
@@ -275,11 +263,11 @@ comes_to_end now last old ended start taken keys is_open reads read =
     } in
     record {
       given = given_more start now last taken [] keys old read is_open at_once
-          (omega (arith, read.few)) (inr reads.ends);
+          (omega (arith, read.few)) (inr (record { none = reads.none; ends = reads.ends }));
       just = next_just start now last taken [] keys old read is_open at_once;
       few = omega (arith, length-append taken [], read.counted, read.few);
       end = record {
-        left = end_of now.left last.left reads.none reads.takes.left;
+        none = reads.none;
         ends =
             reads.ends ∙ ap raised (open_ends old start.ends now.ends read.ends is_open.goes_on);
       };
@@ -334,7 +322,7 @@ last_by now last old ended (Ok (Some key)) says is_open reads start taken keys r
           ∙ sym (no_more (keys ++ key ∷ []) End)
           ∙ ap (λ (e : Ending). keys_then (keys ++ key ∷ []) (record { keys = []; ending = e }))
           (sym is_end_);
-      ended = λ _. comes.end.left;
+      ended = λ _. comes.end.none;
       ends = comes.end.ends;
       steady = reads.steady ∙ read.steady;
     } in

@@ -3,8 +3,7 @@ use Rattle.std.specs.Prelude.{◌≡◌, ℕ, ◌+◌, ◌-◌, ◌≤◌, ◌<�
 use Rattle.std.specs.Prelude.{List, [], ◌∷◌, ◌++◌, length, Result, Ok, Err}
 use Rattle.wap_base.specs.Count.{raised, Rose}
 use Rattle.wap_base.specs.declared.fault.NoMemory.{NoMemory}
-use Rattle.wap_devices.specs.Transfer.{IsAtEnd}
-use Rattle.wap_devices.specs.Sources.{SourceSeen}
+use Rattle.wap_devices.specs.Sources.{SourceSeen, MayCome, Gives}
 use Rattle.wap_base.specs.declared.key.Key.{Key}
 use Rattle.wap_keys.specs.declared.limits.TheConstants.{KEYS_LIMIT}
 use Rattle.wap_keys.specs.declared.ending.Ending.{Ending}
@@ -12,7 +11,7 @@ use Rattle.wap_keys.specs.declared.ending.Ending.TheVariants.{End, BadKey, TooMa
 use Rattle.wap_keys.specs.declared.ending.Next.{Next}
 use Rattle.wap_keys.specs.declared.ending.Next.TheVariants as next
 use Rattle.wap_keys.specs.Lines.{Keys, lines_of, keys_from, keys_at}
-use Rattle.wap_keys.specs.Read.{Takes, TakesSome, IsJustRead, IsPrompt, HasGiven, IsRead}
+use Rattle.wap_keys.specs.Read.{TakesSome, IsJustRead, IsPrompt, HasGiven, IsRead}
 
 -- ---- a reader
 
@@ -45,14 +44,14 @@ ends_known reader ends = if reader.over then raised ends else ends
 -- to say yet they are all
 pub record HasRead (start now : SourceSeen) (taken : List ℕ) (keys : List Key) (reader : Reading)
     : Type 0 where
-  pub takes : Takes taken start now
+  pub takes : Gives taken start now
   pub counted : length taken ≡ reader.count
   pub few : reader.count ≤ KEYS_LIMIT
   pub some : reader.over ≡ false → TakesSome taken start now
   pub prompt : IsPrompt start now taken keys
   pub says : (ending : Ending) (rest : List ℕ) → (reader.over ≡ true → (ending ≡ End) × (rest ≡ []))
       → keys_at ending (taken ++ rest) ≡ keys_then keys (said_then reader ending rest)
-  pub ended : reader.over ≡ true → IsAtEnd now.left
+  pub ended : reader.over ≡ true → MayCome now.coming []
   pub ends : now.ends ≡ ends_known reader start.ends
   pub steady : now.faults ≡ start.faults
 

@@ -1,9 +1,8 @@
 -- Keys whose bytes are taken from a source. This project's own.
-use Rattle.std.specs.Prelude.{◌≡◌, ◌≢◌, ◌⊎◌, ℕ, ◌+◌, ◌<◌, ◌≤◌, Bool, nat_le, if◌then◌else◌}
-use Rattle.std.specs.Prelude.{List, [], ◌∷◌, ◌++◌, length, take, Option, Some, IfSome}
-use Rattle.wap_base.specs.Count.{raised}
-use Rattle.wap_devices.specs.Transfer.{grown_by, TakesFrom, IsAtEnd}
-use Rattle.wap_devices.specs.Sources.{SourceSeen}
+use Rattle.std.specs.Prelude.{◌≡◌, ◌≢◌, ◌⊎◌, ℕ, ◌+◌, ◌<◌, ◌≤◌, min, Bool, nat_le}
+use Rattle.std.specs.Prelude.{if◌then◌else◌, List, [], ◌∷◌, ◌++◌, length, take}
+use Rattle.wap_base.specs.Count.{greatest_count, raised}
+use Rattle.wap_devices.specs.Sources.{SourceSeen, MayCome, Gives, MayGive}
 use Rattle.wap_base.specs.declared.key.Key.{Key}
 use Rattle.wap_keys.specs.declared.limits.TheConstants.{KEYS_LIMIT, PIECE_LIMIT}
 use Rattle.wap_keys.specs.declared.fault.KeyFault.TheVariants.{NoMemory}
@@ -13,21 +12,13 @@ use Rattle.wap_keys.specs.Lines.{Keys, keys_at, keys_of}
 
 -- ---- what a source gave
 
--- between two moments these bytes were taken from a source, in any number of reads
-pub record Takes (bytes : List ℕ) (before after : SourceSeen) : Type 0 where
-  -- it had them first, and has the others yet, where its bytes are known
-  pub left : TakesFrom before.left after.left bytes
-  -- it counts them, as far as it counts
-  pub least : grown_by (length bytes) before.given ≤ after.given
-  pub most : after.given ≤ before.given + length bytes
-
--- they were taken in reads that each gave some of them
+-- these bytes were taken from a source in reads that each gave some of them
 pub record TakesSome (bytes : List ℕ) (before after : SourceSeen) : Type 0 where
-  pub takes : Takes bytes before after
+  pub takes : Gives bytes before after
   -- so many reads, as far as the source counts them
   pub reads : ℕ
   pub some : reads ≤ length bytes
-  pub least : grown_by reads before.reads ≤ after.reads
+  pub least : min (before.reads + reads) greatest_count ≤ after.reads
   pub most : after.reads ≤ before.reads + reads
   -- none of them met the end, and none failed
   pub ends : after.ends ≡ before.ends
@@ -35,7 +26,7 @@ pub record TakesSome (bytes : List ℕ) (before after : SourceSeen) : Type 0 whe
 
 -- they were taken in one read, which met the end, or failed, where there are none
 pub record TakesAtOnce (bytes : List ℕ) (before after : SourceSeen) : Type 0 where
-  pub takes : Takes bytes before after
+  pub takes : Gives bytes before after
   pub short : length bytes ≤ PIECE_LIMIT
   pub reads : after.reads ≡ raised before.reads
   pub ends : 0 < length bytes → after.ends ≡ before.ends
@@ -43,20 +34,20 @@ pub record TakesAtOnce (bytes : List ℕ) (before after : SourceSeen) : Type 0 w
 -- at most so many bytes were taken
 abbrev pub TakesAtMost : ℕ → SourceSeen → SourceSeen → Type 0
 TakesAtMost most before after =
-    (bytes : List ℕ) × (length bytes ≤ most) × Takes bytes before after
-
--- a count rose once, or not at all
-abbrev pub AtMostOnce : ℕ → ℕ → Type 0
-AtMostOnce before after = (after ≡ before) ⊎ (after ≡ raised before)
+    (bytes : List ℕ) × (length bytes ≤ most) × Gives bytes before after
 
 -- whether a count rose, or stands at its greatest value
 abbrev pub rose : ℕ → ℕ → Bool
 rose before after = nat_le (raised before) after
 
--- the source gave its end, and has no bytes
+-- the source gave its end, and nothing may be to come
 pub record GivesEnd (before after : SourceSeen) : Type 0 where
-  pub left : IsAtEnd after.left
+  pub none : MayCome after.coming []
   pub ends : after.ends ≡ raised before.ends
+
+-- it gave its end once, or not at all
+abbrev pub EndsAtMostOnce : SourceSeen → SourceSeen → Type 0
+EndsAtMostOnce before after = (after.ends ≡ before.ends) ⊎ GivesEnd before after
 
 -- ---- the keys of bytes that were taken
 
@@ -111,13 +102,12 @@ IsAtLast start now taken keys =
 
 -- the bytes were taken, and the keys are the first that their whole lines say, and the first of all
 pub record HasGiven (start now : SourceSeen) (taken : List ℕ) (keys : List Key) : Type 0 where
-  pub takes : Takes taken start now
+  pub takes : Gives taken start now
   pub few : length taken ≤ KEYS_LIMIT + 1
   pub prompt : IsPrompt start now taken keys
   pub first : AreFirst keys (keys_among (rose start.ends now.ends) taken)
-  pub of_all : IfSome start.left (λ bytes. AreFirst keys (keys_of bytes).keys)
-  -- the source gives its end once at most
-  pub end_once : AtMostOnce start.ends now.ends
+  pub of_all : (bytes : List ℕ) → MayGive start now bytes → AreFirst keys (keys_of bytes).keys
+  pub end_once : EndsAtMostOnce start now
 
 -- some bytes were taken, and some keys were given of them
 abbrev pub GivesSome : SourceSeen → SourceSeen → Type 0
@@ -158,11 +148,8 @@ pub record IsRead (start now : SourceSeen) (taken : List ℕ) (keys : List Key) 
 abbrev pub ReadsTo : SourceSeen → SourceSeen → List Key → Ending → Type 0
 ReadsTo start now keys ending = (taken : List ℕ) × IsRead start now taken keys ending
 
--- of a source with these bytes some were taken, and the others are left; the keys are those of the
--- whole lines that were taken
-pub record IsReadBefore (keys : List Key) (left : Option (List ℕ)) (bytes : List ℕ) : Type 0 where
+-- these are the keys of the whole lines that were taken
+pub record IsReadBefore (keys : List Key) (start now : SourceSeen) : Type 0 where
   pub taken : List ℕ
-  pub rest : List ℕ
-  pub split : bytes ≡ taken ++ rest
-  pub left_is : left ≡ Some rest
+  pub takes : Gives taken start now
   pub said : keys_at ReadFault taken ≡ record { keys = keys; ending = ReadFault }

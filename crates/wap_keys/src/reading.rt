@@ -1,11 +1,12 @@
 //! Reading keys to their end.
-ghost use Rattle.std.specs.Prelude.{◌≡◌, ◌≢◌, ◌+◌, ◌≤◌, IfOk, IfSome, OnErr};
+ghost use Rattle.std.specs.Prelude.{◌≡◌, ◌≢◌, ℕ, ◌+◌, ◌≤◌, List, IfOk, OnErr};
 ghost use Rattle.wap_base.specs.Count.{Rose};
+ghost use Rattle.wap_devices.specs.Sources.{MayGive};
 ghost use Rattle.wap_keys.specs.declared.ending.Ending.TheVariants.{ReadFault};
 ghost use Rattle.wap_keys.specs.declared.limits.TheConstants.{KEYS_LIMIT};
 ghost use Rattle.wap_keys.specs.Lines.{keys_of};
-ghost use Rattle.wap_keys.specs.Read.{AtMostOnce, IsReadBefore, AreFirst, TakesAtMost, ReadsTo};
-ghost use Rattle.wap_keys.specs.Read.{GivesSome};
+ghost use Rattle.wap_keys.specs.Read.{IsReadBefore, AreFirst, TakesAtMost, ReadsTo};
+ghost use Rattle.wap_keys.specs.Read.{GivesSome, EndsAtMostOnce};
 
 use crate::{Ending, Key, Next, Reader};
 use std::alloc::Global;
@@ -18,12 +19,13 @@ pub fn read_keys<I: Source>(alloc: Global, source: &mut I) -> Result<(Vec<Key>, 
     ensures read { IfOk result (λ read. ReadsTo (I.seen source.old) (I.seen source.new)
         read.0.items read.1) }
     ensures known { IfOk result (λ read. read.1 ≢ ReadFault
-        → IfSome (I.seen source.old).left (λ bytes. keys_of bytes
-        ≡ record { keys = read.0.items; ending = read.1 })) }
+        → (bytes : List ℕ) → MayGive (I.seen source.old) (I.seen source.new) bytes
+        → keys_of bytes ≡ record { keys = read.0.items; ending = read.1 }) }
     ensures before { IfOk result (λ read. read.1 ≡ ReadFault
-        → IfSome (I.seen source.old).left (IsReadBefore read.0.items (I.seen source.new).left)) }
-    ensures first { IfOk result (λ read. IfSome (I.seen source.old).left
-        (λ bytes. AreFirst read.0.items (keys_of bytes).keys)) }
+        → IsReadBefore read.0.items (I.seen source.old) (I.seen source.new)) }
+    ensures first { IfOk result (λ read. (bytes : List ℕ)
+        → MayGive (I.seen source.old) (I.seen source.new) bytes
+        → AreFirst read.0.items (keys_of bytes).keys) }
     ensures few { TakesAtMost (KEYS_LIMIT + 1) (I.seen source.old) (I.seen source.new) }
     ensures failed { IfOk result (λ read. read.1 ≡ ReadFault
         → Rose (I.seen source.old).faults (I.seen source.new).faults) }
@@ -31,7 +33,7 @@ pub fn read_keys<I: Source>(alloc: Global, source: &mut I) -> Result<(Vec<Key>, 
         → (I.seen source.new).faults ≡ (I.seen source.old).faults) }
     ensures faults { (I.seen source.old).faults ≤ (I.seen source.new).faults }
     // The source gives its end once at most.
-    ensures ends { AtMostOnce (I.seen source.old).ends (I.seen source.new).ends }
+    ensures ends { EndsAtMostOnce (I.seen source.old) (I.seen source.new) }
     // When out of memory the keys that were read are lost; no more was taken than they needed.
     ensures left { OnErr result (GivesSome (I.seen source.old) (I.seen source.new)) }
     ensures unread { OnErr result ((I.seen source.new).faults ≡ (I.seen source.old).faults) }

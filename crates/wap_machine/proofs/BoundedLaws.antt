@@ -1,6 +1,5 @@
 -- A run that came to its end did few instructions.
-use Rattle.std.proofs.Common.{◌≡◌, ℕ, ◌-◌, ◌≤◌, [], length, Option, Some, None, IfSome}
-use Rattle.std.proofs.Common.{ap, sym, subst, ◌∙◌}
+use Rattle.std.proofs.Common.{◌≡◌, ℕ, ◌-◌, ◌≤◌, [], length, ap, sym, subst, ◌∙◌}
 use Rattle.wap_execution.specs.Outcomes.{Ended, Hosting}
 use Rattle.wap_execution.specs.laws.Settings.{Counted}
 use Rattle.wap_execution.specs.laws.Bounds.{started, most_instructions}
@@ -11,11 +10,10 @@ use Rattle.wap_machine.specs.Stacks.{Stack}
 use Rattle.wap_machine.specs.Runs.{run_of, IsEnd, counted_run_of, IsBounded}
 
 pub told_bounded : {S : Type 0} (meaning : Hosting S) (machine : Stack) (turns : ℕ)
-    (old : Option S) (outcome : Outcome) (left : ℕ) (later : Option S)
-    → IfSome old (λ first. IsEnd (run_of machine meaning turns first) outcome left later)
-    → IfSome old (IsBounded machine meaning turns left)
-told_bounded meaning machine turns None outcome left later told = tt
-told_bounded {S} meaning machine turns (Some state) outcome left later told =
+    (state : S) (outcome : Outcome) (left : ℕ) (later : S)
+    → IsEnd (run_of machine meaning turns state) outcome left later
+    → IsBounded machine meaning turns left state
+told_bounded {S} meaning machine turns state outcome left later told =
     let end : Ended (Counted S) = counted_run_of machine meaning turns state in
     let same : end.turns ≡ left =
     ap (λ (e : Ended S). e.turns) ((agrees machine.limits meaning).finishing

@@ -1,6 +1,6 @@
 -- What calls come to, and what the steps into them leave to do.
 use Rattle.std.proofs.Common.{◌≡◌, ℕ, ◌-◌, ◌<◌, ◌≤◌, List, [], ◌∷◌, length, Option, Some, None}
-use Rattle.std.proofs.Common.{refl, sym, ap, subst, ◌∙◌, inl, inr, arith, IfSome}
+use Rattle.std.proofs.Common.{refl, sym, ap, subst, ◌∙◌, inl, inr, arith}
 use Rattle.std.proofs.lemmas.Bool.Decides.{leb_tells}
 use Rattle.wap_base.specs.declared.limits.Limits.{Limits}
 use Rattle.wap_base.specs.declared.limits.TheConstants.{MOST_DEPTH}
@@ -17,7 +17,7 @@ use Rattle.wap_execution.specs.Outcomes.{Setting}
 use Rattle.wap_execution.specs.Running.{returned, library_gave, entered, resumed, finished}
 use Rattle.wap_machine.specs.declared.machine.Step.{Step}
 use Rattle.wap_machine.specs.Hosts.{Gives, AtMost, Grows, Fetches, IsCallable}
-use Rattle.wap_machine.specs.inside.MachineSteps.{rest, Same, calls_from, CanCallFrom, goes_with}
+use Rattle.wap_machine.specs.inside.MachineSteps.{rest, calls_from, CanCallFrom, goes_with}
 use Rattle.wap_machine.specs.inside.MachineSteps.{GoesInto, GoesLocally, GoesFound, IsInOrderFor}
 use Rattle.wap_machine.specs.inside.Advances.{gives}
 use Rattle.wap_machine.specs.inside.Efforts.{IsLight}
@@ -120,70 +120,47 @@ found_order limits frames caller (Not why) arguments step count depth callable g
 -- ---- with what hosts tell
 
 module _ {S : Type 0} (set : Setting S) (frame : Frame) (outer : List Frame)
-    (arguments : List Value) (turns : ℕ) where
-  pub local_told : (index : ℕ) (step : Step) (old new : Option S) → new ≡ old
-      → GoesLocally set.limits (frame ∷ outer) index arguments step
-      → Same (calls_from set (frame ∷ outer) (local index) arguments turns) old
-      (rest set step turns) new
-  local_told index step old new same goes =
-      subst (λ (o : Option S). Same (calls_from set (frame ∷ outer) (local index) arguments turns)
-      old (rest set step turns) o) (sym same) (by old)
-    where
-      by : (o : Option S) → Same (calls_from set (frame ∷ outer) (local index) arguments turns) o
-          (rest set step turns) o
-      by None = tt
-      by (Some state) = local_same set frame outer index arguments step turns state goes
-
-  pub library_told : (number index : ℕ) (gave : HostOut) (step : Step) (old new : Option S)
-      → IfSome old (λ before.
-      Gives (set.host.library before frame.function.base frame.function.referer number index
-      arguments) gave new)
+    (arguments : List Value) (turns : ℕ) (old new : S) where
+  pub library_told : (number index : ℕ) (gave : HostOut) (step : Step)
+      → Gives (set.host.library old frame.function.base frame.function.referer number index
+      arguments) gave new
       → step ≡ goes_with set.limits (frame ∷ outer) gave
-      → Same (calls_from set (frame ∷ outer) (library number index) arguments turns) old
-      (rest set step turns) new
-  library_told number index gave step None new told goes = tt
-  library_told number index gave step (Some before) None told goes = absurd (cc told.stays)
-  library_told number index gave step (Some before) (Some after) told goes =
+      → calls_from set (frame ∷ outer) (library number index) arguments turns old
+      ≡ rest set step turns new
+  library_told number index gave step told goes =
       let means =
-      set.host.library before frame.function.base frame.function.referer number index arguments in
-      let state : means.1 ≡ after = cc told.stays in
+      set.host.library old frame.function.base frame.function.referer number index arguments in
       out_same set set.limits frame outer means.0 turns means.1
       ∙ ap (λ (o : HostOut). rest set (goes_with set.limits (frame ∷ outer) o) turns means.1)
       (sym told.answers)
       ∙ ap (λ (s : Step). rest set s turns means.1) (sym goes)
-      ∙ ap (λ (s : S). rest set step turns s) state
+      ∙ ap (λ (s : S). rest set step turns s) (sym told.stays)
 
   pub external_told : (url name : List ℕ) (found : Found CodeUnit) (step : Step)
-      (old new : Option S)
-      → IfSome old (λ before.
-      Gives (set.host.external before frame.function.base url name (length arguments)
-      (length (frame ∷ outer))) found new)
+      → Gives (set.host.external old frame.function.base url name (length arguments)
+      (length (frame ∷ outer))) found new
       → IsCallable (length arguments) (length (frame ∷ outer)) found
       → GoesFound set.limits (frame ∷ outer) frame.function.base found arguments step
-      → Same (calls_from set (frame ∷ outer) (external url name) arguments turns) old
-      (rest set step turns) new
-  external_told url name found step None new told callable goes = tt
-  external_told url name found step (Some before) None told callable goes = absurd (cc told.stays)
-  external_told url name found step (Some before) (Some after) told callable goes =
+      → calls_from set (frame ∷ outer) (external url name) arguments turns old
+      ≡ rest set step turns new
+  external_told url name found step told callable goes =
       let means =
-      set.host.external before frame.function.base url name (length arguments)
+      set.host.external old frame.function.base url name (length arguments)
       (length (frame ∷ outer)) in
-      let state : means.1 ≡ after = cc told.stays in
       ap (λ (f : Found CodeUnit). returned (frame ∷ outer) (resumed set (frame ∷ outer))
       (entered (inner set (length (frame ∷ outer))) frame.function.base arguments f turns means.1))
       (sym told.answers)
       ∙ found_same set set.limits frame outer frame.function.base found arguments step
       (length arguments) turns means.1 callable goes
-      ∙ ap (λ (s : S). rest set step turns s) state
+      ∙ ap (λ (s : S). rest set step turns s) (sym told.stays)
 
 pub local_from : {S : Type 0} (set : Setting S) (frames : List Frame) (arguments : List Value)
-    (turns : ℕ) (index : ℕ) (step : Step) (old : Option S)
-    → CanCallFrom frames (local index) arguments
+    (turns : ℕ) (index : ℕ) (step : Step) (state : S) → CanCallFrom frames (local index) arguments
     → GoesLocally set.limits frames index arguments step
-    → Same (calls_from set frames (local index) arguments turns) old (rest set step turns) old
-local_from set [] arguments turns index step old can goes = absurd can
-local_from set (frame ∷ outer) arguments turns index step old can goes =
-    local_told set frame outer arguments turns index step old old refl goes
+    → calls_from set frames (local index) arguments turns state ≡ rest set step turns state
+local_from set [] arguments turns index step state can goes = absurd can
+local_from set (frame ∷ outer) arguments turns index step state can goes =
+    local_same set frame outer index arguments step turns state goes
 
 pub local_ordered : (limits : Limits) (frames : List Frame) (arguments : List Value) (index : ℕ)
     (step : Step) → CanCallFrom frames (local index) arguments
@@ -194,54 +171,52 @@ local_ordered limits (frame ∷ outer) arguments index step can goes light =
 
 -- ---- what is fetched
 
+at_most_grows : (count : ℕ) (some more : Option ℕ) → AtMost count some → Grows some more
+    → AtMost count more
+at_most_grows count None more at_most grows = absurd at_most
+at_most_grows count (Some n) None at_most grows = absurd grows
+at_most_grows count (Some n) (Some m) at_most grows =
+    let less : count ≤ n = at_most in
+    let still : n ≤ m = grows in
+    omega arith
+
+pub grows_same : (some : Option ℕ) → Grows some some
+grows_same None = tt
+grows_same (Some n) = omega arith
+
+pub grows_chained : (one two three : Option ℕ) → Grows one two → Grows two three → Grows one three
+grows_chained None two three some more = tt
+grows_chained (Some n) two three some more = at_most_grows n two three some more
+
+fetches_grow : (before after later : Option ℕ) (count : ℕ) → Fetches before count after
+    → Grows after later → Fetches before count later
+fetches_grow None after later count fetches grows = tt
+fetches_grow (Some n) after later count fetches grows =
+    (fetches.0, at_most_grows count after later fetches.1 grows)
+
 module _ {S : Type 0} (set : Setting S) (fetched : S → Option ℕ) where
   abbrev pub Grown : S → S → Type 0
   Grown before after = Grows (fetched before) (fetched after)
 
-  at_most_grows : (count : ℕ) (some more : Option ℕ) → AtMost count some → Grows some more
-      → AtMost count more
-  at_most_grows count None more at_most grows = absurd at_most
-  at_most_grows count (Some n) None at_most grows = absurd grows
-  at_most_grows count (Some n) (Some m) at_most grows =
-      let less : count ≤ n = at_most in
-      let still : n ≤ m = grows in
-      omega arith
-
-  pub grows_same : (some : Option ℕ) → Grows some some
-  grows_same None = tt
-  grows_same (Some n) = omega arith
-
-  pub grows_chained : (one two three : Option ℕ) → Grows one two → Grows two three → Grows one three
-  grows_chained None two three some more = tt
-  grows_chained (Some n) two three some more = at_most_grows n two three some more
-
-  fetches_grow : (before after later : Option ℕ) (count : ℕ) → Fetches before count after
-      → Grows after later → Fetches before count later
-  fetches_grow None after later count fetches grows = tt
-  fetches_grow (Some n) after later count fetches grows =
-      (fetches.0, at_most_grows count after later fetches.1 grows)
-
   module _ (keeps : Keeps set Grown) (frame : Frame) (outer : List Frame) (arguments : List Value)
-      (turns : ℕ) (count : ℕ) where
+      (turns : ℕ) (count : ℕ) (old : S) where
     -- a call that failed fetched no more than the frames would have left
-    pub library_fetches : (number index : ℕ) (old : Option S) → IfSome old (λ before.
-        Fetches (fetched before) count (fetched (set.host.library before frame.function.base
-        frame.function.referer number index arguments).1))
-        → IfSome old (λ before.
-        Fetches (fetched before) count (fetched
-        (calls_from set (frame ∷ outer) (library number index) arguments turns before).state))
-    library_fetches number index None fetches = tt
-    library_fetches number index (Some before) fetches =
+    pub library_fetches : (number index : ℕ)
+        → Fetches (fetched old) count (fetched (set.host.library old frame.function.base
+        frame.function.referer number index arguments).1)
+        → Fetches (fetched old) count (fetched
+        (calls_from set (frame ∷ outer) (library number index) arguments turns old).state)
+    library_fetches number index fetches =
         let means =
-        set.host.library before frame.function.base frame.function.referer number index arguments in
+        set.host.library old frame.function.base frame.function.referer number index arguments in
         let end = library_gave means.0 turns means.1 in
         let gave = library_gives means.0 means.1 in
         let later =
         returned_follows set Grown keeps (frame ∷ outer) (resumed set (frame ∷ outer))
         (resumed_follows set Grown keeps (frame ∷ outer))
         turns means.1 end.outcome end.turns end.state gave.turns_fall gave.kin in
-        fetches_grow (fetched before) (fetched means.1) (fetched (calls_from set (frame ∷ outer)
-        (library number index) arguments turns before).state) count fetches later.kin
+        fetches_grow (fetched old) (fetched means.1) (fetched (calls_from set (frame ∷ outer)
+        (library number index) arguments turns old).state) count fetches later.kin
       where
         library_gives : (gave : HostOut) (state : S)
             → Follows Grown turns state (library_gave gave turns state)
@@ -254,17 +229,14 @@ module _ {S : Type 0} (set : Setting S) (fetched : S → Option ℕ) where
         library_gives (out.Asks dialog) state =
             record { turns_fall = omega arith; kin = grows_same (fetched state) }
 
-    pub external_fetches : (url name : List ℕ) (old : Option S)
-        → IfSome old (λ before.
-        Fetches (fetched before) count (fetched (set.host.external before frame.function.base url
-        name (length arguments) (length (frame ∷ outer))).1))
-        → IfSome old (λ before.
-        Fetches (fetched before) count
-        (fetched (calls_from set (frame ∷ outer) (external url name) arguments turns before).state))
-    external_fetches url name None fetches = tt
-    external_fetches url name (Some before) fetches =
+    pub external_fetches : (url name : List ℕ)
+        → Fetches (fetched old) count (fetched (set.host.external old frame.function.base url
+        name (length arguments) (length (frame ∷ outer))).1)
+        → Fetches (fetched old) count
+        (fetched (calls_from set (frame ∷ outer) (external url name) arguments turns old).state)
+    external_fetches url name fetches =
         let means =
-        set.host.external before frame.function.base url name (length arguments)
+        set.host.external old frame.function.base url name (length arguments)
         (length (frame ∷ outer)) in
         let end =
         entered (inner set (length (frame ∷ outer)))
@@ -274,8 +246,8 @@ module _ {S : Type 0} (set : Setting S) (fetched : S → Option ℕ) where
         returned_follows set Grown keeps (frame ∷ outer) (resumed set (frame ∷ outer))
         (resumed_follows set Grown keeps (frame ∷ outer))
         turns means.1 end.outcome end.turns end.state gave.turns_fall gave.kin in
-        fetches_grow (fetched before) (fetched means.1)
-        (fetched (calls_from set (frame ∷ outer) (external url name) arguments turns before).state)
+        fetches_grow (fetched old) (fetched means.1)
+        (fetched (calls_from set (frame ∷ outer) (external url name) arguments turns old).state)
         count fetches later.kin
       where
         entered_gives : (found : Found CodeUnit) (state : S) → Follows Grown turns state (entered

@@ -1,14 +1,13 @@
 -- Instructions that go on further on change nothing of what there is to do.
-use Rattle.std.proofs.Common.{◌≡◌, ℕ, ◌-◌, ◌<◌, ◌≤◌, List, [], ◌∷◌, length, Option, Some}
-use Rattle.std.proofs.Common.{None, IfSome, sym, ap, subst, ◌∙◌, arith}
-use Rattle.std.proofs.Common.{Vec}
+use Rattle.std.proofs.Common.{◌≡◌, ℕ, ◌-◌, ◌<◌, ◌≤◌, List, [], ◌∷◌, length, Option, Vec}
+use Rattle.std.proofs.Common.{sym, ap, subst, ◌∙◌, arith}
 use Rattle.std.specs.declared.alloc.Global.{Global}
 use Rattle.wap_base.specs.declared.limits.Limits.{Limits}
 use Rattle.wap_value.specs.declared.value.Value.{Value}
 use Rattle.wap_execution.specs.declared.fatal.Fatal.TheVariants.{Budget}
 use Rattle.wap_execution.specs.Frames.{Function, Frame, code_of}
-use Rattle.wap_execution.specs.Outcomes.{Ended, Hosting, Setting}
-use Rattle.wap_execution.specs.Running.{finished}
+use Rattle.wap_execution.specs.Outcomes.{fatal, Ended, Hosting, Setting}
+use Rattle.wap_execution.specs.Running.{ended, finished}
 use Rattle.wap_execution.specs.laws.Settings.{uncounted}
 use Rattle.wap_execution.proofs.LawsLemmas.FrameLaws.{goes_onward}
 use Rattle.wap_machine.specs.declared.next.Callee.{Callee}
@@ -27,21 +26,10 @@ use Rattle.wap_machine.specs.inside.Weights.{weight}
 use Rattle.wap_machine.specs.inside.Efforts.{effort, GoesBelow}
 use Rattle.wap_machine.specs.inside.Goings.{GoesOn, HasPassed, Passed}
 use Rattle.wap_machine.specs.inside.Advances.{IsAdvanced}
-use Rattle.wap_machine.specs.inside.MachineSteps.{rest, Same, calls_from}
-use Rattle.wap_machine.proofs.StepLaws.{
-  Kept,
-  Turned,
-  CanAsk,
-  nothing_told as last_nothing_told,
-  turn_told as last_turn_told,
-  turn_wanted as last_turn_wanted,
-  call_wanted as last_call_wanted,
-  call_told as last_call_told,
-  call_fetches as last_call_fetches,
-  nothing_kept as last_nothing_kept,
-  turn_kept as last_turn_kept,
-  call_kept as last_call_kept,
-}
+use Rattle.wap_machine.specs.inside.MachineSteps.{rest, calls_from}
+use Rattle.wap_machine.proofs.StepLaws.{Kept, Turned, CanAsk, nothing_goes, turn_goes, turn_wanting}
+use Rattle.wap_machine.proofs.StepLaws.{call_goes, call_wanting, nothing_kept as last_nothing_kept}
+use Rattle.wap_machine.proofs.StepLaws.{turn_kept as last_turn_kept, call_kept as last_call_kept}
 
 -- where a frame goes on, an instruction was done
 pub went_on : (string : ℕ) (now after : Frame) → EndsOrActs string now after Onward
@@ -141,87 +129,74 @@ module _ {S : Type 0} (limits : Limits) (meaning : Hosting S) where
       ∙ goes_onward set frame outer turns state are.0.within now are.0.acts.does.same
       are.0.acts.does.is
 
-  module _ (frames : List Frame) (turns : ℕ) (old : Option S) where
-    abbrev before : S → Ended S
-    before = finished set frames turns
+  module _ (frames : List Frame) (turns : ℕ) (old : S) where
+    abbrev before : Ended S
+    before = finished set frames turns old
 
-    module _ (wanted : Wanted) (advanced : IsAdvanced limits frames wanted) where
-      abbrev last_before : S → Ended S
-      last_before = finished set (here limits frames wanted advanced) turns
-
-      whole_same : (state : S) → before state ≡ last_before state
-      whole_same state = ap (λ (l : List Frame). finished set l turns state) advanced.are
-          ∙ passed_same advanced.outer turns state advanced.frame advanced.passed.frames
-          advanced.now advanced.passed.are
-
-      whole_told : (some new : Option S) (after : S → Ended S) → Same last_before some after new
-          → Same before some after new
-      whole_told None new after told = tt
-      whole_told (Some state) None after told = told
-      whole_told (Some state) (Some later) after told = whole_same state ∙ told
-
-      whole_fetched : (fetched : S → Option ℕ) (count : ℕ) (some : Option S)
-          → IfSome some (λ state. Fetches (fetched state) count (fetched (last_before state).state))
-          → IfSome some (λ state. Fetches (fetched state) count (fetched (before state).state))
-      whole_fetched fetched count None fetches = tt
-      whole_fetched fetched count (Some state) fetches =
-          subst (λ (e : Ended S). Fetches (fetched state) count (fetched e.state))
-          (sym (whole_same state)) fetches
+    whole_same : (wanted : Wanted) (advanced : IsAdvanced limits frames wanted)
+        → before ≡ finished set (here limits frames wanted advanced) turns old
+    whole_same wanted advanced = ap (λ (l : List Frame). finished set l turns old) advanced.are
+        ∙ passed_same advanced.outer turns old advanced.frame advanced.passed.frames
+        advanced.now advanced.passed.are
 
     pub nothing_told : (step : Step) → IsAdvanced limits frames (Nothing step)
-        → Same before old (rest set step turns) old
-    nothing_told step advanced = whole_told (Nothing step) advanced old old (rest set step turns)
-        (last_nothing_told limits meaning
-        (here limits frames (Nothing step) advanced) turns old step advanced.last)
+        → before ≡ rest set step turns old
+    nothing_told step advanced =
+        whole_same (Nothing step) advanced
+        ∙ nothing_goes limits meaning turns old (here limits frames (Nothing step) advanced) step
+        advanced.last
 
-    pub turn_told : (machine : Stack) (left : ℕ) (new : Option S)
+    pub turn_told : (machine : Stack) (left : ℕ) (new : S)
         → IsAdvanced limits frames (Turn machine) → 0 < turns → left ≡ turns - 1 → new ≡ old
-        → Same before old (rest set (Goes machine) left) new
+        → before ≡ rest set (Goes machine) left new
     turn_told machine left new advanced some fewer same =
-        whole_told (Turn machine) advanced old new (rest set (Goes machine) left)
-        (last_turn_told limits meaning (here limits frames (Turn machine) advanced)
-        turns old machine left new advanced.last some fewer same)
+        whole_same (Turn machine) advanced
+        ∙ turn_goes limits meaning turns old (here limits frames (Turn machine) advanced) machine
+        left advanced.last (omega arith)
+        ∙ ap (λ (s : S). finished set machine.frames left s) (sym same)
 
-    pub turn_wanted : (machine : Stack) (left : ℕ) (new : Option S)
+    -- where no turn is left, the run ends
+    no_turn : (left : ℕ) (new : S) → turns ≡ 0 → left ≡ turns - 1 → new ≡ old
+        → before ≡ ended (fatal Budget) 0 old → before ≡ rest set (Ends (Fatal Budget)) left new
+    no_turn left new none fewer same is =
+        let zero_left : left ≡ 0 = omega arith in
+        is ∙ ap (λ (n : ℕ). ended (fatal Budget) n old) (sym zero_left)
+        ∙ ap (λ (s : S). ended (fatal Budget) left s) (sym same)
+
+    pub turn_wanted : (machine : Stack) (left : ℕ) (new : S)
         → IsAdvanced limits frames (Turn machine) → turns ≡ 0 → left ≡ turns - 1 → new ≡ old
-        → Same before old (rest set (Ends (Fatal Budget)) left) new
+        → before ≡ rest set (Ends (Fatal Budget)) left new
     turn_wanted machine left new advanced none fewer same =
-        whole_told (Turn machine) advanced old new (rest set (Ends (Fatal Budget)) left)
-        (last_turn_wanted limits meaning (here limits frames (Turn machine) advanced)
-        turns old machine left new advanced.last none fewer same)
+        no_turn left new none fewer same (whole_same (Turn machine) advanced
+        ∙ turn_wanting limits meaning turns old (here limits frames (Turn machine) advanced)
+        machine advanced.last none)
 
     pub call_wanted : (waiting : Stack) (callee : Callee) (arguments : Vec Value Global) (left : ℕ)
-        (new : Option S) → IsAdvanced limits frames (Call waiting callee arguments) → turns ≡ 0
+        (new : S) → IsAdvanced limits frames (Call waiting callee arguments) → turns ≡ 0
         → left ≡ turns - 1 → new ≡ old
-        → Same before old (rest set (Ends (Fatal Budget)) left) new
+        → before ≡ rest set (Ends (Fatal Budget)) left new
     call_wanted waiting callee arguments left new advanced none fewer same =
-        whole_told (Call waiting callee arguments) advanced old new
-        (rest set (Ends (Fatal Budget)) left)
-        (last_call_wanted limits meaning (here limits frames (Call waiting callee arguments)
-        advanced) turns old waiting callee arguments left new advanced.last none fewer same)
+        no_turn left new none fewer same (whole_same (Call waiting callee arguments) advanced
+        ∙ call_wanting limits meaning turns old
+        (here limits frames (Call waiting callee arguments) advanced) waiting callee arguments
+        advanced.last none)
 
+    -- what the frames come to is what the call does
     pub call_told : (waiting : Stack) (callee : Callee) (arguments : Vec Value Global) (left : ℕ)
-        (asked new : Option S) (after : S → Ended S)
-        → IsAdvanced limits frames (Call waiting callee arguments) → 0 < turns
+        (asked : S) → IsAdvanced limits frames (Call waiting callee arguments) → 0 < turns
         → left ≡ turns - 1 → asked ≡ old
-        → Same (calls_from set waiting.frames (called_of callee) arguments.items left)
-        asked after new
-        → Same before old after new
-    call_told waiting callee arguments left asked new after advanced some fewer same told =
-        whole_told (Call waiting callee arguments) advanced old new after
-        (last_call_told limits meaning (here limits frames (Call waiting callee arguments) advanced)
-        turns old waiting callee arguments left asked new after advanced.last some fewer same told)
+        → before ≡ calls_from set waiting.frames (called_of callee) arguments.items left asked
+    call_told waiting callee arguments left asked advanced some fewer same =
+        whole_same (Call waiting callee arguments) advanced
+        ∙ call_goes limits meaning turns old
+        (here limits frames (Call waiting callee arguments) advanced) waiting callee arguments
+        left advanced.last (omega arith)
+        ∙ ap (λ (s : S). calls_from set waiting.frames (called_of callee) arguments.items left s)
+        (sym same)
 
-    pub call_fetches : (fetched : S → Option ℕ) (count : ℕ) (waiting : Stack) (callee : Callee)
-        (arguments : Vec Value Global) (left : ℕ) (asked : Option S)
-        → IsAdvanced limits frames (Call waiting callee arguments) → 0 < turns
-        → left ≡ turns - 1 → asked ≡ old
-        → IfSome asked (λ state.
-        Fetches (fetched state) count (fetched
-        (calls_from set waiting.frames (called_of callee) arguments.items left state).state))
-        → IfSome old (λ state. Fetches (fetched state) count (fetched (before state).state))
-    call_fetches fetched count waiting callee arguments left asked advanced some fewer same
-        fetches = whole_fetched (Call waiting callee arguments) advanced fetched count old
-        (last_call_fetches limits meaning
-        (here limits frames (Call waiting callee arguments) advanced) turns old fetched count
-        waiting callee arguments left asked advanced.last some fewer same fetches)
+    pub call_fetches : (fetched : S → Option ℕ) (count : ℕ) (asked : S) (after : Ended S)
+        → asked ≡ old → before ≡ after → Fetches (fetched asked) count (fetched after.state)
+        → Fetches (fetched old) count (fetched before.state)
+    call_fetches fetched count asked after same is fetches =
+        subst (λ (s : S). Fetches (fetched s) count (fetched before.state)) same
+        (subst (λ (e : Ended S). Fetches (fetched asked) count (fetched e.state)) (sym is) fetches)

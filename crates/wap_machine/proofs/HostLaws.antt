@@ -1,10 +1,10 @@
 -- What follows from the laws of hosts.
-use Rattle.std.proofs.Common.{◌≡◌, ℕ, List, Option, Some, None, Result, Err, ap, subst, IfSome}
+use Rattle.std.proofs.Common.{◌≡◌, ℕ, List, Option, Result, Err, sym, ap, subst}
 use Rattle.wap_base.specs.declared.limits.Limits.{Limits}
 use Rattle.wap_value.specs.declared.value.Value.{Value}
 use Rattle.wap_url.specs.declared.url.Url.{Url}
 use Rattle.wap_execution.specs.Outcomes.{Hosting}
-use Rattle.wap_machine.specs.Hosts.{Grows, GrowsTold, Gives}
+use Rattle.wap_machine.specs.Hosts.{Grows, Gives}
 use Rattle.wap_execution.specs.laws.Settings.{uncounted}
 use Rattle.wap_execution.proofs.LawsLemmas.RunLaws.{Keeps}
 use Rattle.wap_machine.proofs.CallLaws.{Grown, grows_same, grows_chained}
@@ -18,11 +18,9 @@ pub host_keeps : {S : Type 0} (limits : Limits) (meaning : Hosting S) (fetched :
     (fetched (meaning.library before base referer number index arguments).1))
     → Keeps (uncounted limits meaning) (Grown (uncounted limits meaning) fetched)
 host_keeps limits meaning fetched external_grows library_grows = record {
-  same = λ state. grows_same (uncounted limits meaning) fetched (fetched state);
-  chained =
-      λ one two three some more. grows_chained (uncounted limits meaning) fetched (fetched one)
-      (fetched two) (fetched three) some more;
-  ticks = λ function state. grows_same (uncounted limits meaning) fetched (fetched state);
+  same = λ state. grows_same (fetched state);
+  chained = λ one two three. grows_chained (fetched one) (fetched two) (fetched three);
+  ticks = λ function state. grows_same (fetched state);
   external = external_grows;
   library = library_grows;
 }
@@ -36,18 +34,8 @@ other_fault A B {E} fault other same =
     ap err is
 
 -- what is told after a call has no fetch less
-pub told_grows : {A S : Type 0} (fetched : S → Option ℕ) (means : S → A × S) (old new : Option S)
-    (gave : A) → IfSome old (λ before. Gives (means before) gave new)
-    → ((before : S) → Grows (fetched before) (fetched (means before).1))
-    → GrowsTold fetched old new
-told_grows fetched means None new gave told grows = tt
-told_grows fetched means (Some before) None gave told grows = tt
-told_grows {A} {S} fetched means (Some before) (Some after) gave told grows =
-    let same : (means before).1 ≡ after = cc told.stays in
-    subst (λ (s : S). Grows (fetched before) (fetched s)) same (grows before)
-
-pub grows_still : {S : Type 0} (limits : Limits) (meaning : Hosting S) (fetched : S → Option ℕ)
-    (state : Option S) → GrowsTold fetched state state
-grows_still limits meaning fetched None = tt
-grows_still limits meaning fetched (Some s) =
-    grows_same (uncounted limits meaning) fetched (fetched s)
+pub told_grows : {A S : Type 0} (fetched : S → Option ℕ) (means : S → A × S) (old new : S)
+    (gave : A) → Gives (means old) gave new → Grows (fetched old) (fetched (means old).1)
+    → Grows (fetched old) (fetched new)
+told_grows {S = S} fetched means old new gave told grows =
+    subst (λ (s : S). Grows (fetched old) (fetched s)) (sym told.stays) grows

@@ -1,14 +1,13 @@
 -- What steps leave to do is what was to do.
 use Rattle.std.proofs.Common.{◌≡◌, ℕ, zero, suc, ◌-◌, ◌<◌, ◌≤◌, Bool, true, false, List, [], ◌∷◌}
-use Rattle.std.proofs.Common.{length, Option, Some, None, IfSome, refl, sym, ap, subst, ◌∙◌, arith}
-use Rattle.std.proofs.Common.{Vec}
+use Rattle.std.proofs.Common.{length, refl, sym, ap, subst, ◌∙◌, arith, Vec}
 use Rattle.std.specs.declared.alloc.Global.{Global}
 use Rattle.wap_base.specs.declared.limits.Limits.{Limits}
 use Rattle.wap_value.specs.declared.value.Value.{Value}
 use Rattle.wap_value.specs.declared.value.Value.TheVariants.{Str}
 use Rattle.wap_execution.specs.declared.fatal.Fatal.TheVariants.{Budget}
 use Rattle.wap_execution.specs.Frames.{Function, Frame, code_of}
-use Rattle.wap_execution.specs.Outcomes.{fatal, Ended, Hosting, Setting}
+use Rattle.wap_execution.specs.Outcomes.{fatal, Hosting, Setting}
 use Rattle.wap_execution.specs.Running.{ended, at_place, finished}
 use Rattle.wap_machine.specs.declared.next.Callee.{Callee}
 use Rattle.wap_machine.specs.declared.next.Next.{Next}
@@ -17,7 +16,6 @@ use Rattle.wap_machine.specs.declared.machine.Outcome.TheVariants.{Done, Exited,
 use Rattle.wap_machine.specs.declared.machine.Step.{Step}
 use Rattle.wap_machine.specs.declared.machine.Step.TheVariants.{Goes, Ends}
 use Rattle.wap_machine.specs.declared.machine.Wanted.TheVariants.{Nothing, Turn, Call}
-use Rattle.wap_machine.specs.Hosts.{Fetches}
 use Rattle.wap_machine.specs.Seen.{called_of}
 use Rattle.wap_machine.specs.Stacks.{Stack, stack}
 use Rattle.wap_execution.specs.laws.Settings.{uncounted}
@@ -26,7 +24,7 @@ use Rattle.wap_machine.specs.Doing.{AreFew, Acts}
 use Rattle.wap_machine.specs.inside.Weights.{weight, heavy}
 use Rattle.wap_machine.specs.inside.Efforts.{effort, GoesBelow, IsLight}
 use Rattle.wap_machine.specs.inside.Advances.{gives, wanted_for, HasStepped, at_end, done}
-use Rattle.wap_machine.specs.inside.MachineSteps.{rest, Same, calls_from, CanCallFrom}
+use Rattle.wap_machine.specs.inside.MachineSteps.{rest, calls_from, CanCallFrom}
 use Rattle.wap_machine.specs.inside.MachineSteps.{LimitsStay, IsWithoutBudget, Wants}
 use Rattle.wap_execution.proofs.LawsLemmas.FrameLaws.{ends_whole, returns_value, ends_fatally}
 use Rattle.wap_execution.proofs.LawsLemmas.FrameLaws.{goes_onward, back_without, goes_back}
@@ -59,7 +57,7 @@ module _ {S : Type 0} (limits : Limits) (meaning : Hosting S) where
 
   module _ (turns : ℕ) (state : S) where
     -- nothing was wanted
-    nothing_goes : (frames : List Frame) (step : Step) → HasStepped limits frames (Nothing step)
+    pub nothing_goes : (frames : List Frame) (step : Step) → HasStepped limits frames (Nothing step)
         → finished set frames turns state ≡ rest set step turns state
     nothing_goes frames step (at_end frame outer are place goes) =
         ap (λ (l : List Frame). finished set l turns state) are
@@ -90,7 +88,7 @@ module _ {S : Type 0} (limits : Limits) (meaning : Hosting S) where
             (sym (nothing_is step (Ends (Fatal why)) goes))
 
     -- a turn was wanted, and there is none
-    turn_wanting : (frames : List Frame) (machine : Stack) → HasStepped limits frames (Turn machine)
+    pub turn_wanting : (frames : List Frame) (machine : Stack) → HasStepped limits frames (Turn machine)
         → turns ≡ 0 → finished set frames turns state ≡ ended (fatal Budget) 0 state
     turn_wanting frames machine (at_end frame outer are place goes) none = absurd (cc goes)
     turn_wanting frames machine (done frame new outer what are stacked within acts goes) none =
@@ -106,7 +104,7 @@ module _ {S : Type 0} (limits : Limits) (meaning : Hosting S) where
         by (next.Return v) acts goes = absurd (cc goes)
         by (next.End why) acts goes = absurd (cc goes)
 
-    turn_goes : (frames : List Frame) (machine : Stack) (left : ℕ)
+    pub turn_goes : (frames : List Frame) (machine : Stack) (left : ℕ)
         → HasStepped limits frames (Turn machine) → turns ≡ suc left
         → finished set frames turns state ≡ finished set machine.frames left state
     turn_goes frames machine left (at_end frame outer are place goes) some = absurd (cc goes)
@@ -125,7 +123,7 @@ module _ {S : Type 0} (limits : Limits) (meaning : Hosting S) where
         by (next.Return v) acts goes = absurd (cc goes)
         by (next.End why) acts goes = absurd (cc goes)
 
-    call_wanting : (frames : List Frame) (waiting : Stack) (callee : Callee)
+    pub call_wanting : (frames : List Frame) (waiting : Stack) (callee : Callee)
         (arguments : Vec Value Global) → HasStepped limits frames (Call waiting callee arguments)
         → turns ≡ 0 → finished set frames turns state ≡ ended (fatal Budget) 0 state
     call_wanting frames waiting callee arguments (at_end frame outer are place goes) none =
@@ -145,7 +143,7 @@ module _ {S : Type 0} (limits : Limits) (meaning : Hosting S) where
         by (next.Return v) acts goes = absurd (cc goes)
         by (next.End why) acts goes = absurd (cc goes)
 
-    call_goes : (frames : List Frame) (waiting : Stack) (callee : Callee)
+    pub call_goes : (frames : List Frame) (waiting : Stack) (callee : Callee)
         (arguments : Vec Value Global) (left : ℕ)
         → HasStepped limits frames (Call waiting callee arguments) → turns ≡ suc left
         → finished set frames turns state
@@ -177,106 +175,6 @@ module _ {S : Type 0} (limits : Limits) (meaning : Hosting S) where
             ∙ sym (same_call waiting (stack limits (new ∷ outer)) callee other arguments more goes)
         by (next.Return v) acts goes = absurd (cc goes)
         by (next.End why) acts goes = absurd (cc goes)
-
--- ---- with what hosts tell
-
-module _ {S : Type 0} (limits : Limits) (meaning : Hosting S) (frames : List Frame) (turns : ℕ)
-    (old : Option S) where
-  abbrev before : S → Ended S
-  before = finished (uncounted limits meaning) frames turns
-
-  pub nothing_told : (step : Step) → HasStepped limits frames (Nothing step)
-      → Same before old (rest (uncounted limits meaning) step turns) old
-  nothing_told step advanced = by old
-    where
-      by : (o : Option S) → Same before o (rest (uncounted limits meaning) step turns) o
-      by None = tt
-      by (Some state) = nothing_goes limits meaning turns state frames step advanced
-
-  pub turn_told : (machine : Stack) (left : ℕ) (new : Option S)
-      → HasStepped limits frames (Turn machine) → 0 < turns → left ≡ turns - 1 → new ≡ old
-      → Same before old (rest (uncounted limits meaning) (Goes machine) left) new
-  turn_told machine left new advanced some fewer same =
-      subst (λ (o : Option S).
-      Same before old (rest (uncounted limits meaning) (Goes machine) left) o) (sym same) (by old)
-    where
-      by : (o : Option S) → Same before o (rest (uncounted limits meaning) (Goes machine) left) o
-      by None = tt
-      by (Some state) =
-          turn_goes limits meaning turns state frames machine left advanced (omega arith)
-
-  pub turn_wanted : (machine : Stack) (left : ℕ) (new : Option S)
-      → HasStepped limits frames (Turn machine) → turns ≡ 0 → left ≡ turns - 1 → new ≡ old
-      → Same before old (rest (uncounted limits meaning) (Ends (Fatal Budget)) left) new
-  turn_wanted machine left new advanced none fewer same =
-      subst (λ (o : Option S).
-      Same before old (rest (uncounted limits meaning) (Ends (Fatal Budget)) left) o)
-      (sym same) (by old)
-    where
-      by : (o : Option S)
-          → Same before o (rest (uncounted limits meaning) (Ends (Fatal Budget)) left) o
-      by None = tt
-      by (Some state) = let zero_left : left ≡ 0 = omega arith in
-          turn_wanting limits meaning turns state frames machine advanced none
-          ∙ ap (λ (n : ℕ). ended (fatal Budget) n state) (sym zero_left)
-
-  pub call_wanted : (waiting : Stack) (callee : Callee) (arguments : Vec Value Global) (left : ℕ)
-      (new : Option S) → HasStepped limits frames (Call waiting callee arguments) → turns ≡ 0
-      → left ≡ turns - 1 → new ≡ old
-      → Same before old (rest (uncounted limits meaning) (Ends (Fatal Budget)) left) new
-  call_wanted waiting callee arguments left new advanced none fewer same =
-      subst (λ (o : Option S).
-      Same before old (rest (uncounted limits meaning) (Ends (Fatal Budget)) left) o)
-      (sym same) (by old)
-    where
-      by : (o : Option S)
-          → Same before o (rest (uncounted limits meaning) (Ends (Fatal Budget)) left) o
-      by None = tt
-      by (Some state) = let zero_left : left ≡ 0 = omega arith in
-          call_wanting limits meaning turns state frames waiting callee arguments advanced none
-          ∙ ap (λ (n : ℕ). ended (fatal Budget) n state) (sym zero_left)
-
-  pub call_told : (waiting : Stack) (callee : Callee) (arguments : Vec Value Global) (left : ℕ)
-      (asked new : Option S) (after : S → Ended S)
-      → HasStepped limits frames (Call waiting callee arguments) → 0 < turns
-      → left ≡ turns - 1 → asked ≡ old
-      → Same (calls_from (uncounted limits meaning) waiting.frames
-      (called_of callee) arguments.items left) asked after new → Same before old after new
-  call_told waiting callee arguments left asked new after advanced some fewer same told =
-      by old new (subst (λ (o : Option S). Same (calls_from (uncounted limits meaning)
-      waiting.frames (called_of callee) arguments.items left) o after new) same told)
-    where
-      by : (o n : Option S) → Same (calls_from (uncounted limits meaning) waiting.frames
-          (called_of callee) arguments.items left) o after n → Same before o after n
-      by None n told = tt
-      by (Some state) None told = told
-      by (Some state) (Some later) told =
-          call_goes limits meaning turns state frames waiting callee arguments left advanced
-          (omega arith)
-          ∙ told
-
-  pub call_fetches : (fetched : S → Option ℕ) (count : ℕ) (waiting : Stack) (callee : Callee)
-      (arguments : Vec Value Global) (left : ℕ) (asked : Option S)
-      → HasStepped limits frames (Call waiting callee arguments) → 0 < turns
-      → left ≡ turns - 1 → asked ≡ old
-      → IfSome asked (λ state.
-      Fetches (fetched state) count (fetched (calls_from (uncounted limits meaning) waiting.frames
-      (called_of callee) arguments.items left state).state))
-      → IfSome old (λ state. Fetches (fetched state) count (fetched (before state).state))
-  call_fetches fetched count waiting callee arguments left asked advanced some fewer same fetches =
-      by old (subst (λ (o : Option S).
-      IfSome o (λ state. Fetches (fetched state) count (fetched (calls_from (uncounted limits
-      meaning) waiting.frames (called_of callee) arguments.items left state).state))) same fetches)
-    where
-      by : (o : Option S) → IfSome o (λ state.
-          Fetches (fetched state) count (fetched (calls_from (uncounted limits meaning)
-          waiting.frames (called_of callee) arguments.items left state).state))
-          → IfSome o (λ state. Fetches (fetched state) count (fetched (before state).state))
-      by None fetches = tt
-      by (Some state) fetches =
-          subst (λ (e : Ended S). Fetches (fetched state) count (fetched e.state))
-          (sym (call_goes limits meaning turns state frames waiting callee arguments left advanced
-          (omega arith))) fetches
 
 -- ---- what a step keeps
 

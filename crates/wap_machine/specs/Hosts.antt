@@ -11,9 +11,9 @@ use Rattle.wap_execution.specs.declared.library.HostOut.{HostOut}
 use Rattle.wap_execution.specs.declared.library.HostOut.TheVariants.{Value, Exit, Fatal, Asks}
 
 -- what was answered and the state after it are these
-pub record Gives {A S : Type 0} (means : A × S) (answer : A) (after : Option S) : Type 0 where
+pub record Gives {A S : Type 0} (means : A × S) (answer : A) (after : S) : Type 0 where
   pub answers : answer ≡ means.0
-  pub stays : after ≡ Some means.1
+  pub stays : after ≡ means.1
 
 -- the function is there and takes so many arguments, and so few functions are at work that one more
 -- may be
@@ -44,12 +44,6 @@ AtMost count (Some more) = count ≤ more
 -- a count that was known before is known after, and no lower
 abbrev pub Grows : Option ℕ → Option ℕ → Type 0
 Grows before after = IfSome before (λ count. AtMost count after)
-
--- from one state to the other, where both are known
-abbrev pub GrowsTold : {S : Type 0} → (S → Option ℕ) → Option S → Option S → Type 0
-GrowsTold fetched None after = ⊤
-GrowsTold fetched (Some before) None = ⊤
-GrowsTold fetched (Some before) (Some after) = Grows (fetched before) (fetched after)
 
 -- a call that failed raised the count that was known before, and not above what the call would have
 -- left

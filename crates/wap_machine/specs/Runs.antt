@@ -1,5 +1,5 @@
 -- What machines' runs come to, by the definitions. This project's own.
-use Rattle.std.specs.Prelude.{⊤, ◌≡◌, ℕ, ◌-◌, ◌≤◌, length, Option, Some}
+use Rattle.std.specs.Prelude.{⊤, ◌≡◌, ℕ, ◌-◌, ◌≤◌, length}
 use Rattle.wap_base.specs.declared.limits.Limits.{Limits}
 use Rattle.wap_execution.specs.Outcomes.{Outcome as Meant, value, exit}
 use Rattle.wap_execution.specs.Outcomes.{fatal, waits, Ended, Hosting}
@@ -20,10 +20,10 @@ meant (Asks dialog waiting) = waits dialog waiting.frames
 
 -- this is what the definition says, with as many turns left, and in the state that it says
 pub record IsEnd {S : Type 0}
-    (end : Ended S) (outcome : Outcome) (turns : ℕ) (state : Option S) : Type 0 where
+    (end : Ended S) (outcome : Outcome) (turns : ℕ) (state : S) : Type 0 where
   pub outcome_is : meant outcome ≡ end.outcome
   pub turns_are : turns ≡ end.turns
-  pub state_is : state ≡ Some end.state
+  pub state_is : state ≡ end.state
 
 -- what the frames of a machine come to in a host, with so many turns left
 abbrev pub run_of : {S : Type 0} → Stack → Hosting S → ℕ → S → Ended S

@@ -1,12 +1,12 @@
 //! Calls that ask the host.
-ghost use Rattle.std.specs.Prelude.{◌≡◌, ◌<◌, ◌≤◌, length, IfOk, OnOk, IsErrOf, IfSome};
+ghost use Rattle.std.specs.Prelude.{◌≡◌, ◌<◌, ◌≤◌, length, IfOk, OnOk, IsErrOf};
 ghost use Rattle.wap_base.specs.Count.{Rose};
 ghost use Rattle.wap_execution.specs.Effects.{library, external};
 ghost use Rattle.wap_machine.specs.Seen.{called_of};
 ghost use Rattle.wap_machine.specs.Doing.{AreFew};
-ghost use Rattle.wap_machine.specs.Hosts.{Fetches, GrowsTold};
+ghost use Rattle.wap_machine.specs.Hosts.{Grows, Fetches};
 ghost use Rattle.wap_execution.specs.laws.Settings.{uncounted};
-ghost use Rattle.wap_machine.specs.inside.MachineSteps.{rest, Same, called_from};
+ghost use Rattle.wap_machine.specs.inside.MachineSteps.{rest, called_from};
 ghost use Rattle.wap_machine.specs.inside.MachineSteps.{CanCallFrom, IsInOrderFor};
 
 use crate::Callee;
@@ -26,25 +26,27 @@ fn call_library<P, H: Host<P>>(
     arguments: Vec<Value>,
 ) -> Result<Step, RunErr>
     requires { CanCallFrom waiting.frames (library number index) arguments.items }
-    ensures told { IfOk result (λ step. Same
-        (called_from waiting H.meaning (library number index) arguments.items (H.turns host.old))
-        (H.state host.old pages.old)
-        (rest (uncounted waiting.limits H.meaning) step (H.turns host.new))
-        (H.state host.new pages.new)) }
+    ensures told { IfOk result (λ step. (under : H.Under) → H.may_have pages.new under
+        → called_from waiting H.meaning (library number index) arguments.items
+        (H.turns host.old) (H.state host.old pages.old under)
+        ≡ rest (uncounted waiting.limits H.meaning) step
+        (H.turns host.new) (H.state host.new pages.new under)) }
     ensures order { IfOk result (IsInOrderFor waiting.limits) }
     ensures turns { H.turns host.new ≡ H.turns host.old }
-    ensures grown { IfOk result (λ _. GrowsTold H.fetched
-        (H.state host.old pages.old) (H.state host.new pages.new)) }
+    ensures grown { IfOk result (λ _. (under : H.Under) → H.may_have pages.new under
+        → Grows (H.fetched (H.state host.old pages.old under))
+        (H.fetched (H.state host.new pages.new under))) }
     ensures kept { H.kept pages.old pages.new }
     ensures steady { OnOk result (H.faults pages.new ≡ H.faults pages.old) }
     ensures faults { H.faults pages.old ≤ H.faults pages.new }
     ensures failed { IsErrOf result RunErr.Store
         → Rose (H.faults pages.old) (H.faults pages.new) }
     ensures fetches { H.fetches pages.old ≤ H.fetches pages.new }
-    ensures fetched { IsErrOf result RunErr.Store → IfSome (H.state host.old pages.old)
-        (λ before. Fetches (H.fetched before) (H.fetches pages.new) (H.fetched
+    ensures fetched { IsErrOf result RunErr.Store → (under : H.Under)
+        → H.may_have pages.new under
+        → Fetches (H.fetched (H.state host.old pages.old under)) (H.fetches pages.new) (H.fetched
         (called_from waiting H.meaning (library number index) arguments.items
-        (H.turns host.old) before).state)) }
+        (H.turns host.old) (H.state host.old pages.old under)).state) }
 {
     let script = waiting.frame().script();
     let referer = script.referer.as_ref();
@@ -62,25 +64,27 @@ fn call_external<P, H: Host<P>>(
     arguments: Vec<Value>,
 ) -> Result<Step, RunErr>
     requires few { length arguments.items < 256 }
-    ensures told { IfOk result (λ step. Same
-        (called_from waiting H.meaning (external url name) arguments.items (H.turns host.old))
-        (H.state host.old pages.old)
-        (rest (uncounted waiting.limits H.meaning) step (H.turns host.new))
-        (H.state host.new pages.new)) }
+    ensures told { IfOk result (λ step. (under : H.Under) → H.may_have pages.new under
+        → called_from waiting H.meaning (external url name) arguments.items
+        (H.turns host.old) (H.state host.old pages.old under)
+        ≡ rest (uncounted waiting.limits H.meaning) step
+        (H.turns host.new) (H.state host.new pages.new under)) }
     ensures order { IfOk result (IsInOrderFor waiting.limits) }
     ensures turns { H.turns host.new ≡ H.turns host.old }
-    ensures grown { IfOk result (λ _. GrowsTold H.fetched
-        (H.state host.old pages.old) (H.state host.new pages.new)) }
+    ensures grown { IfOk result (λ _. (under : H.Under) → H.may_have pages.new under
+        → Grows (H.fetched (H.state host.old pages.old under))
+        (H.fetched (H.state host.new pages.new under))) }
     ensures kept { H.kept pages.old pages.new }
     ensures steady { OnOk result (H.faults pages.new ≡ H.faults pages.old) }
     ensures faults { H.faults pages.old ≤ H.faults pages.new }
     ensures failed { IsErrOf result RunErr.Store
         → Rose (H.faults pages.old) (H.faults pages.new) }
     ensures fetches { H.fetches pages.old ≤ H.fetches pages.new }
-    ensures fetched { IsErrOf result RunErr.Store → IfSome (H.state host.old pages.old)
-        (λ before. Fetches (H.fetched before) (H.fetches pages.new) (H.fetched
+    ensures fetched { IsErrOf result RunErr.Store → (under : H.Under)
+        → H.may_have pages.new under
+        → Fetches (H.fetched (H.state host.old pages.old under)) (H.fetches pages.new) (H.fetched
         (called_from waiting H.meaning (external url name) arguments.items
-        (H.turns host.old) before).state)) }
+        (H.turns host.old) (H.state host.old pages.old under)).state) }
 {
     let depth = waiting.depth() as u32;
     let count = arguments.len() as u8;
@@ -99,25 +103,27 @@ pub(crate) fn call<P, H: Host<P>>(
 ) -> Result<Step, RunErr>
     requires few { AreFew callee (length arguments.items) }
     requires can { CanCallFrom waiting.frames (called_of callee) arguments.items }
-    ensures told { IfOk result (λ step. Same
-        (called_from waiting H.meaning (called_of callee) arguments.items (H.turns host.old))
-        (H.state host.old pages.old)
-        (rest (uncounted waiting.limits H.meaning) step (H.turns host.new))
-        (H.state host.new pages.new)) }
+    ensures told { IfOk result (λ step. (under : H.Under) → H.may_have pages.new under
+        → called_from waiting H.meaning (called_of callee) arguments.items
+        (H.turns host.old) (H.state host.old pages.old under)
+        ≡ rest (uncounted waiting.limits H.meaning) step
+        (H.turns host.new) (H.state host.new pages.new under)) }
     ensures order { IfOk result (IsInOrderFor waiting.limits) }
     ensures turns { H.turns host.new ≡ H.turns host.old }
-    ensures grown { IfOk result (λ _. GrowsTold H.fetched
-        (H.state host.old pages.old) (H.state host.new pages.new)) }
+    ensures grown { IfOk result (λ _. (under : H.Under) → H.may_have pages.new under
+        → Grows (H.fetched (H.state host.old pages.old under))
+        (H.fetched (H.state host.new pages.new under))) }
     ensures kept { H.kept pages.old pages.new }
     ensures steady { OnOk result (H.faults pages.new ≡ H.faults pages.old) }
     ensures faults { H.faults pages.old ≤ H.faults pages.new }
     ensures failed { IsErrOf result RunErr.Store
         → Rose (H.faults pages.old) (H.faults pages.new) }
     ensures fetches { H.fetches pages.old ≤ H.fetches pages.new }
-    ensures fetched { IsErrOf result RunErr.Store → IfSome (H.state host.old pages.old)
-        (λ before. Fetches (H.fetched before) (H.fetches pages.new) (H.fetched
+    ensures fetched { IsErrOf result RunErr.Store → (under : H.Under)
+        → H.may_have pages.new under
+        → Fetches (H.fetched (H.state host.old pages.old under)) (H.fetches pages.new) (H.fetched
         (called_from waiting H.meaning (called_of callee) arguments.items
-        (H.turns host.old) before).state)) }
+        (H.turns host.old) (H.state host.old pages.old under)).state) }
 {
     match callee {
         Callee::Local(index) => match enter_local(waiting, index, arguments) {

@@ -18,14 +18,20 @@ use wap_verify::Verified;
 /// What machines run in: it counts turns, finds functions of other units, and has the libraries.
 /// The pages, which calls may ask, are passed beside it.
 pub trait Host<P> {
+    /// What the pages have, as far as it matters to calls.
+    ghost Under: { Type 0 };
+
+    /// The pages may have this, by all that they answered so far.
+    ghost may_have: { P → Under → Type 0 };
+
     /// What host and pages are in, as far as calls depend on it.
     ghost State: { Type 0 };
 
     /// How many turns are left.
     ghost turns: { Self → ℕ };
 
-    /// The state, where it is known.
-    ghost state: { Self → P → Option State };
+    /// The state, where the pages have this.
+    ghost state: { Self → P → Under → State };
 
     /// What the calls answer, and the state that they leave.
     ghost meaning: { Hosting State };
@@ -46,7 +52,8 @@ pub trait Host<P> {
     fn turn(&mut self) -> bool
         ensures some { IsTrue result ↔ (0 < turns self.old) }
         ensures turns { turns self.new ≡ turns self.old - 1 }
-        ensures state { (pages : P) → state self.new pages ≡ state self.old pages };
+        ensures state { (pages : P) (under : Under)
+            → state self.new pages under ≡ state self.old pages under };
 
     /// A function of another unit, by the calling unit's URL, the other's, and its name, for so
     /// many arguments, while so many functions are at work.
@@ -62,10 +69,11 @@ pub trait Host<P> {
         count: u8,
         depth: u32,
     ) -> Result<Found<Shared<Verified>>, RunErr>
-        // What is known is so, and stays known.
-        ensures told { IfOk result (λ found. IfSome (state self.old pages.old) (λ before. Gives
-            (meaning.external before caller.now target.now function.now count depth)
-            found (state self.new pages.new))) }
+        // It is so for all that the pages may have then.
+        ensures told { IfOk result (λ found. (under : Under) → may_have pages.new under → Gives
+            (meaning.external (state self.old pages.old under)
+            caller.now target.now function.now count depth)
+            found (state self.new pages.new under)) }
         ensures callable { IfOk result (λ found. IsCallable count depth found) }
         ensures turns { turns self.new ≡ turns self.old }
 
@@ -75,9 +83,10 @@ pub trait Host<P> {
         ensures failed { IsErrOf result RunErr.Store
             → Rose (faults pages.old) (faults pages.new) }
         ensures fetches { fetches pages.old ≤ fetches pages.new }
-        ensures fetched { IsErrOf result RunErr.Store → IfSome (state self.old pages.old)
-            (λ before. Fetches (fetched before) (fetches pages.new) (fetched
-            (meaning.external before caller.now target.now function.now count depth).1)) };
+        ensures fetched { IsErrOf result RunErr.Store → (under : Under) → may_have pages.new under
+            → Fetches (fetched (state self.old pages.old under)) (fetches pages.new) (fetched
+            (meaning.external (state self.old pages.old under)
+            caller.now target.now function.now count depth).1) };
 
     /// What a function of a library gives, by the unit's URL and that of the unit that called it.
     ///
@@ -93,10 +102,10 @@ pub trait Host<P> {
         arguments: Vec<Value>,
     ) -> Result<HostOut, RunErr>
         requires { lib_args library function ≡ Some (length arguments.items) }
-        ensures told { IfOk result (λ out. IfSome (state self.old pages.old) (λ before. Gives
-            (meaning.library before base.now (option_copied referer.entry)
-            library function arguments.items)
-            out (state self.new pages.new))) }
+        ensures told { IfOk result (λ out. (under : Under) → may_have pages.new under → Gives
+            (meaning.library (state self.old pages.old under) base.now
+            (option_copied referer.entry) library function arguments.items)
+            out (state self.new pages.new under)) }
         ensures no_budget { IfOk result IsNoBudget }
         ensures turns { turns self.new ≡ turns self.old }
 
@@ -106,20 +115,24 @@ pub trait Host<P> {
         ensures failed { IsErrOf result RunErr.Store
             → Rose (faults pages.old) (faults pages.new) }
         ensures fetches { fetches pages.old ≤ fetches pages.new }
-        ensures fetched { IsErrOf result RunErr.Store → IfSome (state self.old pages.old)
-            (λ before. Fetches (fetched before) (fetches pages.new) (fetched
-            (meaning.library before base.now (option_copied referer.entry)
-            library function arguments.items).1)) };
+        ensures fetched { IsErrOf result RunErr.Store → (under : Under) → may_have pages.new under
+            → Fetches (fetched (state self.old pages.old under)) (fetches pages.new) (fetched
+            (meaning.library (state self.old pages.old under) base.now
+            (option_copied referer.entry) library function arguments.items).1) };
 
     /// The state tells what the pages count.
-    ghost counted: { (host : Self) (pages : P) → IfSome (state host pages)
-        (λ now. IfSome (fetched now) (λ count. count ≡ fetches pages)) };
+    ghost counted: { (host : Self) (pages : P) (under : Under)
+        → IfSome (fetched (state host pages under)) (λ count. count ≡ fetches pages) };
 
     /// What is kept is so where nothing was called.
     ghost kept_still: { (pages : P) → kept pages pages };
 
     /// What each of two calls keeps, both keep.
     ghost kept_then: { (one two three : P) → kept one two → kept two three → kept one three };
+
+    /// What pages may have after calls, they may have had before.
+    ghost kept_may: { (before after : P) (under : Under) → kept before after
+        → may_have after under → may_have before under };
 
     /// No call takes a fetch back.
     ghost external_grows: { (before : State) (caller : TheUrl) (target name : List ℕ)

@@ -1,5 +1,5 @@
 //! Runs of machines.
-ghost use Rattle.std.specs.Prelude.{◌≡◌, ◌≤◌, IfOk, OnOk, IsErrOf, IfSome};
+ghost use Rattle.std.specs.Prelude.{◌≡◌, ◌≤◌, IfOk, OnOk, IsErrOf};
 ghost use Rattle.wap_base.specs.Count.{Rose};
 ghost use Rattle.wap_machine.specs.Hosts.{Fetches};
 ghost use Rattle.wap_machine.specs.Runs.{run_of, IsEnd, IsBounded};
@@ -16,14 +16,15 @@ impl Machine {
     /// # Errors
     /// `Store` where the host's pages failed, and `NoMemory`.
     pub fn run<P, H: Host<P>>(self, host: &mut H, pages: &mut P) -> Result<Outcome, RunErr>
-        // Where the host tells its state, the outcome, the turns and the state are those of the
-        // definition.
-        ensures told { IfOk result (λ outcome. IfSome (H.state host.old pages.old) (λ before.
-            IsEnd (run_of self H.meaning (H.turns host.old) before)
-            outcome (H.turns host.new) (H.state host.new pages.new))) }
+        // For all that the pages may have then, the outcome, the turns and the state are those of
+        // the definition.
+        ensures told { IfOk result (λ outcome. (under : H.Under) → H.may_have pages.new under
+            → IsEnd (run_of self H.meaning (H.turns host.old) (H.state host.old pages.old under))
+            outcome (H.turns host.new) (H.state host.new pages.new under)) }
         // The definition's run does no more instructions than the turns that were taken allow.
-        ensures bounded { IfOk result (λ outcome. IfSome (H.state host.old pages.old)
-            (IsBounded self H.meaning (H.turns host.old) (H.turns host.new))) }
+        ensures bounded { IfOk result (λ outcome. (under : H.Under) → H.may_have pages.new under
+            → IsBounded self H.meaning (H.turns host.old) (H.turns host.new)
+            (H.state host.old pages.old under)) }
         // It ends because turns ran out only where none is left.
         ensures budget { IfOk result (WantsNoTurn (H.turns host.new)) }
         ensures limits { IfOk result (KeepsLimits self.limits) }
@@ -37,9 +38,11 @@ impl Machine {
         ensures failed { IsErrOf result RunErr.Store
             → Rose (H.faults pages.old) (H.faults pages.new) }
         ensures fetches { H.fetches pages.old ≤ H.fetches pages.new }
-        ensures fetched { IsErrOf result RunErr.Store → IfSome (H.state host.old pages.old)
-            (λ before. Fetches (H.fetched before) (H.fetches pages.new)
-            (H.fetched (run_of self H.meaning (H.turns host.old) before).state)) }
+        ensures fetched { IsErrOf result RunErr.Store → (under : H.Under)
+            → H.may_have pages.new under
+            → Fetches (H.fetched (H.state host.old pages.old under)) (H.fetches pages.new)
+            (H.fetched (run_of self H.meaning (H.turns host.old)
+            (H.state host.old pages.old under)).state) }
     {
         let mut machine = self;
         loop {

@@ -9,8 +9,9 @@ use Rattle.std.specs.Cmp.Lexicographic.{bytes_decides}
 use Rattle.std.proofs.lemmas.Bool.{cases_Bool, or_parts}
 use Rattle.std.proofs.lemmas.Map.Entries.{length-keys_of}
 use Rattle.lru.specs.LruCache.{lru_cache, promoted, put_entries}
-use Rattle.wap_base.specs.Contents.{Contents}
 use Rattle.wap_base.specs.Texts.{is_same_text, AreDistinct}
+use Rattle.wap_devices.specs.Stores.{Known, Grew}
+use Rattle.wap_devices.proofs.Telling.{agrees_before}
 use Rattle.wap_world.specs.site.Misses.{Cache, is_kept, after_asking}
 use Rattle.wap_world.specs.declared.site.page.Page.{Page}
 use Rattle.wap_pages.specs.Caches.{KeepsNoMore}
@@ -23,10 +24,10 @@ Entries = List (List ℕ × Page)
 abbrev others : List ℕ → List (List ℕ) → List (List ℕ)
 others name names = filter (λ other. not (is_same_text other name)) names
 
-same_text : (a b : List ℕ) → is_same_text a b ≡ true → a ≡ b
+pub same_text : (a b : List ℕ) → is_same_text a b ≡ true → a ≡ b
 same_text a b = (bytes_decides a b).0
 
-text_same : (a : List ℕ) → is_same_text a a ≡ true
+pub text_same : (a : List ℕ) → is_same_text a a ≡ true
 text_same a = (bytes_decides a a).1 refl
 
 flipped : (a b : List ℕ) (x y : Bool) → is_same_text a b ≡ x → is_same_text b a ≡ y → x ≡ y
@@ -45,7 +46,7 @@ flipped a b false true left right =
     differ : false ≡ true → ⊥
     differ e = cc
 
-turned : (a b : List ℕ) → is_same_text a b ≡ is_same_text b a
+pub turned : (a b : List ℕ) → is_same_text a b ≡ is_same_text b a
 turned a b = flipped a b (is_same_text a b) (is_same_text b a) refl refl
 
 -- ---- names that are kept later
@@ -213,21 +214,39 @@ all-removed P test (e ∷ es) all = elim (cases_Bool (test e.0)) [
   | inr on ↦ rw on (all.0, all-removed P test es all.1)
 ]
 
-pub right_found : (contents : Option Contents) (name : List ℕ) (es : Entries) (page : Page)
-    → AllByRecursion (IsRightEntry contents) es → lookup (is_same_text name) es ≡ Some page
-    → IsRight contents name page
-right_found contents name [] page all is = absurd cc
-right_found contents name (e ∷ es) page all is = elim (cases_Bool (is_same_text name e.0)) [
+pub right_found : (known : Known) (name : List ℕ) (es : Entries) (page : Page)
+    → AllByRecursion (IsRightEntry known) es → lookup (is_same_text name) es ≡ Some page
+    → IsRight known name page
+right_found known name [] page all is = absurd cc
+right_found known name (e ∷ es) page all is = elim (cases_Bool (is_same_text name e.0)) [
   | inl same ↦ here (same_text name e.0 same) (rw same at is)
-  | inr other ↦ right_found contents name es page all.1 (rw other at is)
+  | inr other ↦ right_found known name es page all.1 (rw other at is)
 ] where
-  here : name ≡ e.0 → Some e.1 ≡ Some page → IsRight contents name page
+  here : name ≡ e.0 → Some e.1 ≡ Some page → IsRight known name page
   here key value =
-      subst (λ (n : List ℕ). IsRight contents n page) (sym key)
-      (subst (IsRight contents e.0) inner all.0)
+      subst (λ (n : List ℕ). IsRight known n page) (sym key)
+      (subst (IsRight known e.0) inner all.0)
     where
       inner : e.1 ≡ page
       inner = cc
+
+-- what is kept stays right as the store tells more
+module _ (before after : Known) (grew : Grew before after) where
+  right_later : (es : Entries) → AllByRecursion (IsRightEntry before) es
+      → AllByRecursion (IsRightEntry after) es
+  right_later [] right = tt
+  right_later (e ∷ es) right = (
+    λ contents agrees. right.0 contents (agrees_before before after grew contents agrees),
+    right_later es right.1,
+  )
+
+  pub sound_later : (kept : Kept) → IsSound before kept → IsSound after kept
+  sound_later kept sound = record {
+    right = right_later kept.entries sound.right;
+    distinct = sound.distinct;
+    few = sound.few;
+    some = sound.some;
+  }
 
 -- ---- distinct names
 
@@ -292,8 +311,8 @@ length-take_few (suc n) (x ∷ xs) = let rest = length-take_few n xs in omega ar
 
 -- ---- a page that is found goes first
 
-module _ (contents : Option Contents) (name : List ℕ) (kept : Kept)
-    (sound : IsSound contents kept) where
+module _ (known : Known) (name : List ℕ) (kept : Kept)
+    (sound : IsSound known kept) where
   names_first : (page other : Page) → lookup (is_same_text name) kept.entries ≡ Some page
       → keys_of ((name, other) ∷ remove_entry (is_same_text name) kept.entries)
       ≡ take kept.cap (name ∷ others name (keys_of kept.entries))
@@ -320,7 +339,7 @@ module _ (contents : Option Contents) (name : List ℕ) (kept : Kept)
 
   -- entries with the names that asking leaves are sound where they are right
   sound_so : (es : Entries) → keys_of es ≡ take kept.cap (name ∷ others name (keys_of kept.entries))
-      → AllByRecursion (IsRightEntry contents) es → IsSound contents (lru_cache es kept.cap)
+      → AllByRecursion (IsRightEntry known) es → IsSound known (lru_cache es kept.cap)
   sound_so es is right = record {
     right = right;
     distinct =
@@ -349,17 +368,17 @@ module _ (contents : Option Contents) (name : List ℕ) (kept : Kept)
   promoted_none none = rw (no_entry name kept.entries none) refl
 
   pub found_right : (page : Page) → lookup (is_same_text name) kept.entries ≡ Some page
-      → IsRight contents name page
-  found_right page is = right_found contents name kept.entries page sound.right is
+      → IsRight known name page
+  found_right page is = right_found known name kept.entries page sound.right is
 
   pub found_sound : (page : Page) → lookup (is_same_text name) kept.entries ≡ Some page
-      → IsSound contents (lru_cache (promoted (is_same_text name) kept.entries) kept.cap)
+      → IsSound known (lru_cache (promoted (is_same_text name) kept.entries) kept.cap)
   found_sound page is =
-      subst (λ (es : Entries). IsSound contents (lru_cache es kept.cap)) (sym (promoted_is page is))
+      subst (λ (es : Entries). IsSound known (lru_cache es kept.cap)) (sym (promoted_is page is))
       (sound_so ((name, page) ∷ remove_entry (is_same_text name) kept.entries)
       (names_first page page is) (
         found_right page is,
-        all-removed (IsRightEntry contents) (is_same_text name) kept.entries sound.right,
+        all-removed (IsRightEntry known) (is_same_text name) kept.entries sound.right,
       ))
 
   pub found_first : (page : Page) (fresh : Bool)
@@ -386,28 +405,28 @@ module _ (contents : Option Contents) (name : List ℕ) (kept : Kept)
   Put page =
       (keys_of (put_entries is_same_text kept name page)
       ≡ take kept.cap (name ∷ others name (keys_of kept.entries)))
-      × AllByRecursion (IsRightEntry contents) (put_entries is_same_text kept name page)
+      × AllByRecursion (IsRightEntry known) (put_entries is_same_text kept name page)
 
-  put : (page : Page) → IsRight contents name page
+  put : (page : Page) → IsRight known name page
       → (found : Option Page) → lookup (is_same_text name) kept.entries ≡ found → Put page
   put page right (Some old) is = (
     ap keys_of (put_found old page is) ∙ names_first old page is,
-    subst (AllByRecursion (IsRightEntry contents)) (sym (put_found old page is))
-        (right, all-removed (IsRightEntry contents) (is_same_text name) kept.entries sound.right),
+    subst (AllByRecursion (IsRightEntry known)) (sym (put_found old page is))
+        (right, all-removed (IsRightEntry known) (is_same_text name) kept.entries sound.right),
   )
   put page right None is = (
     ap keys_of (put_new page is) ∙ names_new is page,
-    subst (AllByRecursion (IsRightEntry contents)) (sym (put_new page is))
-        (right, all-take (IsRightEntry contents) (kept.cap - 1) kept.entries sound.right),
+    subst (AllByRecursion (IsRightEntry known)) (sym (put_new page is))
+        (right, all-take (IsRightEntry known) (kept.cap - 1) kept.entries sound.right),
   )
 
-  pub put_sound : (page : Page) → IsRight contents name page
-      → IsSound contents (lru_cache (put_entries is_same_text kept name page) kept.cap)
+  pub put_sound : (page : Page) → IsRight known name page
+      → IsSound known (lru_cache (put_entries is_same_text kept name page) kept.cap)
   put_sound page right =
       let one = put page right (lookup (is_same_text name) kept.entries) refl in
       sound_so (put_entries is_same_text kept name page) one.0 one.1
 
-  pub put_first : (page : Page) (fresh : Bool) → IsRight contents name page
+  pub put_first : (page : Page) (fresh : Bool) → IsRight known name page
       → names_in (lru_cache (put_entries is_same_text kept name page) kept.cap)
       ≡ after_asking (name, fresh) (names_in kept)
   put_first page fresh right =

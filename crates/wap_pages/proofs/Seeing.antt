@@ -1,18 +1,16 @@
 -- What is seen of a cache before and after one page is asked for.
 use Rattle.std.proofs.Common.{◌≡◌, ℕ, ◌+◌, Bool, true, false, if◌then◌else◌, List, []}
-use Rattle.std.proofs.Common.{◌∷◌, Option, Some, None, Result, refl, sym, ap, ◌∙◌, arith}
-use Rattle.std.specs.Prelude.{IfSome, option_map}
-use Rattle.wap_base.specs.Contents.{Contents}
+use Rattle.std.proofs.Common.{◌∷◌, Some, Result, refl, sym, ap, subst, ◌∙◌, arith}
 use Rattle.wap_base.specs.Count.{raised, Rose}
 use Rattle.wap_base.specs.declared.fault.RunErr.{RunErr}
 use Rattle.wap_devices.specs.Stores.{StoreSeen}
-use Rattle.wap_world.specs.site.Pages.{page_of, AreSitePages}
+use Rattle.wap_devices.proofs.Telling.{grew_nothing}
+use Rattle.wap_world.specs.site.Pages.{Pages, page_of, AreSitePages}
 use Rattle.wap_world.specs.site.Misses.{Cache, Asked, is_miss, after_asking, misses}
-use Rattle.wap_world.specs.site.Asking.{Seen, raised_by, Stays, Asks, Fails}
+use Rattle.wap_world.specs.site.Asking.{Seen, MayBe, raised_by, Stays, Asks, Fails}
 use Rattle.wap_world.specs.declared.site.page.Page.{Page}
 use Rattle.wap_pages.specs.Caches.{seen_over}
-use Rattle.wap_pages.specs.Judged.{judged}
-use Rattle.wap_pages.specs.inside.Keeping.{HaveDistinctNames, IsRight, AsksStore}
+use Rattle.wap_pages.specs.inside.Keeping.{IsRight, AsksStore}
 use Rattle.wap_pages.proofs.Judgements.{judged_pages_fit}
 
 none_missed : (asked : Asked) (cache : Cache) → is_miss asked cache ≡ false
@@ -23,31 +21,25 @@ one_missed : (asked : Asked) (cache : Cache) → is_miss asked cache ≡ true
     → misses (asked ∷ []) cache ≡ 1
 one_missed asked cache is = ap (λ (b : Bool). (if b then 1 else 0) + 0) is
 
--- a right page is the one that is seen
-pub right_seen : (contents : Option Contents) (name : List ℕ) (page : Page)
-    → IsRight contents name page
-    → IfSome (option_map judged contents) (λ pages. page ≡ page_of name pages)
-right_seen None name page right = tt
-right_seen (Some contents) name page right = right.named
+module _ (store : StoreSeen) (cache : Cache) (pages : Pages)
+    (may : MayBe (seen_over store cache) pages) where
+  -- a right page is that of what may be seen
+  pub right_seen : (name : List ℕ) (page : Page) → IsRight store.known name page
+      → page ≡ page_of name pages
+  right_seen name page right = right may.contents may.agrees ∙ sym (ap (page_of name) may.are)
 
-pub right_distinct : (contents : Option Contents) (name : List ℕ) (page : Page)
-    → IsRight contents name page → HaveDistinctNames contents
-right_distinct None name page right = tt
-right_distinct (Some contents) name page right = right.distinct
-
--- the pages that are seen are those of a site
-pub site_seen : (contents : Option Contents) → HaveDistinctNames contents
-    → IfSome (option_map judged contents) AreSitePages
-site_seen None distinct = tt
-site_seen (Some contents) distinct = judged_pages_fit contents distinct
+  -- the pages that may be seen are those of a site
+  pub site_seen : AreSitePages pages
+  site_seen =
+      subst AreSitePages (sym may.are) (judged_pages_fit may.contents may.agrees.distinct)
 
 module _ (store : StoreSeen) (before after : Cache) where
   pub hit_stays : after.capacity ≡ before.capacity
       → Stays (seen_over store before)
       (seen_over store after)
   hit_stays same = record {
-    contents = refl;
-    behind = refl;
+    known = grew_nothing store.known store.known refl;
+    judge = refl;
     capacity = ap Some same;
     listings = refl;
     faults = omega arith;
@@ -73,8 +65,8 @@ module _ (old : StoreSeen) (before : Cache) (new : StoreSeen) (after : Cache) wh
   pub miss_stays : {result : Result Page RunErr} → AsksStore old new result
       → after.capacity ≡ before.capacity → Stays Old New
   miss_stays asks same = record {
-    contents = ap (option_map judged) asks.kept;
-    behind = asks.kept;
+    known = asks.kept;
+    judge = refl;
     capacity = ap Some same;
     listings = asks.listings;
     faults = asks.faults;

@@ -1,5 +1,5 @@
 -- Pages of a store, of which some are kept. This project's own.
-use Rattle.std.specs.Prelude.{◌≡◌, ℕ, true, List, Some, option_map}
+use Rattle.std.specs.Prelude.{◌≡◌, ℕ, true, List, Some}
 use Rattle.std.specs.Map.{keys_of}
 use Rattle.wap_devices.specs.Stores.{StoreSeen}
 use Rattle.wap_world.specs.declared.site.page.Page.{Page}
@@ -18,11 +18,11 @@ pub record CachedPages (S : Type 0) : Type 0 where
 abbrev pub cache_of : {S : Type 0} → CachedPages S → Cache
 cache_of cached = record { names = keys_of cached.kept; capacity = cached.capacity }
 
--- what is seen of them: the store's contents, judged, and its counts
+-- what is seen of them: what is known of the store's pages, how they are judged, and its counts
 abbrev pub seen_over : StoreSeen → Cache → Seen
 seen_over store cache = record {
-  contents = option_map judged store.contents;
-  behind = store.contents;
+  known = store.known;
+  judge = judged;
   cache = Some cache;
   faults = store.faults;
   fetches = store.fetches;

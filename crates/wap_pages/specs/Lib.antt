@@ -3,4 +3,5 @@ pub mod Refusals
 pub mod Judged
 pub mod Printing
 pub mod Caches
+pub mod Histories
 pub mod inside

@@ -1,12 +1,12 @@
 //! A cache of judged pages.
 ghost use Rattle.std.specs.Prelude.{◌≡◌, ◌≤◌, [], ◌∷◌, IfOk, OnOk, IfErr, OnErr};
-ghost use Rattle.std.specs.Prelude.{IfSome, IsErrOf, IsSome, Option};
+ghost use Rattle.std.specs.Prelude.{IsErrOf};
 ghost use Rattle.lru.specs.LruCache.{lru_cache, promoted};
 ghost use Rattle.std.specs.Map.{lookup};
-ghost use Rattle.wap_base.specs.Contents.{Contents};
 ghost use Rattle.wap_base.specs.Texts.{is_same_text};
-ghost use Rattle.wap_world.specs.site.Pages.{page_of, AreSitePages};
-ghost use Rattle.wap_world.specs.site.Asking.{Stays, Asks, Fails};
+ghost use Rattle.wap_devices.specs.Stores.{Known};
+ghost use Rattle.wap_world.specs.site.Pages.{Pages as JudgedPages, page_of, AreSitePages};
+ghost use Rattle.wap_world.specs.site.Asking.{MayBe, Stays, Asks, Fails};
 ghost use Rattle.wap_pages.specs.Caches.{cache_of, seen_over, KeepsNoMore};
 ghost use Rattle.wap_pages.specs.inside.Keeping.{IsRight, IsSound};
 ghost use Rattle.wap_pages.specs.inside.Keeping.{LooksUp, Keeps, AsksStore};
@@ -47,7 +47,7 @@ impl<S: Store> Model for Cached<S> {
     ghost view = { λ cached.
         record { store = cached.store; kept = cached.kept.entries; capacity = cached.kept.cap } };
 
-    ghost invariant = { λ cached. IsSound (S.seen cached.store).contents cached.kept };
+    ghost invariant = { λ cached. IsSound (S.seen cached.store).known cached.kept };
 }
 
 impl<S: Store> Cached<S> {
@@ -84,7 +84,6 @@ fn recall(kept: &mut LruCache<Text, Page>, name: &Text) -> Result<Option<Page>, 
     ensures found { IfOk result (λ page. page ≡ lookup (is_same_text name.now) kept.old.entries) }
     ensures first { kept.new ≡ lru_cache (promoted (is_same_text name.now) kept.old.entries)
         kept.old.cap }
-    ensures some { OnErr result (IsSome (lookup (is_same_text name.now) kept.old.entries)) }
 {
     match kept.get(name) {
         Some(page) => Ok(Some(page.share()?)),
@@ -99,8 +98,8 @@ fn look_up(
     name: &Text,
     fresh: bool,
 ) -> Result<Option<Page>, NoMemory>
-    ensures { (contents : Option Contents) → IsSound contents kept.old
-        → LooksUp contents (name.now, fresh) kept.old kept.new result }
+    ensures { (known : Known) → IsSound known kept.old
+        → LooksUp known (name.now, fresh) kept.old kept.new result }
 {
     if fresh {
         return Ok(None);
@@ -116,9 +115,8 @@ fn keep(
     name: &Text,
     page: &Page,
 ) -> Result<(), NoMemory>
-    ensures { (contents : Option Contents) → IsSound contents kept.old
-        → IsRight contents name.now page.now
-        → Keeps contents name.now kept.old kept.new result }
+    ensures { (known : Known) → IsSound known kept.old → IsRight known name.now page.now
+        → Keeps known name.now kept.old kept.new result }
 {
     let name = name.copy(alloc)?;
     let page = page.share()?;
@@ -127,8 +125,9 @@ fn keep(
 }
 
 /// The page of a name, from the store.
+#[tactic(auto, using(crate::proofs::Fetching::grew_asked))]
 fn fetch<S: Store>(alloc: Global, store: &mut S, name: &Text) -> Result<Page, RunErr>
-    ensures found { IfOk result (IsRight (S.seen store.old).contents name.now) }
+    ensures found { IfOk result (IsRight (S.seen store.new).known name.now) }
     ensures asks { AsksStore (S.seen store.old) (S.seen store.new) result }
 {
     match store.fetch(name) {
@@ -146,9 +145,10 @@ impl<S: Store> Pages for Cached<S> {
     ghost seen = { λ cached. seen_over (S.seen cached.store) (cache_of cached) };
 
     fn page(&mut self, alloc: Global, name: &Text, fresh: bool) -> Result<Page, RunErr>
-        ensures found { IfOk result (λ page. IfSome (⟦<Cached<S> as Pages>⟧.seen self.old).contents
-            (λ pages. page ≡ page_of name.now pages)) }
-        ensures site { IfSome (⟦<Cached<S> as Pages>⟧.seen self.old).contents AreSitePages }
+        ensures found { IfOk result (λ page. (pages : JudgedPages)
+            → MayBe (⟦<Cached<S> as Pages>⟧.seen self.new) pages → page ≡ page_of name.now pages) }
+        ensures site { (pages : JudgedPages)
+            → MayBe (⟦<Cached<S> as Pages>⟧.seen self.new) pages → AreSitePages pages }
         ensures asks { OnOk result (Asks ((name.now, fresh) ∷ [])
             (⟦<Cached<S> as Pages>⟧.seen self.old) (⟦<Cached<S> as Pages>⟧.seen self.new)) }
         ensures failed { IsErrOf result RunErr.Store → Fails ((name.now, fresh) ∷ [])

@@ -1,7 +1,8 @@
 //! What the judging of pages means.
-ghost use Rattle.std.specs.Prelude.{◌≡◌, ◌≢◌, ◌<◌, ◌^◌, ◌↔◌, ◌⊎◌, ℕ, true, List, length};
+ghost use Rattle.std.specs.Prelude.{◌≡◌, ◌≢◌, ◌<◌, ◌^◌, ◌↔◌, ◌⊎◌, ℕ, true, List, [], length};
 ghost use Rattle.wap_base.specs.Contents.{Contents, names_of, page_named};
 ghost use Rattle.wap_base.specs.Texts.{AreDistinct};
+ghost use Rattle.wap_devices.specs.Stores.{Answers, Held, Told, Agrees};
 ghost use Rattle.wap_tokens.specs.declared.markup.deck.Deck.{Deck};
 ghost use Rattle.wap_unit.specs.declared.unit.Unit.{Unit};
 ghost use Rattle.wap_grammar.specs.declared.program.program.Program.{Program};
@@ -11,6 +12,7 @@ ghost use Rattle.wap_pages.specs.declared.fault.PageFault.{PageFault};
 ghost use Rattle.wap_pages.specs.Judged.{page_of_bytes, judged, page_where, AreBytes};
 ghost use Rattle.wap_pages.specs.Judged.{IsDeckPage, IsUnitPage, IsSourcePage, IsScriptPage};
 ghost use Rattle.wap_pages.specs.Judged.{IsTextPage, Refuses, may_differ};
+ghost use Rattle.wap_pages.specs.Histories.{AnswersOneWay};
 
 /// A law of `judged`, which does nothing when it is called. A name's page is that of its bytes, and
 /// missing where it has none. It is a deck where the bytes are a document that means this deck, and
@@ -46,4 +48,15 @@ pub fn refused_pages_have_faults()
     ensures one { (name bytes : List ℕ) (fault other : PageFault) → Refuses name bytes fault
         → Refuses name bytes other
         → (fault ≡ other) ⊎ ((may_differ fault ≡ true) × (may_differ other ≡ true)) }
+{}
+
+/// A law of the pages that a store may hold by what is known of it, of which contracts speak. A
+/// store that tells what it holds answer by answer may hold some pages, if it answered each name one
+/// way: those that were found, one of a name. One that holds its pages may hold these alone, in
+/// which no name stands twice.
+pub fn answers_of_one_way_have_pages()
+    ensures told { (answers : Answers) → AnswersOneWay answers
+        → (contents : Contents) × Agrees (Told answers []) contents }
+    ensures held { (held pages : Contents)
+        → Agrees (Held held) pages ↔ ((pages ≡ held) × AreDistinct (names_of pages)) }
 {}

@@ -17,6 +17,6 @@ pub use cached::{Cached, LEAST_CAPACITY, MOST_CAPACITY};
 pub use fault::{PageErr, PageFault};
 pub use judging::judge;
 pub use kind::Kind;
-pub use law::{pages_are_judged, refused_pages_have_faults};
+pub use law::{answers_of_one_way_have_pages, pages_are_judged, refused_pages_have_faults};
 pub use reading::{compiled_in, deck_in, document_in, unit_in, verified_in};
 pub use threads::all_cross;

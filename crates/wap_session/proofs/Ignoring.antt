@@ -19,7 +19,7 @@ use Rattle.wap_session.specs.declared.standing.Standing.TheVariants.{Rest, Waits
 use Rattle.wap_session.specs.Ignoring.{fits_nothing}
 use Rattle.wap_session.specs.inside.Turns.{waiting_of, is_over, state_of}
 use Rattle.wap_session.proofs.Rules.{Acts-leads, Acts-ignored}
-use Rattle.wap_session.proofs.Turning.{turn_rule, rest_leads, fed_ok, fed_turns}
+use Rattle.wap_session.proofs.Turning.{turn_rule, rest_leads, in_session, played_ok, turns_by}
 use Rattle.wap_session.proofs.Typing.{fits}
 
 -- a session at rest
@@ -50,26 +50,26 @@ module _ (one : Key) (first last : Browser) (standing : Standing) (old : State)
   place_stays : is_some (place_held last) ≡ is_some (place_held first)
   place_stays = ap (λ (browser : Browser). is_some (place_held browser)) began
 
-  acts : (seen : Seen) → Acts (turn_rule (waiting_of standing) one) seen seen first last (Ok did)
+  acts : (seen : Seen) → Acts (turn_rule old.waiting one) seen seen old.browser last (Ok did)
   acts seen =
-      subst (λ (o : Option Waits). Acts (turn_rule o one) seen seen first last (Ok did))
+      in_session one seen seen first last standing standing old refl was (Ok did)
+      (subst (λ (o : Option Waits). Acts (turn_rule o one) seen seen first last (Ok did))
       (sym stands.0)
       (Acts-leads (λ pages keys world. apply (site_of pages) keys world one) (turn_rule None one)
       seen seen last first last (rest_leads one first last budget began same) (Ok did)
       (Acts-ignored (λ pages keys world. apply (site_of pages) keys world one) seen last did refl
       (λ pages over keys. fits one pages keys last
-      (ap (λ has_card. fits_nothing has_card one) place_stays ∙ nothing) over)))
+      (ap (λ has_card. fits_nothing has_card one) place_stays ∙ nothing) over))))
 
   -- it is played, and shows that line
   pub ignored_plays : (seen : Seen) → Plays (one ∷ []) seen seen old (state_of last standing)
       (Ok (refusal_line Ignored ∷ []))
   ignored_plays seen =
-      fed_ok one seen seen first last standing old was stands.1 did (refusal_line Ignored ∷ [])
-      standing refl (record { waiting_is = stands.0; ready = stands.1 }) (acts seen)
+      played_ok one seen seen old (state_of last standing) did (refusal_line Ignored ∷ []) refl
+      stands.0 stands.1 (ap (λ (state : State). state.is_over) (sym was) ∙ stands.1) (acts seen)
 
   -- and leaves the rest to further keys
-  pub ignored_turns : (seen : Seen) → IfOver seen.contents old.browser
+  pub ignored_turns : (seen : Seen) → IfOver seen old.browser
       (λ pages. TurnsTo one pages old (state_of last standing))
   ignored_turns seen =
-      fed_turns one seen seen first last standing old was stands.1 did standing
-      (record { waiting_is = stands.0; ready = stands.1 }) (acts seen)
+      turns_by one seen seen old (state_of last standing) did stands.0 (acts seen)

@@ -1,3 +1,2 @@
 pub mod Noticing
-pub mod Listing
 pub mod NoticeWords

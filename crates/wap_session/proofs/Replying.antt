@@ -8,7 +8,6 @@ use Rattle.wap_value.specs.declared.value.Value.{Value}
 use Rattle.wap_execution.specs.declared.dialog.Dialog.{Dialog}
 use Rattle.wap_execution.specs.laws.Settings.{uncounted}
 use Rattle.wap_execution.specs.laws.Keyed.{gone_on}
-use Rattle.wap_world.specs.site.Pages.{Pages as JudgedPages}
 use Rattle.wap_world.specs.site.Misses.{Asked}
 use Rattle.wap_world.specs.site.Asking.{Seen, Asks}
 use Rattle.wap_world.proofs.SiteLemmas.Asking.{Asks-nil, Stays-same}
@@ -32,8 +31,8 @@ use Rattle.wap_world.proofs.ScriptingLawsLemmas.Replying.{stay_means}
 use Rattle.wap_context.specs.declared.waiting.Step.TheVariants.{Asks as AsksUser}
 use Rattle.wap_context.specs.Browsers.{Browser, Shows}
 use Rattle.wap_context.specs.Pausing.{Paused, waits_of}
-use Rattle.wap_context.specs.Sites.{fragment_call, IfOver}
-use Rattle.wap_context.specs.Acting.{Follows, Acts, answer, stop}
+use Rattle.wap_context.specs.Sites.{fragment_call}
+use Rattle.wap_context.specs.Acting.{Acts, answer, stop}
 use Rattle.wap_session.specs.Feeding.{left_open}
 use Rattle.wap_session.proofs.Turning.{turn_rule}
 
@@ -148,53 +147,35 @@ module _ (pages : Pages) (one : Waits) (key : Key) (w : World)
       ∙ ap (λ (lines : List (List ℕ)). quiet [] (record scene { lines = lines }))
       (append-nil scene.lines)
 
--- a browser after such a key
-passes_follow : (dialog : Dialog) (paused : Paused) (one : Key) (old new : Browser)
-    (lines : List (List ℕ)) → reply_to dialog one ≡ passes
-    → Shows old new lines (λ shelf world. meanwhile shelf one world)
-    → (contents : Option JudgedPages) → IfOver contents old (λ pages.
-    Follows pages (turn_rule (Some (waits_of dialog paused)) one pages) old new
-    (AsksUser lines dialog paused))
-passes_follow dialog paused one old new lines is shows None = tt
-passes_follow dialog paused one old new lines is shows (Some judged) = λ over.
-    let pages = unit_pages judged in
-    let shelf = shelf_of pages in
-    let waits = waits_of dialog paused in
-    let w = old.world in
-    let left = left_so pages waits one w is in
-    let shut = shut_so pages waits one w is in
-    record {
-      leads = shows.world shelf over ∙ sym (ap (λ (s : Step). s.world) left);
-      tells = shows.tells shelf over ∙ sym (ap (λ (s : Step). s.lines) shut);
-      over = shows.over shelf over;
-      asks_user = ap (λ (s : Step). s.is_open) left;
-      on = λ keys. passes_so pages waits one w is keys
-          ∙ sym (ap (λ (s : Step). then_step s
-          (resumed_step fragment_call pages waits keys s.world)) shut);
-    }
-
--- it asked for nothing
-passes_asks : (dialog : Dialog) (paused : Paused) (one : Key) (seen : Seen) (old : Browser)
-    → reply_to dialog one ≡ passes → (contents : Option JudgedPages)
-    → IfOver contents old (λ pages.
-    Asks (turn_rule (Some (waits_of dialog paused)) one pages [] old.world).asked seen seen)
-passes_asks dialog paused one seen old is None = tt
-passes_asks dialog paused one seen old is (Some judged) = λ over.
-    subst (λ (asked : List Asked). Asks asked seen seen)
-    (sym (ap (λ (s : Step). s.asked)
-    (left_so (unit_pages judged) (waits_of dialog paused) one old.world is)))
-    (Asks-nil seen)
-
+-- a browser after such a key, which asked for nothing
 pub passes_act : (dialog : Dialog) (paused : Paused) (one : Key) (seen : Seen)
     (old new : Browser) (lines : List (List ℕ)) → reply_to dialog one ≡ passes
     → Shows old new lines (λ shelf world. meanwhile shelf one world)
     → Acts (turn_rule (Some (waits_of dialog paused)) one) seen seen old new
     (Ok (AsksUser lines dialog paused))
-passes_act dialog paused one seen old new lines is shows = record {
-  follows = passes_follow dialog paused one old new lines is shows seen.contents;
-  asks = passes_asks dialog paused one seen old is seen.contents;
-  steady = refl;
-  failed = λ e. absurd cc;
-  missed = λ e. absurd cc;
-  stays = Stays-same seen;
-}
+passes_act dialog paused one seen old new lines is shows =
+    let waits = waits_of dialog paused in
+    let w = old.world in
+    record {
+      follows = λ judged may over.
+          let pages = unit_pages judged in
+          let shelf = shelf_of pages in
+          let left = left_so pages waits one w is in
+          let shut = shut_so pages waits one w is in
+          record {
+            leads = shows.world shelf over ∙ sym (ap (λ (s : Step). s.world) left);
+            tells = shows.tells shelf over ∙ sym (ap (λ (s : Step). s.lines) shut);
+            over = shows.over shelf over;
+            asks_user = ap (λ (s : Step). s.is_open) left;
+            on = λ keys. passes_so pages waits one w is keys
+                ∙ sym (ap (λ (s : Step). then_step s
+                (resumed_step fragment_call pages waits keys s.world)) shut);
+          };
+      asks = λ judged may over. subst (λ (asked : List Asked). Asks asked seen seen)
+          (sym (ap (λ (s : Step). s.asked) (left_so (unit_pages judged) waits one w is)))
+          (Asks-nil seen);
+      steady = refl;
+      failed = λ e. absurd cc;
+      missed = λ e. absurd cc;
+      stays = Stays-same seen;
+    }

@@ -1,12 +1,11 @@
 -- Calls of a context, and of what is built on one, by their rules.
-use Rattle.std.proofs.Common.{◌≡◌, ℕ, List, [], ◌∷◌, ◌++◌, Option, Some, None, Result}
+use Rattle.std.proofs.Common.{◌≡◌, ℕ, List, [], ◌∷◌, ◌++◌, Option, Result}
 use Rattle.std.proofs.Common.{Ok, Err, refl, sym, ap, subst, ◌∙◌}
 use Rattle.std.specs.Prelude.{IsErrAnd, is_some}
 use Rattle.std.proofs.lemmas.Result.{err_from_is_err_and}
 use Rattle.wap_base.specs.declared.fault.RunErr.{RunErr}
 use Rattle.wap_base.specs.declared.fault.RunErr.TheVariants as run
 use Rattle.wap_base.specs.declared.key.Key.{Key}
-use Rattle.wap_world.specs.site.Pages.{Pages as JudgedPages}
 use Rattle.wap_world.specs.site.Misses.{Asked}
 use Rattle.wap_world.specs.site.Asking.{Seen, Stays, Asks}
 use Rattle.wap_world.proofs.SiteLemmas.Asking.{Asks-nil, Stays-same}
@@ -46,16 +45,6 @@ LeadsTo lines one other mid old = (pages : Pages) → IsOver (shelf_of pages) ol
     → IsOver (shelf_of pages) mid × ((keys : List Key) → other pages keys old.world
     ≡ then_step (first_lines lines mid.world) (one pages keys mid.world))
 
--- a fact over the pages of one browser from one over those of another
-over_by : (contents : Option JudgedPages) (mid old : Browser) (P Q : Pages → Type 0)
-    → ((pages : Pages) → IsOver (shelf_of pages) old
-    → IsOver (shelf_of pages) mid × (P pages → Q pages))
-    → IfOver contents mid P → IfOver contents old Q
-over_by None mid old P Q by so = tt
-over_by (Some judged) mid old P Q by so =
-    let pages = unit_pages judged in
-    λ is. (by pages is).1 (so (by pages is).0)
-
 module _ (lines : List (List ℕ)) (one other : Rule) (before after : Seen)
     (mid old new : Browser) (leads : LeadsTo lines one other mid old) where
   -- what was done is the same but for these lines
@@ -84,51 +73,23 @@ module _ (lines : List (List ℕ)) (one other : Rule) (before after : Seen)
             behind.waiting_is);
       }
 
-  -- over pages that may be known
-  follows_by : (did further : Did) → IsBehind lines did further
-      → (contents : Option JudgedPages)
-      → IfOver contents mid (λ pages. Follows pages (one pages) mid new did)
-      → IfOver contents old (λ pages. Follows pages (other pages) old new further)
-  follows_by did further behind contents so =
-      over_by contents mid old (λ pages. Follows pages (one pages) mid new did)
-      (λ pages. Follows pages (other pages) old new further)
-      (λ pages is. (
-        (leads pages is).0,
-        follows_one pages did further behind (leads pages is).1,
-      )) so
-
-  -- the same pages were asked for
-  asks_by : (contents : Option JudgedPages)
-      → IfOver contents mid (λ pages. Asks (one pages [] mid.world).asked before after)
-      → IfOver contents old (λ pages. Asks (other pages [] old.world).asked before after)
-  asks_by contents so =
-      over_by contents mid old (λ pages. Asks (one pages [] mid.world).asked before after)
-      (λ pages. Asks (other pages [] old.world).asked before after)
-      (λ pages is. (
-        (leads pages is).0,
-        subst (λ (asked : List Asked). Asks asked before after)
-            (sym (ap (λ (s : Step). s.asked) ((leads pages is).1 []))),
-      )) so
-
-  -- until the store failed at one
-  missed_by : (contents : Option JudgedPages)
-      → IfOver contents mid (λ pages. Missed (one pages [] mid.world).asked before after)
-      → IfOver contents old (λ pages. Missed (other pages [] old.world).asked before after)
-  missed_by contents so =
-      over_by contents mid old (λ pages. Missed (one pages [] mid.world).asked before after)
-      (λ pages. Missed (other pages [] old.world).asked before after)
-      (λ pages is. (
-        (leads pages is).0,
-        subst (λ (asked : List Asked). Missed asked before after)
-            (sym (ap (λ (s : Step). s.asked) ((leads pages is).1 []))),
-      )) so
+  -- a fact of the pages that were asked for
+  asked_by : (Fact : List Asked → Type 0)
+      → IfOver after mid (λ pages. Fact (one pages [] mid.world).asked)
+      → IfOver after old (λ pages. Fact (other pages [] old.world).asked)
+  asked_by Fact so judged may is =
+      let led = leads (unit_pages judged) is in
+      subst Fact (sym (ap (λ (s : Step). s.asked) (led.1 []))) (so judged may led.0)
 
   -- a call that did something
   pub Acts-ok : (did further : Did) → IsBehind lines did further
       → Acts one before after mid new (Ok did) → Acts other before after old new (Ok further)
   Acts-ok did further behind so = record {
-    follows = follows_by did further behind before.contents so.follows;
-    asks = asks_by before.contents so.asks;
+    follows = λ judged may is.
+        let pages = unit_pages judged in
+        let led = leads pages is in
+        follows_one pages did further behind led.1 (so.follows judged may led.0);
+    asks = asked_by (λ asked. Asks asked before after) so.asks;
     steady = so.steady;
     failed = λ is. absurd cc;
     missed = λ is. absurd cc;
@@ -143,7 +104,7 @@ module _ (lines : List (List ℕ)) (one other : Rule) (before after : Seen)
     asks = tt;
     steady = tt;
     failed = so.failed;
-    missed = λ is. missed_by before.contents (so.missed is);
+    missed = λ is. asked_by (λ asked. Missed asked before after) (so.missed is);
     stays = so.stays;
   }
 
@@ -186,35 +147,20 @@ Acts-wants rule before after old new result stays wants =
 
 -- ---- a call that asks for no pages
 
--- it leaves keys as they are
-shows_follow : (scene : Shelf → World → Scene) (old new : Browser) (lines : List (List ℕ))
-    → Shows old new lines scene → (contents : Option JudgedPages)
-    → IfOver contents old (λ pages. Follows pages
-    (λ keys world. quiet keys (scene (shelf_of pages) world)) old new (Settled lines))
-shows_follow scene old new lines shows None = tt
-shows_follow scene old new lines shows (Some judged) = λ is.
-    let shelf = shelf_of (unit_pages judged) in
-    record {
-      leads = shows.world shelf is;
-      tells = shows.tells shelf is;
-      over = shows.over shelf is;
-      asks_user = refl;
-      on = λ keys. sym (joined_nothing (quiet [] (scene shelf old.world)) keys);
-    }
-
--- and so it asks for none
-asks_none : (seen : Seen) (browser : Browser) (contents : Option JudgedPages)
-    → IfOver contents browser (λ pages. Asks [] seen seen)
-asks_none seen browser None = tt
-asks_none seen browser (Some judged) = λ is. Asks-nil seen
-
+-- it leaves keys as they are, and asks for none
 pub Acts-shows : (scene : Shelf → World → Scene) (seen : Seen) (old new : Browser)
     (lines : List (List ℕ)) → Shows old new lines scene
     → Acts (λ pages keys world. quiet keys (scene (shelf_of pages) world)) seen seen old new
     (Ok (Settled lines))
 Acts-shows scene seen old new lines shows = record {
-  follows = shows_follow scene old new lines shows seen.contents;
-  asks = asks_none seen old seen.contents;
+  follows = λ judged may is. let shelf = shelf_of (unit_pages judged) in record {
+    leads = shows.world shelf is;
+    tells = shows.tells shelf is;
+    over = shows.over shelf is;
+    asks_user = refl;
+    on = λ keys. sym (joined_nothing (quiet [] (scene shelf old.world)) keys);
+  };
+  asks = λ judged may is. Asks-nil seen;
   steady = refl;
   failed = λ is. absurd cc;
   missed = λ is. absurd cc;

@@ -53,8 +53,11 @@ abbrev pub between : State → Between
 between state = record { world = state.browser.world; waiting = state.waiting }
 
 -- what keys come to in a session over these pages
+abbrev pub steps_in : State → Pages → List Key → Step
+steps_in state pages keys = played_from fragment_call pages (between state) keys
+
 abbrev pub step_of : Pages → List Key → State → Step
-step_of pages keys state = played_from fragment_call pages (between state) keys
+step_of pages keys state = steps_in state pages keys
 
 -- the lines that they show
 abbrev pub shown_of : Pages → List Key → State → List (List ℕ)
@@ -64,12 +67,50 @@ shown_of pages keys state = shown_by (step_of pages keys state)
 abbrev pub left_open : Step → Step
 left_open step = record step { is_open = false }
 
--- ---- what is played
+-- ---- what is played, in a session as in a handset: what keys come to, before and after
+
+-- what further keys come to after these keys is what they come to then
+abbrev pub GoesOn : List Key → (old new : List Key → Step) → Type 0
+GoesOn keys old new = (others : List Key)
+    → old (keys ++ others) ≡ then_step (left_open (old keys)) (new others)
+
+-- the lines of keys, and then what any further keys show, are what the keys and these show
+abbrev pub TellsOn : List Key → (old new : List Key → Step) → List (List ℕ) → Type 0
+TellsOn keys old new lines = (others : List Key)
+    → lines ++ shown_by (new others) ≡ shown_by (old (keys ++ others))
+
+-- the store failed at a page of the last of these first keys, and those before it were played
+pub record MissesAt (keys : List Key) (old : List Key → Step) (before after : Seen) : Type 0 where
+  pub first : List Key
+  pub others : List Key
+  pub split : keys ≡ first ++ others
+  pub missed : Missed (old first).asked before after
+
+-- keys that are played: where lines lead and what the keys come to, both over pages; the pages
+-- before and after; the browser, whether it was over and whether it is; and the answer
+pub record Played (Leads : Pages → List (List ℕ) → Type 0) (step : Pages → Step)
+    (before after : Seen) (browser : Browser) (was_over is_over : Bool)
+    (result : Result (List (List ℕ)) SessionFault) : Type 0 where
+  -- the lines and what is new are those of the step
+  pub leads : IfOk result (λ lines. IfOver after browser (λ pages. Leads pages lines))
+  -- the step's pages were asked for, in order
+  pub asks : OnOk result (IfOver after browser (λ pages. Asks (step pages).asked before after))
+  pub steady : OnOk result (after.faults ≡ before.faults)
+  -- the store failed
+  pub failed : result ≡ Err Store → Rose before.faults after.faults
+  -- exactly what is over gives no more lines, and it asks for nothing
+  pub ended : was_over ≡ true → (result ≡ Err Ended) × (after ≡ before)
+  pub goes_on : was_over ≡ false → IfErr result (λ fault. fault ≢ Ended)
+  pub ready : OnOk result (is_over ≡ false)
+  pub over : OnErr result (is_over ≡ true)
+  -- however it ends
+  pub stays : Stays before after
+
+-- ---- in a session
 
 -- what further keys come to after these keys is what they come to in the new session
 abbrev pub PlaysOn : List Key → Pages → State → State → Type 0
-PlaysOn keys pages old new = (others : List Key) → step_of pages (keys ++ others) old
-    ≡ then_step (left_open (step_of pages keys old)) (step_of pages others new)
+PlaysOn keys pages old new = GoesOn keys (steps_in old pages) (steps_in new pages)
 
 -- a key did what its step says without further keys, and left the rest to these: they answer the
 -- dialog that waits now, and are played after it, whatever else they may do there
@@ -92,34 +133,16 @@ pub record Leads (keys : List Key) (pages : Pages) (old new : State) (lines : Li
     pub on : PlaysOn keys pages old new
 
 -- keys that are played: pages before and after, the session before and after, and the answer
-pub record Plays (keys : List Key) (before after : Seen) (old new : State)
-    (result : Result (List (List ℕ)) SessionFault) : Type 0 where
-  -- the lines and the new session are those of the keys' step
-  pub leads : IfOk result (λ lines. IfOver before.contents old.browser
-      (λ pages. Leads keys pages old new lines))
-  -- the step's pages were asked for, in order
-  pub asks : OnOk result (IfOver before.contents old.browser
-      (λ pages. Asks (step_of pages keys old).asked before after))
-  pub steady : OnOk result (after.faults ≡ before.faults)
-  -- the store failed
-  pub failed : result ≡ Err Store → Rose before.faults after.faults
-  -- exactly a session that is over gives no more lines, and it asks for nothing
-  pub ended : old.is_over ≡ true → (result ≡ Err Ended) × (after ≡ before)
-  pub goes_on : old.is_over ≡ false → IfErr result (λ fault. fault ≢ Ended)
-  pub ready : OnOk result (new.is_over ≡ false)
-  pub over : OnErr result (new.is_over ≡ true)
-  -- however it ends
-  pub stays : Stays before after
+abbrev pub Plays : List Key → (before after : Seen) → (old new : State)
+    → Result (List (List ℕ)) SessionFault → Type 0
+Plays keys before after old new =
+    Played (λ pages lines. Leads keys pages old new lines) (λ pages. step_of pages keys old) before
+    after old.browser old.is_over new.is_over
 
--- the store failed at a page of the last of these first keys, and those before it were played
-pub record MissedAt (keys : List Key) (pages : Pages) (old : State) (before after : Seen) : Type 0
-  where
-    pub first : List Key
-    pub others : List Key
-    pub split : keys ≡ first ++ others
-    pub missed : Missed (step_of pages first old).asked before after
+-- the store failed at a page of one of the keys
+abbrev pub MissedAt : List Key → Pages → State → (before after : Seen) → Type 0
+MissedAt keys pages old = MissesAt keys (steps_in old pages)
 
 -- the lines of keys, and then what any further keys show, are what the keys and these show
 abbrev pub ShowsOn : List Key → Pages → State → State → List (List ℕ) → Type 0
-ShowsOn keys pages old new lines = (others : List Key)
-    → lines ++ shown_of pages others new ≡ shown_of pages (keys ++ others) old
+ShowsOn keys pages old new = TellsOn keys (steps_in old pages) (steps_in new pages)

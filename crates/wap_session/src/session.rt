@@ -87,7 +87,7 @@ impl Session {
         ensures plays { result ≡ true → (seen : Seen) → Plays (key.now ∷ []) seen seen
             self.old self.new (Ok (refusal_line Ignored ∷ [])) }
         ensures turns { result ≡ true → (seen : Seen)
-            → IfOver seen.contents self.old.browser (λ of. TurnsTo key.now of self.old self.new) }
+            → IfOver seen self.old.browser (λ of. TurnsTo key.now of self.old self.new) }
         ensures outside { result ≡ true → self.old.waiting ≡ None }
         ensures ready { result ≡ true → self.new.is_over ≡ false }
         ensures kept { result ≡ false → self.new ≡ self.old }
@@ -116,13 +116,13 @@ impl Session {
         ensures plays { Plays (key.now ∷ []) (P.seen pages.old) (P.seen pages.new)
             self.old self.new result }
         ensures missed { IsErrOf result SessionFault.Store
-            → IfOver (P.seen pages.old).contents self.old.browser (λ of.
+            → IfOver (P.seen pages.new) self.old.browser (λ of.
             Missed (step_of of (key.now ∷ []) self.old).asked
             (P.seen pages.old) (P.seen pages.new)) }
         ensures shown { IfOk result (λ lines.
-            IfOver (P.seen pages.old).contents self.old.browser (λ of.
+            IfOver (P.seen pages.new) self.old.browser (λ of.
             ShowsOn (key.now ∷ []) of self.old self.new lines)) }
-        ensures turns { OnOk result (IfOver (P.seen pages.old).contents self.old.browser (λ of.
+        ensures turns { OnOk result (IfOver (P.seen pages.new) self.old.browser (λ of.
             TurnsTo key.now of self.old self.new)) }
     {
         if self.is_over() {
@@ -165,10 +165,10 @@ impl Session {
         ensures plays { Plays keys.now (P.seen pages.old) (P.seen pages.new)
             self.old self.new result }
         ensures missed { IsErrOf result SessionFault.Store
-            → IfOver (P.seen pages.old).contents self.old.browser (λ of.
+            → IfOver (P.seen pages.new) self.old.browser (λ of.
             MissedAt keys.now of self.old (P.seen pages.old) (P.seen pages.new)) }
         ensures shown { IfOk result (λ lines.
-            IfOver (P.seen pages.old).contents self.old.browser (λ of.
+            IfOver (P.seen pages.new) self.old.browser (λ of.
             ShowsOn keys.now of self.old self.new lines)) }
     {
         if self.is_over() {

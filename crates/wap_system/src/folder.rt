@@ -1,14 +1,13 @@
 //! A folder of files as a store of pages.
 ghost use Rattle.std.specs.Prelude.{◌≡◌, ◌≤◌, ◌↔◌, IsTrue, IfOk, is_err};
-ghost use Rattle.std.specs.Prelude.{if◌then◌else◌, encode_utf8_all};
+ghost use Rattle.std.specs.Prelude.{if◌then◌else◌, encode_utf8_all, []};
 ghost use Rattle.std.specs.IoError.{error_kind};
 ghost use Rattle.wap_system.specs.Inside.{IsFileName, IsInside, IsFoundInside};
 ghost use Rattle.wap_system.specs.Missing.{tells_nothing, fault_of, there};
 ghost use Rattle.wap_base.specs.Count.{raised};
 ghost use Rattle.wap_base.specs.Texts.{AreAscending};
 ghost use Rattle.wap_devices.specs.Pages.{IsSmall};
-ghost use Rattle.wap_devices.specs.Stores.{Fetches, Lists};
-ghost use Rattle.wap_system.specs.Adapters.{seen_of_folder};
+ghost use Rattle.wap_devices.specs.Stores.{Fetches, Lists, Told};
 
 use std::alloc::{AllocError, Global};
 use std::io::{ErrorKind, Read};
@@ -17,7 +16,7 @@ use std::path::Path;
 use std::rt::Files;
 use std::{fs, io};
 use wap_base::{Bytes, Text, are_ascending};
-use wap_devices::{Fetched, PAGE_LIMIT, Store, StoreErr};
+use wap_devices::{Fetched, History, Log, PAGE_LIMIT, Store, StoreErr};
 
 /// The deepest level of a folder below the store's own, whose folders have level 1.
 const DEEPEST: u32 = 64;
@@ -29,23 +28,27 @@ const PIECE: usize = 4096;
 ///
 /// Below the folder a symbolic link to a file counts as that file, and one to a folder as nothing,
 /// so that a walk through the folder ends. Where the folder itself isn't there, or isn't one, each
-/// call fails but for the pages of names that no file can have. It tells no contents, since files
-/// may change at any time.
+/// call fails but for the pages of names that no file can have. Files may change at any time, so it
+/// keeps what it answered, which clauses alone see.
 #[derive(Drop)]
 pub struct FolderStore<R> {
     rt: R,
     folder: String,
+    answers: Log<Text, Fetched>,
+    lists: History<Vec<Text>>,
     faults: u64,
     fetches: u64,
     listings: u64,
 }
 
 impl<R> Model for FolderStore<R> {
-    ghost use Rattle.wap_system.specs.Adapters.{FolderState};
+    ghost use Rattle.std.specs.Prelude.{map};
+    ghost use Rattle.wap_devices.specs.Stores.{StoreSeen, Told};
 
-    ghost Value = { FolderState };
+    ghost Value = { StoreSeen };
 
     ghost view = { λ store. record {
+      known = Told store.answers.items (map (λ names. names.items) store.lists.items);
       faults = store.faults;
       fetches = store.fetches;
       listings = store.listings;
@@ -55,11 +58,14 @@ impl<R> Model for FolderStore<R> {
 impl<R> FolderStore<R> {
     /// The store of a folder, which is looked at only when pages are asked for.
     pub fn new(rt: R, folder: String) -> FolderStore<R>
-        ensures { result ≡ record { faults = 0; fetches = 0; listings = 0 } }
+        ensures { result
+            ≡ record { known = Told [] []; faults = 0; fetches = 0; listings = 0 } }
     {
         FolderStore {
             rt,
             folder,
+            answers: Log::new(),
+            lists: History::new(),
             faults: 0,
             fetches: 0,
             listings: 0,
@@ -73,6 +79,7 @@ impl<R> FolderStore<R> {
         ensures ordered { self.old.faults ≤ self.new.faults }
         ensures fetches { self.new.fetches ≡ self.old.fetches }
         ensures listings { self.new.listings ≡ self.old.listings }
+        ensures known { self.new.known ≡ self.old.known }
     {
         if failed {
             self.faults = self.faults.saturating_add(1);
@@ -81,11 +88,10 @@ impl<R> FolderStore<R> {
 }
 
 impl<R: Files + AllocGlobal + Clone + Drop> Store for FolderStore<R> {
-    ghost seen = { λ store. seen_of_folder store };
+    ghost seen = { λ store. store };
 
     fn fetch(&mut self, name: &Text) -> Result<Fetched, StoreErr>
-        ensures fetches { Fetches name.now (seen_of_folder self.old) (seen_of_folder self.new)
-            result }
+        ensures fetches { Fetches name.now self.old self.new result }
         // No step of a name leads out of the folder; a link to a file may.
         ensures inside { IfOk result (IsFoundInside (encode_utf8_all name.now)) }
         ensures outside { ¬ IsInside (encode_utf8_all name.now) → result ≡ Ok Fetched.Missing }
@@ -95,18 +101,23 @@ impl<R: Files + AllocGlobal + Clone + Drop> Store for FolderStore<R> {
         self.fetches = self.fetches.saturating_add(1);
         let answer = page(&self.rt, self.folder.as_str(), name.as_str());
         self.count(answer.is_err());
+        if let Ok(found) = &answer {
+            self.answers = self.answers.and(name, found);
+        }
         answer
     }
 
     fn list(&mut self) -> Result<Vec<Text>, StoreErr>
-        ensures lists { Lists (λ names. names.items) (seen_of_folder self.old)
-            (seen_of_folder self.new) result }
+        ensures lists { Lists (λ names. names.items) self.old self.new result }
         ensures faults { self.new.faults
             ≡ (if is_err result then raised self.old.faults else self.old.faults) }
     {
         self.listings = self.listings.saturating_add(1);
         let answer = names(&self.rt, self.folder.as_str());
         self.count(answer.is_err());
+        if let Ok(names) = &answer {
+            self.lists = self.lists.and(names);
+        }
         answer
     }
 }

@@ -1,5 +1,5 @@
 //! Standard input as a source of key lines.
-ghost use Rattle.std.specs.Prelude.{◌≡◌, ◌<◌, length, Ok, is_err, if◌then◌else◌};
+ghost use Rattle.std.specs.Prelude.{◌≡◌, ◌<◌, [], length, Ok, is_err, if◌then◌else◌};
 ghost use Rattle.std.specs.Io.KnownBytes.{ReadConsumes};
 ghost use Rattle.wap_base.specs.Count.{raised};
 ghost use Rattle.wap_devices.specs.Sources.{Reads, ends_after};
@@ -7,17 +7,17 @@ ghost use Rattle.wap_system.specs.Adapters.{seen_of_reader};
 
 use std::io::Read;
 use std::marker::Model;
-use wap_devices::{Failed, Source};
+use wap_devices::{Failed, History, Source};
 
 /// The most bytes that one read takes.
 const PIECE: usize = 4096;
 
-/// Standard input, or what else is read. It tells no bytes, since they come from outside. A call
+/// Standard input, or what else is read. It keeps what it gave, which clauses alone see. A call
 /// that a signal interrupts has failed.
 #[derive(Drop)]
 pub struct StdinSource<I> {
     reader: I,
-    given: u64,
+    given: History<u8>,
     reads: u64,
     ends: u64,
     faults: u64,
@@ -30,7 +30,7 @@ impl<I> Model for StdinSource<I> {
 
     ghost view = { λ source. record {
       reader = source.reader;
-      given = source.given;
+      given = source.given.items;
       reads = source.reads;
       ends = source.ends;
       faults = source.faults;
@@ -41,11 +41,11 @@ impl<I> StdinSource<I> {
     /// The source of the bytes that the reader still has.
     pub fn new(reader: I) -> StdinSource<I>
         ensures { result
-            ≡ record { reader = reader; given = 0; reads = 0; ends = 0; faults = 0 } }
+            ≡ record { reader = reader; given = []; reads = 0; ends = 0; faults = 0 } }
     {
         StdinSource {
             reader,
-            given: 0,
+            given: History::new(),
             reads: 0,
             ends: 0,
             faults: 0,
@@ -84,7 +84,7 @@ impl<I: Read> Source for StdinSource<I> {
         match self.reader.read(&mut piece[..room]) {
             Ok(count) => {
                 buffer[..count].copy_from_slice(&piece[..count]);
-                self.given = self.given.saturating_add(count as u64);
+                self.given = self.given.and_all(&piece[..count]);
                 self.ends = ends_after(self.ends, count);
                 Ok(count)
             }

@@ -1,5 +1,5 @@
 //! Standard output as a sink of what is shown.
-ghost use Rattle.std.specs.Prelude.{◌≡◌};
+ghost use Rattle.std.specs.Prelude.{◌≡◌, []};
 ghost use Rattle.std.specs.Io.KnownBytes.{WriteAppends};
 ghost use Rattle.wap_devices.specs.Sinks.{Writes};
 ghost use Rattle.wap_system.specs.Adapters.{seen_of_writer};
@@ -7,13 +7,14 @@ ghost use Rattle.wap_system.specs.Writes.{faults_after};
 
 use std::io::Write;
 use std::marker::Model;
-use wap_devices::{Failed, Sink};
+use wap_devices::{Failed, History, Sink};
 
-/// Standard output, or what else is written to. It tells no bytes, since they leave the program. A
+/// Standard output, or what else is written to. It keeps what it took, which clauses alone see. A
 /// call that a signal interrupts has failed.
 #[derive(Drop)]
 pub struct StdoutSink<O> {
     writer: O,
+    taken: History<u8>,
     writes: u64,
     faults: u64,
 }
@@ -24,16 +25,22 @@ impl<O> Model for StdoutSink<O> {
     ghost Value = { WriterState O };
 
     ghost view = { λ sink.
-        record { writer = sink.writer; writes = sink.writes; faults = sink.faults } };
+        record {
+          writer = sink.writer;
+          taken = sink.taken.items;
+          writes = sink.writes;
+          faults = sink.faults;
+        } };
 }
 
 impl<O> StdoutSink<O> {
     /// The sink of the bytes that the writer takes.
     pub fn new(writer: O) -> StdoutSink<O>
-        ensures { result ≡ record { writer = writer; writes = 0; faults = 0 } }
+        ensures { result ≡ record { writer = writer; taken = []; writes = 0; faults = 0 } }
     {
         StdoutSink {
             writer,
+            taken: History::new(),
             writes: 0,
             faults: 0,
         }
@@ -57,6 +64,7 @@ impl<O: Write> Sink for StdoutSink<O> {
                 if count == 0 && !piece.is_empty() {
                     self.faults = self.faults.saturating_add(1);
                 }
+                self.taken = self.taken.and_all(&piece[..count]);
                 Ok(count)
             }
             Err(_) => {

@@ -1,9 +1,9 @@
 -- How a session comes to its end.
 use Rattle.std.proofs.Common.{◌≡◌, ◌≢◌, ℕ, ◌≤◌, List, [], ◌∷◌, ◌++◌, Option, Some, None}
 use Rattle.std.proofs.Common.{length, refl, sym, ap, subst, ◌∙◌, inl, inr, arith}
-use Rattle.std.specs.Prelude.{Bool, true, false, is_some, IfSome, Ok}
+use Rattle.std.specs.Prelude.{Bool, true, false, is_some, Ok}
 use Rattle.wap_base.specs.Count.{Rose}
-use Rattle.wap_devices.specs.Sources.{SourceSeen}
+use Rattle.wap_devices.specs.Sources.{SourceSeen, MayGive}
 use Rattle.wap_devices.specs.Sinks.{SinkSeen}
 use Rattle.wap_devices.proofs.Transfers.{Appends-nil}
 use Rattle.wap_base.specs.declared.key.Key.{Key}
@@ -13,16 +13,16 @@ use Rattle.wap_keys.specs.declared.ending.Next.TheVariants as next
 use Rattle.wap_keys.specs.Lines.{Keys, keys_of}
 use Rattle.wap_keys.specs.Read.{AreFirst, IsAtLast, HasGiven, IsRead}
 use Rattle.wap_keys.specs.KeyReaders.{Reading, Answers, GivesUp, CountsFaults}
+use Rattle.wap_keys.proofs.GivingLaws.{may_split, none_to_come}
 use Rattle.wap_keys.proofs.ReaderLaws.{begun as nothing_read, given_of, gives_up_at_once}
-use Rattle.wap_keys.proofs.WholeLaws.{known_of, few_of, some_rest, none_left}
+use Rattle.wap_keys.proofs.WholeLaws.{known_of, few_of}
 use Rattle.wap_keys.proofs.FaultLaws.{ended_counts}
 use Rattle.wap_world.specs.site.Pages.{Pages as JudgedPages}
-use Rattle.wap_world.specs.site.Asking.{Stays}
-use Rattle.wap_world.proofs.SiteLemmas.Asking.{Stays-same, Stays-then}
+use Rattle.wap_world.specs.site.Asking.{MayBe, Stays}
+use Rattle.wap_world.proofs.SiteLemmas.Asking.{Stays-same, Stays-then, Stays-may}
 use Rattle.wap_world.specs.Steps.{Step, then_step}
 use Rattle.wap_world.specs.scripting.UnitSites.{unit_pages}
 use Rattle.wap_world.specs.scripting.Waiting.{Waits}
-use Rattle.wap_context.specs.Missing.{Missed}
 use Rattle.wap_session.specs.Feeding.{left_open}
 use Rattle.wap_session.specs.handset.Feeding.{State, step_of}
 use Rattle.wap_cli.specs.declared.status.Status.{Status}
@@ -34,15 +34,13 @@ use Rattle.wap_cli.specs.browse.Plays.{Play}
 use Rattle.wap_cli.specs.browse.Handling.{bytes_of, IsPlayed}
 use Rattle.wap_cli.specs.browse.Endings.{ended}
 use Rattle.wap_cli.specs.browse.Resting.{StandsAfter, Rests}
-use Rattle.wap_cli.specs.browse.inside.Played.{Moment, LeadsPart, Stops}
-use Rattle.wap_cli.specs.browse.Standing.{Moved, moved_of, outside_of, Stands}
+use Rattle.wap_cli.specs.browse.inside.Played.{Moment, Stops}
+use Rattle.wap_cli.specs.browse.Standing.{Moved, moved_of, outside_of}
 use Rattle.wap_cli.specs.browse.inside.Ends.{EndsSo, ShowsTo, EndsAt, Written, Gives, IsOfLine}
 use Rattle.wap_cli.specs.browse.inside.Ends.{StoreMoves, ReadMoves, WriteMoves, BrowsesTo}
-use Rattle.wap_cli.proofs.BrowseLemmas.Optional.{if_some, some_fact}
 use Rattle.wap_cli.proofs.BrowseLemmas.Stepping.{open_there, world_there}
 use Rattle.wap_cli.proofs.BrowseLemmas.Going.{moment_of, played_to, Nears, Comes, comes_next}
 use Rattle.wap_cli.proofs.BrowseLemmas.Going.{Reaches}
-use Rattle.wap_cli.proofs.BrowseLemmas.Going.{step_known}
 use Rattle.wap_cli.proofs.BrowseLemmas.Stopped.{prefix_played, read_runs_out, prefix_unwritten}
 use Rattle.wap_cli.proofs.BrowseLemmas.Stopped.{wrote_before}
 use Rattle.wap_cli.proofs.BrowseLemmas.Stopped.{missed_there, prefix_part, wrote_part, asked_there}
@@ -51,68 +49,51 @@ use Rattle.wap_cli.proofs.BrowseLemmas.Stopped.{missed_there, prefix_part, wrote
 rose_from : (before now after : ℕ) → now ≡ before → Rose now after → Rose before after
 rose_from before now after is rose = subst (λ (count : ℕ). Rose count after) is rose
 
--- ---- where bytes and pages are known
+-- ---- for any bytes and pages that there may be
 
--- what was given of known bytes, how they end, and what was written over known pages
+-- what was given of the bytes, how they end, and what was written over the pages
 gives_by : (play : Play) (old new : Outside) (status : Status) (taken : List ℕ) (given : List Key)
     → HasGiven old.source new.source taken given
-    → ((bytes rest : List ℕ) → old.source.left ≡ Some bytes → new.source.left ≡ Some rest
-    → EndsSo status old.source new.source bytes taken rest given)
-    → ((judged : JudgedPages) (bytes : List ℕ) → old.pages.contents ≡ Some judged
+    → ((bytes : List ℕ) (may : MayGive old.source new.source bytes)
+    → EndsSo status old.source new.source bytes taken may.rest given)
+    → ((judged : JudgedPages) (bytes : List ℕ) → MayBe new.pages judged
     → AreFirst given (keys_of bytes).keys
     → Written status (play (unit_pages judged)) bytes given old new)
-    → IfSome old.source.left (λ bytes. Gives play bytes old new status)
-gives_by play old new status taken given has ends written = if_some old.source.left
-    (λ bytes. Gives play bytes old new status)
-    (λ bytes known.
-    let (rest, left, split) =
-    some_rest old.source.left new.source.left bytes taken known has.takes.left in
-    let of_all = some_fact old.source.left (λ bytes. AreFirst given (keys_of bytes).keys)
-    bytes known has.of_all in
-    record {
-      taken = taken;
-      rest = rest;
-      split = split;
-      left_is = left;
-      given = given;
-      first = has.first;
-      prompt = has.prompt;
-      ends = ends bytes rest known left;
-      written = if_some old.pages.contents
-          (λ judged. Written status (play (unit_pages judged)) bytes given old new)
-          (λ judged is. written judged bytes is of_all);
-    })
+    → (bytes : List ℕ) → MayGive old.source new.source bytes → Gives play bytes old new status
+gives_by play old new status taken given has ends written bytes may = record {
+  taken = taken;
+  rest = may.rest;
+  split = may_split old.source new.source taken bytes has.takes may;
+  given_is = has.takes.given;
+  given = given;
+  first = has.first;
+  prompt = has.prompt;
+  ends = ends bytes may;
+  written = λ judged is. written judged bytes is (has.of_all bytes may);
+}
 
 -- ---- the keys came to their end
 
--- the keys of all bytes, unless the source failed
-keys_are : (old new : SourceSeen) (bytes taken : List ℕ) (given : List Key) (ending : Ending)
-    → old.left ≡ Some bytes → IsRead old new taken given ending → ending ≢ way.ReadFault
-    → keys_of bytes ≡ record { keys = given; ending = ending }
-keys_are old new bytes taken given ending known read no_fault =
-    some_fact old.left (λ b. keys_of b ≡ record { keys = given; ending = ending }) bytes known
-    (known_of old new taken given ending read no_fault)
-
 -- how the bytes end
-ends_so : (is_open : Bool) (old new : SourceSeen) (ending : Ending) (bytes taken rest : List ℕ)
-    (given : List Key)
-    → old.left ≡ Some bytes → new.left ≡ Some rest → IsRead old new taken given ending
-    → EndsSo (ended is_open ending) old new bytes taken rest given
-ends_so false old new way.End bytes taken rest given known left read = (
-  none_left new.left rest left read.ends.0.left,
-  keys_are old new bytes taken given way.End known read (λ e. absurd cc),
+ends_so : (is_open : Bool) (old new : SourceSeen) (ending : Ending) (taken : List ℕ)
+    (given : List Key) → IsRead old new taken given ending
+    → (bytes : List ℕ) (may : MayGive old new bytes)
+    → EndsSo (ended is_open ending) old new bytes taken may.rest given
+ends_so false old new way.End taken given read bytes may = (
+  none_to_come old new bytes may read.ends.0.ends,
+  known_of old new taken given way.End read (λ e. absurd cc) bytes may,
 )
-ends_so true old new way.End bytes taken rest given known left read = (
-  none_left new.left rest left read.ends.0.left,
-  keys_are old new bytes taken given way.End known read (λ e. absurd cc),
+ends_so true old new way.End taken given read bytes may = (
+  none_to_come old new bytes may read.ends.0.ends,
+  known_of old new taken given way.End read (λ e. absurd cc) bytes may,
 )
-ends_so is_open old new (way.BadKey line fault) bytes taken rest given known left read =
-    keys_are old new bytes taken given (way.BadKey line fault) known read (λ e. absurd cc)
-ends_so is_open old new way.TooManyKeys bytes taken rest given known left read = (
+ends_so is_open old new (way.BadKey line fault) taken given read bytes may =
+    known_of old new taken given (way.BadKey line fault) read (λ e. absurd cc) bytes may
+ends_so is_open old new way.TooManyKeys taken given read bytes may = (
   read.ends.0,
-  keys_are old new bytes taken given way.TooManyKeys known read (λ e. absurd cc),
+  known_of old new taken given way.TooManyKeys read (λ e. absurd cc) bytes may,
 )
-ends_so is_open old new way.ReadFault bytes taken rest given known left read = read.ends.1
+ends_so is_open old new way.ReadFault taken given read bytes may = read.ends.1
 
 -- however the keys came to their end, all that was given was played
 shows_so : (is_open : Bool) (ending : Ending) (play : List Key → Step) (given : List Key)
@@ -183,14 +164,11 @@ ended_browses play old now reader after state source ending reaches answers coun
     let last : Outside = record now { source = source } in
     let is_open = is_some state.waiting in
     record {
-      known = gives_by play old last (ended is_open ending) taken given read.given
-          (λ bytes rest known left.
-          ends_so is_open old.source source ending bytes taken rest given known left read)
+      reads = gives_by play old last (ended is_open ending) taken given read.given
+          (ends_so is_open old.source source ending taken given read)
           (λ judged bytes is of_all.
           let pages = unit_pages judged in
-          let stands = some_fact old.pages.contents
-          (λ p. Stands (unit_pages p) (play (unit_pages p)) given (moved_of old) (moved_of now)
-          state) judged is reaches.browsed.stands in
+          let stands = reaches.browsed.stands judged is in
           record {
             prefix = prefix_played pages (play pages) given (keys_of bytes).keys (moved_of old)
                 (moved_of now) state stands of_all;
@@ -233,7 +211,8 @@ left_closed step is = λ i. record step { is_open = sym is i }
 pub ended_rests : (play : Play) (old now : Outside) (reader after : Reading) (state : State)
     (source : SourceSeen) (ending : Ending) → Reaches play old now reader state
     → Answers now.source source reader after (next.Ended ending)
-    → ended (is_some state.waiting) ending ≡ Done → Rests play old state
+    → ended (is_some state.waiting) ending ≡ Done
+    → Rests play old (record now { source = source }) state
 ended_rests play old now reader after state source ending reaches answers done =
     let given = reaches.given in
     let (more, read) = answers old.source reaches.taken given reaches.read in
@@ -241,19 +220,11 @@ ended_rests play old now reader after state source ending reaches answers done =
     record {
       waiting = alone;
       ready = reaches.browsed.ready;
-      stands = if_some old.source.left
-          (λ bytes. IfSome old.pages.contents (λ judged. StandsAfter (unit_pages judged)
-          (play (unit_pages judged)) (keys_of bytes).keys state))
-          (λ bytes known. if_some old.pages.contents
-          (λ judged. StandsAfter (unit_pages judged) (play (unit_pages judged))
-          (keys_of bytes).keys state)
-          (λ judged is.
+      stands = λ bytes may judged is.
           let pages = unit_pages judged in
-          let stands = some_fact old.pages.contents
-          (λ p. Stands (unit_pages p) (play (unit_pages p)) given (moved_of old) (moved_of now)
-          state) judged is reaches.browsed.stands in
-          let all = keys_are old.source source bytes (reaches.taken ++ more) given ending known
-          read (λ e. let other = sym at ∙ e in absurd cc) in
+          let stands = reaches.browsed.stands judged is in
+          let all = known_of old.source source (reaches.taken ++ more) given ending read
+          (λ e. let other = sym at ∙ e in absurd cc) bytes may in
           let closed = open_there pages (play pages) given state stands.on
           ∙ ap (λ (waits : Option Waits). is_some waits) alone in
           subst (λ (keys : Keys). StandsAfter pages (play pages) keys.keys state) (sym all)
@@ -265,7 +236,7 @@ ended_rests play old now reader after state source ending reaches answers done =
                 ∙ ap (λ (s : Step). then_step s (step_of pages others state))
                 (left_closed (play pages given) closed);
             unpushed = stands.unpushed;
-          })));
+          });
     }
 
 -- ---- memory ran out as keys were read
@@ -281,12 +252,10 @@ reader_runs_out play old now reader state source reaches gives steady =
     let taken = reaches.taken ++ more in
     let last : Outside = record now { source = source } in
     record {
-      known = gives_by play old last NoMemory taken given has (λ bytes rest known left. tt)
+      reads = gives_by play old last NoMemory taken given has (λ bytes may. tt)
           (λ judged bytes is of_all.
           let pages = unit_pages judged in
-          let stands = some_fact old.pages.contents
-          (λ p. Stands (unit_pages p) (play (unit_pages p)) given (moved_of old) (moved_of now)
-          state) judged is reaches.browsed.stands in
+          let stands = reaches.browsed.stands judged is in
           record {
             prefix = prefix_played pages (play pages) given (keys_of bytes).keys (moved_of old)
                 (moved_of now) state stands of_all;
@@ -330,7 +299,7 @@ module _ (play : Play) (given : List Key) (key : Key) (taken : List ℕ) (old : 
   stopped_by : (status : Status)
       → ((judged : JudgedPages) (bytes : List ℕ)
       → Nears (unit_pages judged) (play (unit_pages judged)) given key (moved_of old) now state
-      → AreFirst given (keys_of bytes).keys → old.pages.contents ≡ Some judged
+      → AreFirst given (keys_of bytes).keys → MayBe new.pages judged
       → Written status (play (unit_pages judged)) bytes given old
       (outside_of (played_to new) source))
       → ((bytes rest : List ℕ) → EndsSo status old.source source bytes taken rest given)
@@ -340,13 +309,11 @@ module _ (play : Play) (given : List Key) (key : Key) (taken : List ℕ) (old : 
       → IsOfLine status → Stays now.pages new.pages → old.sink.faults ≤ new.sink.faults
       → BrowsesTo play old (outside_of (played_to new) source) status
   stopped_by status written ends store read write of_line stays counts = record {
-    known = gives_by play old (outside_of (played_to new) source) status taken given has
-        (λ bytes rest known left. ends bytes rest)
+    reads = gives_by play old (outside_of (played_to new) source) status taken given has
+        (λ bytes may. ends bytes may.rest)
         (λ judged bytes is of_all.
         written judged bytes
-        (some_fact old.pages.contents
-        (λ p. Nears (unit_pages p) (play (unit_pages p)) given key (moved_of old) now state) judged
-        is comes.nears) of_all is);
+        (comes.nears judged (Stays-may now.pages new.pages stays judged is)) of_all is);
     store = store;
     read = read;
     write = write;
@@ -373,10 +340,7 @@ module _ (play : Play) (given : List Key) (key : Key) (taken : List ℕ) (old : 
           wrote = wrote_before pages (play pages) given key (moved_of old) now state nears new.sink
               so.unwritten;
           asked = missed_there pages (play pages) given key (moved_of old) now state nears new
-              (step_known judged (play pages) given key (moved_of old) now state
-              (λ p. Missed (step_of p (key ∷ []) state).asked now.pages new.pages) is comes.stays
-              nears so.missed)
-              so.stays;
+              (so.missed judged is nears.over) so.stays;
         };
         opens = tt;
       })
@@ -387,8 +351,7 @@ module _ (play : Play) (given : List Key) (key : Key) (taken : List ℕ) (old : 
       stopped_by WriteFault
       (λ judged bytes nears first is.
       let pages = unit_pages judged in
-      let leads = step_known judged (play pages) given key (moved_of old) now state
-      (λ p. LeadsPart p key (moment_of now state) new) is comes.stays nears so.leads in
+      let leads = so.leads judged is nears.over in
       record {
         prefix = prefix_part pages (play pages) given key (moved_of old) now state nears
             (keys_of bytes).keys new leads first;
@@ -480,19 +443,19 @@ pub nothing_browses : (play : Play) (old : Outside) → BrowsesTo play old old N
 nothing_browses play old =
     let has = given_of old.source old.source [] [] _ (nothing_read old.source [] refl) in
     record {
-      known = gives_by play old old NoMemory [] [] has (λ bytes rest known left. tt)
+      reads = gives_by play old old NoMemory [] [] has (λ bytes may. tt)
           (λ judged bytes is of_all. record {
             prefix = (
               [],
               bytes_of (play (unit_pages judged) (keys_of bytes).keys),
               refl,
-              Appends-nil old.sink.written,
+              Appends-nil old.sink.taken,
             );
             shows = record {
               count = 0;
               least = omega arith;
               most = omega arith;
-              wrote = Appends-nil old.sink.written;
+              wrote = Appends-nil old.sink.taken;
             };
             opens = tt;
           });

@@ -1,6 +1,6 @@
 -- The first of some keys.
 use Rattle.std.proofs.Common.{◌≡◌, ℕ, suc, ◌+◌, List, [], ◌∷◌, ◌++◌, length, take}
-use Rattle.std.proofs.Common.{Option, refl, sym, ap, ◌∙◌, append_assoc, arith, add-one}
+use Rattle.std.proofs.Common.{refl, sym, ap, ◌∙◌, append_assoc, arith, add-one}
 use Rattle.std.proofs.Math.Seq.{take-length}
 use Rattle.std.proofs.lemmas.List.{append-nil, take_at, length-append}
 use Rattle.wap_devices.specs.Transfer.{Appends, AppendsPrefix}
@@ -55,7 +55,7 @@ module _ (play : List Key → Step) (given : List Key) where
 -- ---- bytes
 
 -- a prefix of some bytes is one of these and more
-pub prefix_more : (before after : Option (List ℕ)) (bytes more all : List ℕ)
+pub prefix_more : (before after bytes more all : List ℕ)
     → all ≡ bytes ++ more → AppendsPrefix before after bytes → AppendsPrefix before after all
 prefix_more before after bytes more all is (prefix, rest, split, wrote) = (
   prefix,
@@ -65,6 +65,6 @@ prefix_more before after bytes more all is (prefix, rest, split, wrote) = (
 )
 
 -- all bytes are a prefix of themselves
-pub prefix_whole : (before after : Option (List ℕ)) (bytes : List ℕ)
+pub prefix_whole : (before after bytes : List ℕ)
     → Appends before after bytes → AppendsPrefix before after bytes
 prefix_whole before after bytes wrote = (bytes, [], sym (append-nil bytes), wrote)

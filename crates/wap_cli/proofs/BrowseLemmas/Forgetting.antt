@@ -5,22 +5,29 @@ use Rattle.wap_devices.specs.Stores.{StoreSeen}
 use Rattle.wap_devices.specs.Sources.{SourceSeen}
 use Rattle.wap_devices.specs.Sinks.{SinkSeen}
 use Rattle.wap_base.specs.declared.key.Key.{Key}
+use Rattle.wap_world.specs.site.Pages.{Pages as JudgedPages}
 use Rattle.wap_world.specs.site.Misses.{Cache}
+use Rattle.wap_world.specs.site.Asking.{Seen, MayBe}
 use Rattle.wap_world.specs.Steps.{Step}
 use Rattle.wap_cli.specs.declared.status.Status.{Status}
 use Rattle.wap_pages.specs.Caches.{CachedPages, cache_of, seen_over}
 use Rattle.wap_cli.specs.browse.Outside.{Outside}
+use Rattle.wap_cli.specs.browse.Plays.{Play, AreUnitPages}
 use Rattle.wap_cli.specs.browse.Handling.{IsPlayed}
 use Rattle.wap_cli.specs.browse.Stopping.{StopsAtStore, StopsAtSink, StopsForMemory}
-use Rattle.wap_cli.specs.browse.Headline.{NothingFails, Shows, Reads, Browses}
-use Rattle.wap_cli.proofs.BrowseLemmas.Optional.{if_some, some_fact}
+use Rattle.wap_cli.specs.browse.Headline.{NothingFails, Shows, Reads, BrowsesSeen}
 
 -- the outside, with another cache
 abbrev pub with_cache : Option Cache → Outside → Outside
 with_cache cache new = record new { pages = record new.pages { cache = cache } }
 
-module _ {P : Type 0} (Are : P → Type 0) (play : P → List Key → Step)
-    (old new : Outside) (status : Status) (cache : Option Cache) where
+-- with any cache there may be the same pages
+pub may_too : (seen : Seen) (cache : Option Cache) (pages : JudgedPages)
+    → MayBe (record seen { cache = cache }) pages → MayBe seen pages
+may_too seen cache pages may =
+    record { contents = may.contents; agrees = may.agrees; are = may.are }
+
+module _ (play : Play) (old new : Outside) (status : Status) (cache : Option Cache) where
   -- a session that was played to its end
   played : (of : List Key → Step) (given : List Key) → IsPlayed of given old new
       → IsPlayed of given old (with_cache cache new)
@@ -61,13 +68,14 @@ module _ {P : Type 0} (Are : P → Type 0) (play : P → List Key → Step)
   }
 
   -- what was read
-  reads : (bytes : List ℕ) → Reads Are play bytes old new status
-      → Reads Are play bytes old (with_cache cache new) status
+  reads : (bytes : List ℕ) → Reads (AreUnitPages new.pages) play bytes old new status
+      → Reads (AreUnitPages (with_cache cache new).pages) play bytes old (with_cache cache new)
+      status
   reads bytes so = record {
     taken = so.taken;
     rest = so.rest;
     split = so.split;
-    left_is = so.left_is;
+    given_is = so.given_is;
     given = so.given;
     first = so.first;
     prompt = so.prompt;
@@ -78,19 +86,17 @@ module _ {P : Type 0} (Are : P → Type 0) (play : P → List Key → Step)
     too_many_keys = so.too_many_keys;
     read_fault = so.read_fault;
     complete = λ none. so.complete (none_fails none);
-    shows = λ pages are. shows (play pages) bytes so.given (so.shows pages are);
+    shows = λ pages (judged, may, is). shows (play pages) bytes so.given
+        (so.shows pages (judged, may_too new.pages cache judged may, is));
   }
 
   -- but that its capacity is as before
   pub forget_cache
       : option_map (λ kept. kept.capacity) cache
       ≡ option_map (λ kept. kept.capacity) old.pages.cache
-      → Browses Are play old new status → Browses Are play old (with_cache cache new) status
+      → BrowsesSeen play old new status → BrowsesSeen play old (with_cache cache new) status
   forget_cache same so = record {
-    known = if_some old.source.left
-        (λ bytes. Reads Are play bytes old (with_cache cache new) status)
-        (λ bytes said. reads bytes
-        (some_fact old.source.left (λ b. Reads Are play b old new status) bytes said so.known));
+    reads = λ bytes may. reads bytes (so.reads bytes may);
     store_fault = so.store_fault;
     read_fault = so.read_fault;
     write_fault = so.write_fault;
@@ -101,8 +107,8 @@ module _ {P : Type 0} (Are : P → Type 0) (play : P → List Key → Step)
     accepted = so.accepted;
     of_line = so.of_line;
     stays = record {
-      contents = so.stays.contents;
-      behind = so.stays.behind;
+      known = so.stays.known;
+      judge = so.stays.judge;
       capacity = same;
       listings = so.stays.listings;
       faults = so.stays.faults;
@@ -134,25 +140,24 @@ module _ {S : Type 0} (seen : S → StoreSeen) where
   }
 
   -- a cache that kept nothing at first
-  pub browsed_over : {P : Type 0} (Are : P → Type 0) (play : P → List Key → Step)
-      (first last : CachedPages S) (store back : S) (capacity : ℕ)
+  pub browsed_over : (play : Play) (first last : CachedPages S) (store back : S) (capacity : ℕ)
       (source source_after : SourceSeen) (sink sink_after : SinkSeen) (status : Status)
       → first.store ≡ store → first.kept ≡ [] → first.capacity ≡ capacity → back ≡ last.store
-      → Browses Are play (outside_over first source sink)
+      → BrowsesSeen play (outside_over first source sink)
       (outside_over last source_after sink_after) status
-      → Browses Are play (fresh_over (seen store) capacity source sink)
+      → BrowsesSeen play (fresh_over (seen store) capacity source sink)
       (fresh_over (seen back) capacity source_after sink_after) status
-  browsed_over Are play first last store back capacity source source_after sink sink_after status of
+  browsed_over play first last store back capacity source source_after sink sink_after status of
       none many is so =
       let before : Outside = fresh_over (seen store) capacity source sink in
       let after : Outside = outside_over last source_after sink_after in
       let from : first ≡ record { store = store; kept = []; capacity = capacity } =
       λ i. record { store = of i; kept = none i; capacity = many i } in
-      let new : Browses Are play before after status =
+      let new : BrowsesSeen play before after status =
       subst (λ (cached : CachedPages S).
-      Browses Are play (outside_over cached source sink) after status) from so in
-      subst (λ (s : S). Browses Are play before
+      BrowsesSeen play (outside_over cached source sink) after status) from so in
+      subst (λ (s : S). BrowsesSeen play before
       (fresh_over (seen s) capacity source_after sink_after) status) (sym is)
-      (forget_cache Are play before after status
+      (forget_cache play before after status
       (Some (record { names = []; capacity = capacity })) refl
       new)

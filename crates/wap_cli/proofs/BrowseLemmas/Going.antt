@@ -1,9 +1,7 @@
 -- A session that goes on, key by key.
 use Rattle.std.proofs.Common.{◌≡◌, ℕ, false, List, [], ◌∷◌, ◌++◌, length}
-use Rattle.std.proofs.Common.{Some, refl, sym, ap, subst, ◌∙◌, append_assoc}
+use Rattle.std.proofs.Common.{refl, sym, ap, subst, ◌∙◌, append_assoc}
 use Rattle.std.proofs.lemmas.List.{append-nil}
-use Rattle.std.specs.Prelude.{IfSome}
-use Rattle.std.specs.Option.{option_map}
 use Rattle.wap_devices.specs.Transfer.{Appends}
 use Rattle.wap_devices.specs.Sources.{SourceSeen}
 use Rattle.wap_devices.proofs.Transfers.{Appends-then, Appends-nil}
@@ -13,8 +11,9 @@ use Rattle.wap_keys.specs.declared.ending.Next.TheVariants as next
 use Rattle.wap_keys.specs.KeyReaders.{Reading, HasRead, Answers}
 use Rattle.wap_world.specs.site.Pages.{Pages as JudgedPages}
 use Rattle.wap_world.specs.site.Misses.{Asked}
-use Rattle.wap_world.specs.site.Asking.{Stays, Asks}
+use Rattle.wap_world.specs.site.Asking.{MayBe, Stays, Asks}
 use Rattle.wap_world.proofs.SiteLemmas.Asking.{Asks-nil, Asks-then, Stays-same, Stays-then}
+use Rattle.wap_world.proofs.SiteLemmas.Asking.{Stays-may}
 use Rattle.wap_world.specs.Steps.{Step, then_step, quiet, still}
 use Rattle.wap_world.specs.Sessions.{Begun, world_of}
 use Rattle.wap_world.proofs.Joining.{joined_assoc}
@@ -25,9 +24,8 @@ use Rattle.wap_session.specs.handset.Feeding.{State, beginning, step_of}
 use Rattle.wap_cli.specs.browse.Outside.{Outside}
 use Rattle.wap_cli.specs.browse.Plays.{Play, opened, IsNoPush, HaveNoPush}
 use Rattle.wap_cli.specs.browse.Handling.{bytes_of, first_lines, first_asked}
-use Rattle.wap_cli.specs.browse.inside.Played.{Moment, IfKnown, Leads, GoesOn}
+use Rattle.wap_cli.specs.browse.inside.Played.{Moment, Leads, GoesOn}
 use Rattle.wap_cli.specs.browse.Standing.{Moved, moved_of, outside_of, Stands, Browsed}
-use Rattle.wap_cli.proofs.BrowseLemmas.Optional.{if_some, some_fact}
 use Rattle.wap_cli.proofs.BrowseLemmas.Stepping.{asked_joined, bytes_joined}
 use Rattle.wap_cli.proofs.BrowseLemmas.Firsts.{lines_before, asked_before}
 
@@ -43,8 +41,8 @@ played_to moment = record { pages = moment.pages; sink = moment.sink }
 
 -- ---- a key that is next
 
--- where the pages are known: these keys were given, and this key isn't played yet, the last of them
--- or one before the first
+-- over these pages: these keys were given, and this key isn't played yet, the last of them or one
+-- before the first
 pub record Nears (pages : Pages) (play : List Key → Step) (given : List Key) (key : Key)
     (old now : Moved) (state : State) : Type 0 where
   pub over : IsOver (shelf_of pages) state.browser
@@ -55,14 +53,14 @@ pub record Nears (pages : Pages) (play : List Key → Step) (given : List Key) (
   pub on : (others : List Key) → play (given ++ others)
       ≡ then_step (left_open before) (step_of pages (key ∷ others) state)
   pub asks : Asks before.asked old.pages now.pages
-  pub wrote : Appends old.sink.written now.sink.written (bytes_of before)
+  pub wrote : Appends old.sink.taken now.sink.taken (bytes_of before)
   pub unpushed : HaveNoPush given → IsNoPush key × (state.winners ≡ [])
 
 -- so far nothing failed, and this key is next
 pub record Comes (play : Play) (given : List Key) (key : Key) (old now : Moved) (state : State)
     : Type 0 where
-  pub nears : IfSome old.pages.contents
-      (λ judged. Nears (unit_pages judged) (play (unit_pages judged)) given key old now state)
+  pub nears : (judged : JudgedPages) → MayBe now.pages judged
+      → Nears (unit_pages judged) (play (unit_pages judged)) given key old now state
   pub stays : Stays old.pages now.pages
   pub steady : now.pages.faults ≡ old.pages.faults
   pub write_steady : now.sink.faults ≡ old.sink.faults
@@ -74,19 +72,16 @@ pub opens_first : (begun : Begun) (old : Moved) (state : State) → state ≡ be
     → Comes (opened begun) [] (Open begun.url) old old state
 opens_first begun old state is =
     subst (Comes (opened begun) [] (Open begun.url) old old) (sym is) (record {
-      nears = if_some old.pages.contents
-          (λ judged. Nears (unit_pages judged) (opened begun (unit_pages judged)) []
-          (Open begun.url) old old (beginning begun))
-          (λ judged known. record {
-            over = refl;
-            before = quiet [] (still (world_of begun));
-            lines = refl;
-            asked = refl;
-            on = λ others. refl;
-            asks = Asks-nil old.pages;
-            wrote = Appends-nil old.sink.written;
-            unpushed = λ none. (λ bytes is. absurd cc, refl);
-          });
+      nears = λ judged may. record {
+        over = refl;
+        before = quiet [] (still (world_of begun));
+        lines = refl;
+        asked = refl;
+        on = λ others. refl;
+        asks = Asks-nil old.pages;
+        wrote = Appends-nil old.sink.taken;
+        unpushed = λ none. (λ bytes is. absurd cc, refl);
+      };
       stays = Stays-same old.pages;
       steady = refl;
       write_steady = refl;
@@ -118,31 +113,15 @@ nears_next pages play given key old now state stands = record {
 pub comes_next : (play : Play) (given : List Key) (key : Key) (old now : Moved) (state : State)
     → Browsed play given old now state → Comes play (given ++ key ∷ []) key old now state
 comes_next play given key old now state browsed = record {
-  nears = if_some old.pages.contents
-      (λ judged. Nears (unit_pages judged) (play (unit_pages judged)) (given ++ key ∷ []) key old
-      now state)
-      (λ judged known.
+  nears = λ judged may.
       nears_next (unit_pages judged) (play (unit_pages judged)) given key old now state
-      (some_fact old.pages.contents
-      (λ p. Stands (unit_pages p) (play (unit_pages p)) given old now state) judged known
-      browsed.stands));
+      (browsed.stands judged may);
   stays = browsed.stays;
   steady = browsed.steady;
   write_steady = browsed.write_steady;
 }
 
 -- ---- a key that is played
-
--- a fact of a key, where the handset stands
-pub step_known : (judged : JudgedPages) (play : List Key → Step) (given : List Key) (key : Key)
-    (old now : Moved) (state : State) (Fact : Pages → Type 0)
-    → old.pages.contents ≡ Some judged → Stays old.pages now.pages
-    → Nears (unit_pages judged) play given key old now state
-    → IfKnown (moment_of now state) Fact → Fact (unit_pages judged)
-step_known judged play given key old now state Fact known stays nears fact =
-    some_fact (option_map unit_pages now.pages.contents)
-    (λ pages. IsOver (shelf_of pages) state.browser → Fact pages)
-    (unit_pages judged) (ap (option_map unit_pages) (stays.contents ∙ known)) fact nears.over
 
 module _ (pages : Pages) (play : List Key → Step) (given : List Key) (key : Key) (old now : Moved)
     (state : State) (nears : Nears pages play given key old now state) where
@@ -174,9 +153,9 @@ module _ (pages : Pages) (play : List Key → Step) (given : List Key) (key : Ke
             (sym (asked_joined (play given) nears.before one whole))
             (Asks-then nears.before.asked one.asked old.pages now.pages new.pages nears.asks
             leads.asks);
-        wrote = subst (Appends old.sink.written new.sink.written)
+        wrote = subst (Appends old.sink.taken new.sink.taken)
             (sym (bytes_joined (play given) nears.before one whole))
-            (Appends-then old.sink.written now.sink.written new.sink.written
+            (Appends-then old.sink.taken now.sink.taken new.sink.taken
             (bytes_of nears.before) (bytes_of one) nears.wrote leads.wrote);
         unpushed = λ none.
             let before = nears.unpushed none in leads.unpushed before.0 before.1;
@@ -187,17 +166,11 @@ pub browsed_after : (play : Play) (given : List Key) (key : Key) (old now : Move
     (new : Moment) → Comes play given key old now state → GoesOn key (moment_of now state) new
     → Browsed play given old (played_to new) new.state
 browsed_after play given key old now state new comes goes = record {
-  stands = if_some old.pages.contents
-      (λ judged. Stands (unit_pages judged) (play (unit_pages judged)) given old (played_to new)
-      new.state)
-      (λ judged known.
+  stands = λ judged may.
       let pages = unit_pages judged in
-      let nears = some_fact old.pages.contents
-      (λ p. Nears (unit_pages p) (play (unit_pages p)) given key old now state) judged known
-      comes.nears in
+      let nears = comes.nears judged (Stays-may now.pages new.pages goes.stays judged may) in
       stands_after pages (play pages) given key old now state nears new
-      (step_known judged (play pages) given key old now state
-      (λ p. Leads p key (moment_of now state) new) known comes.stays nears goes.leads));
+      (goes.leads judged may nears.over);
   ready = goes.ready;
   stays = Stays-then old.pages now.pages new.pages comes.stays goes.stays;
   steady = goes.steady ∙ comes.steady;

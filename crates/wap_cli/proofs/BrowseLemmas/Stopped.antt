@@ -1,5 +1,5 @@
 -- A session that stops before its end: what was written, and asked for.
-use Rattle.std.proofs.Common.{◌≡◌, ℕ, ◌+◌, ◌<◌, List, [], ◌∷◌, ◌++◌, length, Option}
+use Rattle.std.proofs.Common.{◌≡◌, ℕ, ◌+◌, ◌<◌, List, [], ◌∷◌, ◌++◌, length}
 use Rattle.std.proofs.Common.{sym, ap, subst, ◌∙◌, append_assoc, arith}
 use Rattle.std.specs.Prelude.{IfSome}
 use Rattle.wap_devices.specs.Transfer.{Appends, AppendsPrefix}
@@ -32,14 +32,14 @@ use Rattle.wap_cli.proofs.BrowseLemmas.Going.{moment_of, Nears, whole, beyond}
 pub prefix_played : (pages : Pages) (play : List Key → Step) (given all : List Key)
     (old now : Moved) (state : State) → Stands pages play given old now state
     → AreFirst given all
-    → AppendsPrefix old.sink.written now.sink.written (bytes_of (play all))
+    → AppendsPrefix old.sink.taken now.sink.taken (bytes_of (play all))
 prefix_played pages play given all old now state stands (others, split) =
-    prefix_more old.sink.written now.sink.written (bytes_of (play given))
+    prefix_more old.sink.taken now.sink.taken (bytes_of (play given))
     (bytes_of (step_of pages others state)) (bytes_of (play all))
     (ap (λ (keys : List Key). bytes_of (play keys)) split
     ∙ bytes_joined (play (given ++ others)) (play given) (step_of pages others state)
     (stands.on others))
-    (prefix_whole old.sink.written now.sink.written (bytes_of (play given)) stands.wrote)
+    (prefix_whole old.sink.taken now.sink.taken (bytes_of (play given)) stands.wrote)
 
 -- memory ran out after them
 pub read_runs_out : (pages : Pages) (play : List Key → Step) (given : List Key) (old new : Outside)
@@ -49,16 +49,16 @@ read_runs_out pages play given old new before now state first last stands = reco
   count = length given + 1;
   least = omega arith;
   most = omega arith;
-  wrote = subst (Appends old.sink.written new.sink.written) (sym (lines_all play given))
-      (subst (λ (s : SinkSeen). Appends s.written new.sink.written (bytes_of (play given))) first
-      (subst (λ (s : SinkSeen). Appends before.sink.written s.written (bytes_of (play given))) last
+  wrote = subst (Appends old.sink.taken new.sink.taken) (sym (lines_all play given))
+      (subst (λ (s : SinkSeen). Appends s.taken new.sink.taken (bytes_of (play given))) first
+      (subst (λ (s : SinkSeen). Appends before.sink.taken s.taken (bytes_of (play given))) last
       stands.wrote));
 }
 
 -- ---- a key stopped it
 
 -- a part was written after what was written before
-part_after : (before now after : Option (List ℕ)) (first one both : List ℕ)
+part_after : (before now after first one both : List ℕ)
     → both ≡ first ++ one → Appends before now first → AppendsPrefix now after one
     → WritesPart before after first both
 part_after before now after first one both is wrote (prefix, rest, split, more) = record {
@@ -69,7 +69,7 @@ part_after before now after first one both is wrote (prefix, rest, split, more) 
 }
 
 -- with what was written before it is a prefix
-part_prefix : (before after : Option (List ℕ)) (first both : List ℕ)
+part_prefix : (before after first both : List ℕ)
     → WritesPart before after first both → AppendsPrefix before after both
 part_prefix before after first both so = (
   first ++ so.part,
@@ -90,23 +90,23 @@ module _ (pages : Pages) (play : List Key → Step) (given : List Key) (key : Ke
 
   -- what was written is a prefix of what all keys show
   pub prefix_unwritten : (all : List Key) (sink : SinkSeen) → sink ≡ now.sink → AreFirst given all
-      → AppendsPrefix old.sink.written sink.written (bytes_of (play all))
+      → AppendsPrefix old.sink.taken sink.taken (bytes_of (play all))
   prefix_unwritten all sink unwritten (others, split) =
-      subst (λ (s : SinkSeen). AppendsPrefix old.sink.written s.written (bytes_of (play all)))
+      subst (λ (s : SinkSeen). AppendsPrefix old.sink.taken s.taken (bytes_of (play all)))
       (sym unwritten)
-      (prefix_more old.sink.written now.sink.written (bytes_of nears.before)
+      (prefix_more old.sink.taken now.sink.taken (bytes_of nears.before)
       (bytes_of (step_of pages (key ∷ others) state)) (bytes_of (play all))
       (ap (λ (keys : List Key). bytes_of (play keys)) split
       ∙ bytes_joined (play (given ++ others)) nears.before (step_of pages (key ∷ others) state)
       (nears.on others))
-      (prefix_whole old.sink.written now.sink.written (bytes_of nears.before) nears.wrote))
+      (prefix_whole old.sink.taken now.sink.taken (bytes_of nears.before) nears.wrote))
 
   -- it is what the keys before show
   pub wrote_before : (sink : SinkSeen) → sink ≡ now.sink
-      → Appends old.sink.written sink.written (first_lines play given (length given))
+      → Appends old.sink.taken sink.taken (first_lines play given (length given))
   wrote_before sink unwritten =
-      subst (Appends old.sink.written sink.written) (sym nears.lines)
-      (subst (λ (s : SinkSeen). Appends old.sink.written s.written (bytes_of nears.before))
+      subst (Appends old.sink.taken sink.taken) (sym nears.lines)
+      (subst (λ (s : SinkSeen). Appends old.sink.taken s.taken (bytes_of nears.before))
       (sym unwritten) nears.wrote)
 
   -- ---- the store failed
@@ -137,34 +137,34 @@ module _ (pages : Pages) (play : List Key → Step) (given : List Key) (key : Ke
 
   -- a prefix of its lines was written
   part_there : (new : Moment) → LeadsPart pages key (moment_of now state) new
-      → WritesPart old.sink.written new.sink.written (bytes_of nears.before)
+      → WritesPart old.sink.taken new.sink.taken (bytes_of nears.before)
       (bytes_of (play given))
   part_there new leads =
-      part_after old.sink.written now.sink.written new.sink.written (bytes_of nears.before)
+      part_after old.sink.taken now.sink.taken new.sink.taken (bytes_of nears.before)
       (bytes_of (step_of pages (key ∷ []) state)) (bytes_of (play given)) bytes_whole nears.wrote
       leads.wrote
 
   -- which is one of what all keys show
   pub prefix_part : (all : List Key) (new : Moment)
       → LeadsPart pages key (moment_of now state) new → AreFirst given all
-      → AppendsPrefix old.sink.written new.sink.written (bytes_of (play all))
+      → AppendsPrefix old.sink.taken new.sink.taken (bytes_of (play all))
   prefix_part all new leads (others, split) =
-      prefix_more old.sink.written new.sink.written (bytes_of (play given))
+      prefix_more old.sink.taken new.sink.taken (bytes_of (play given))
       (bytes_of (step_of pages others new.state)) (bytes_of (play all))
       (ap (λ (keys : List Key). bytes_of (play keys)) split
       ∙ bytes_joined (play (given ++ others)) (play given) (step_of pages others new.state)
       (beyond pages play given key old now state nears new.state others (leads.on others)))
-      (part_prefix old.sink.written new.sink.written (bytes_of nears.before)
+      (part_prefix old.sink.taken new.sink.taken (bytes_of nears.before)
       (bytes_of (play given)) (part_there new leads))
 
   -- it is what the keys before show, and a part of the last key's lines
   pub wrote_part : (new : Moment) → LeadsPart pages key (moment_of now state) new
-      → WritesPart old.sink.written new.sink.written (first_lines play given (length given))
+      → WritesPart old.sink.taken new.sink.taken (first_lines play given (length given))
       (first_lines play given (length given + 1))
   wrote_part new leads =
-      subst (λ (bytes : List ℕ). WritesPart old.sink.written new.sink.written bytes
+      subst (λ (bytes : List ℕ). WritesPart old.sink.taken new.sink.taken bytes
       (first_lines play given (length given + 1))) (sym nears.lines)
-      (subst (WritesPart old.sink.written new.sink.written (bytes_of nears.before))
+      (subst (WritesPart old.sink.taken new.sink.taken (bytes_of nears.before))
       (sym (lines_all play given)) (part_there new leads))
 
   -- and the store was asked for all its pages

@@ -20,7 +20,6 @@ use Rattle.wap_cli.specs.browse.Endings.{at_end, ended}
 use Rattle.wap_cli.specs.browse.Headline.{NothingFails, Shows, Reads, BrowsesSeen}
 use Rattle.wap_cli.specs.browse.inside.Ends.{EndsSo, ShowsTo, EndsAt, Written, Gives, IsOfLine}
 use Rattle.wap_cli.specs.browse.inside.Ends.{StoreMoves, ReadMoves, WriteMoves, BrowsesTo}
-use Rattle.wap_cli.proofs.BrowseLemmas.Optional.{if_some, some_fact}
 
 -- ---- counts
 
@@ -165,7 +164,7 @@ shows_by all play bytes old new status so gives written =
 -- what was read
 reads_by : (play : Play) (bytes : List ℕ) (old new : Outside) (status : Status)
     → BrowsesTo play old new status → Gives play bytes old new status
-    → Reads (AreUnitPages old.pages) play bytes old new status
+    → Reads (AreUnitPages new.pages) play bytes old new status
 reads_by play bytes old new status so gives =
     let at : (other : Status) → status ≡ other
     → EndsSo other old.source new.source bytes gives.taken gives.rest gives.given =
@@ -175,7 +174,7 @@ reads_by play bytes old new status so gives =
       taken = gives.taken;
       rest = gives.rest;
       split = gives.split;
-      left_is = gives.left_is;
+      given_is = gives.given_is;
       given = gives.given;
       first = gives.first;
       prompt = gives.prompt;
@@ -192,12 +191,10 @@ reads_by play bytes old new status so gives =
         complete_by status (λ keys. is_open) old new bytes gives.taken gives.rest gives.given
             so.store so.read so.write gives.ends opens none,
       );
-      shows = λ pages (judged, known, is).
+      shows = λ pages (judged, may, is).
           subst (λ (p : Pages). Shows (play p) bytes gives.given old new status) (sym is)
           (shows_by play (play (unit_pages judged)) bytes old new status so gives
-          (some_fact old.pages.contents
-          (λ p. Written status (play (unit_pages p)) bytes gives.given old new) judged known
-          gives.written));
+          (gives.written judged may));
     }
 
 -- all of it
@@ -209,10 +206,7 @@ browses_by play old new status so =
     λ other is. subst (λ (s : Status). StoreMoves s old.pages.faults new.pages.faults) is
     so.store in
     record {
-      known = if_some old.source.left
-          (λ bytes. Reads (AreUnitPages old.pages) play bytes old new status)
-          (λ bytes is. reads_by play bytes old new status so
-          (some_fact old.source.left (λ b. Gives play b old new status) bytes is so.known));
+      reads = λ bytes may. reads_by play bytes old new status so (so.reads bytes may);
       store_fault = λ is. store StoreFault is;
       read_fault = λ is.
           subst (λ (s : Status). ReadMoves s old.source.faults new.source.faults) is so.read;

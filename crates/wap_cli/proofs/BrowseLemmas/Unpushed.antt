@@ -7,25 +7,22 @@ use Rattle.wap_base.specs.declared.key.Key.{Key}
 use Rattle.wap_base.specs.declared.key.Key.TheVariants as key
 use Rattle.wap_push.specs.declared.indication.Indication.{Indication}
 use Rattle.wap_push.specs.Pushes.{push_at}
-use Rattle.wap_world.specs.site.Pages.{Pages as JudgedPages}
-use Rattle.wap_world.specs.site.Asking.{Asks}
 use Rattle.wap_layout.specs.buffer.Written.{lines_bytes}
 use Rattle.wap_world.specs.Sites.{Site}
 use Rattle.wap_world.specs.scripting.UnitSites.{Pages, unit_pages}
 use Rattle.wap_world.specs.scripting.Waiting.{Waits}
 use Rattle.wap_world.proofs.ScriptingLawsLemmas.Keeping.{units_few}
-use Rattle.wap_context.specs.Sites.{fragment_call, site_of, IfOver}
+use Rattle.wap_context.specs.Sites.{fragment_call, site_of}
 use Rattle.wap_session.proofs.Alone.{none_of, turned_none}
 use Rattle.wap_push.specs.Inbox.{HaveWinners}
 use Rattle.wap_world.specs.inboxes.Inboxes.{Handset, Stepped, react_with}
 use Rattle.wap_world.proofs.InboxesLemmas.Counting.{few_with}
 use Rattle.wap_world.proofs.InboxesLemmas.Winning.{exactly}
 use Rattle.wap_session.specs.handset.Holding.{Held}
-use Rattle.wap_session.specs.handset.Feeding.{State, held_with, stepped_of, step_of, Leads, Plays}
+use Rattle.wap_session.specs.handset.Feeding.{State, held_with, stepped_of, Leads, Plays}
 use Rattle.wap_session.specs.handset.inside.Turns.{turned_by}
 use Rattle.wap_session.proofs.HandsetLemmas.Holding.{alone_with}
 use Rattle.wap_cli.specs.browse.Plays.{IsNoPush}
-use Rattle.wap_cli.specs.browse.inside.Played as played
 use Rattle.wap_cli.specs.browse.inside.Played.{Moment, GoesOn, FailsAtSink}
 
 -- outside a dialog it takes none
@@ -89,69 +86,46 @@ unpushed pages one old new lines leads other none =
     (subst (λ (pushes : List Indication). HaveWinners pushes new.winners)
     (pushes_alone pages old one other ∙ none) leads.inbox)
 
--- ---- a key whose lines were written
+-- ---- a key that was played, and whose lines were written
 
 module _ (one : Key) (old new : Moment) (lines : List (List ℕ))
-    (wrote : Appends old.sink.written new.sink.written (lines_bytes lines)) where
-  -- where it leads
-  leads_there : (contents : Option JudgedPages)
-      → IfOver contents old.state.browser
-      (λ pages. Leads (one ∷ []) pages old.state new.state lines)
-      → IfOver contents old.state.browser
-      (λ pages. Asks (step_of pages (one ∷ []) old.state).asked old.pages new.pages)
-      → IfOver contents old.state.browser (λ pages. played.Leads pages one old new)
-  leads_there None leads asks = tt
-  leads_there (Some judged) leads asks = λ is.
-      let pages = unit_pages judged in
-      let led = leads is in
-      record {
-        over = led.over;
-        on = led.on;
-        unpushed = unpushed pages one old.state new.state lines led;
-        asks = asks is;
-        wrote = subst
-            (λ (shown : List (List ℕ)).
-            Appends old.sink.written new.sink.written (lines_bytes shown)) led.tells wrote;
-      }
-
+    (plays : Plays (one ∷ []) old.pages new.pages old.state new.state (Ok lines)) where
   -- the session goes on
-  pub goes_on : Plays (one ∷ []) old.pages new.pages old.state new.state (Ok lines)
+  pub goes_on : Appends old.sink.taken new.sink.taken (lines_bytes lines)
       → new.sink.faults ≡ old.sink.faults → GoesOn one old new
-  goes_on plays steady = record {
-    leads = leads_there old.pages.contents plays.leads plays.asks;
+  goes_on wrote steady = record {
+    leads = λ judged may is.
+        let pages = unit_pages judged in
+        let led = plays.leads judged may is in
+        record {
+          over = led.over;
+          on = led.on;
+          unpushed = unpushed pages one old.state new.state lines led;
+          asks = plays.asks judged may is;
+          wrote = subst
+              (λ (shown : List (List ℕ)).
+              Appends old.sink.taken new.sink.taken (lines_bytes shown)) led.tells wrote;
+        };
     ready = plays.ready;
     stays = plays.stays;
     steady = plays.steady;
     write_steady = steady;
   }
 
--- ---- a key whose lines were written in part
-
-module _ (one : Key) (old new : Moment) (lines : List (List ℕ))
-    (wrote : AppendsPrefix old.sink.written new.sink.written (lines_bytes lines)) where
-  part_there : (contents : Option JudgedPages)
-      → IfOver contents old.state.browser
-      (λ pages. Leads (one ∷ []) pages old.state new.state lines)
-      → IfOver contents old.state.browser
-      (λ pages. Asks (step_of pages (one ∷ []) old.state).asked old.pages new.pages)
-      → IfOver contents old.state.browser (λ pages. played.LeadsPart pages one old new)
-  part_there None leads asks = tt
-  part_there (Some judged) leads asks = λ is.
-      let led = leads is in
-      record {
-        on = led.on;
-        asks = asks is;
-        wrote = subst
-            (λ (shown : List (List ℕ)).
-            AppendsPrefix old.sink.written new.sink.written (lines_bytes shown)) led.tells wrote;
-      }
-
-  -- the session stops
-  pub stops_there : Plays (one ∷ []) old.pages new.pages old.state new.state (Ok lines)
+  -- where a part of the lines was written, it stops
+  pub stops_there : AppendsPrefix old.sink.taken new.sink.taken (lines_bytes lines)
       → Rose old.sink.faults new.sink.faults → old.sink.faults ≤ new.sink.faults
       → FailsAtSink one old new
-  stops_there plays rose counts = record {
-    leads = part_there old.pages.contents plays.leads plays.asks;
+  stops_there wrote rose counts = record {
+    leads = λ judged may is.
+        let led = plays.leads judged may is in
+        record {
+          on = led.on;
+          asks = plays.asks judged may is;
+          wrote = subst
+              (λ (shown : List (List ℕ)).
+              AppendsPrefix old.sink.taken new.sink.taken (lines_bytes shown)) led.tells wrote;
+        };
     rose = rose;
     counts = counts;
     stays = plays.stays;

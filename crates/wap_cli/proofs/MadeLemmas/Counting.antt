@@ -1,16 +1,18 @@
 -- Pages that are accepted, counted one after the other.
-use Rattle.std.proofs.Common.{◌≡◌, ℕ, ◌+◌, ◌<◌, List, [], ◌∷◌, ◌++◌, Bool, true, false, cond}
+use Rattle.std.proofs.Common.{◌≡◌, ℕ, ◌+◌, ◌<◌, List, [], ◌∷◌, ◌++◌, Bool}
 use Rattle.std.proofs.Common.{Option, Some, None, length, take, get_or, refl, sym, ap, ap₂, ◌∙◌}
 use mathlib.Core.Path.{fun_ext}
-use Rattle.std.specs.Prelude.{if◌then◌else◌, IfSome, filter, unwrap_or}
+use Rattle.std.specs.Prelude.{filter, unwrap_or}
 use Rattle.std.specs.Option.{option_map}
 use Rattle.std.proofs.lemmas.List.{take_more, length-append}
 use Rattle.std.proofs.lemmas.List.Elements.{filter-append}
 use Rattle.wap_unit.specs.declared.unit.Unit.{Unit}
+use Rattle.wap_world.specs.site.Asking.{Seen, MayBe, Stays}
 use Rattle.wap_world.specs.site.Pages.{Pages, page_of}
 use Rattle.wap_world.specs.site.Pages.{page_under as judged_under}
 use Rattle.wap_world.specs.declared.site.page.Page.{Page}
 use Rattle.wap_world.specs.declared.site.page.Page.TheVariants as judge
+use Rattle.wap_world.proofs.SiteLemmas.Asking.{Stays-may}
 use Rattle.wap_world.specs.scripting.ScriptPages.{PageOf, shelved}
 use Rattle.wap_world.specs.scripting.UnitSites.{units, unit_page, unit_pages, units_site}
 use Rattle.wap_context.specs.Sites.{site_of}
@@ -18,33 +20,17 @@ use Rattle.wap_context.proofs.HostLemmas.Shelves.{under_is}
 use Rattle.wap_cli.specs.made.Making.{is_accepted_there, accepted_over}
 use Rattle.wap_cli.specs.made.inside.Counting.{is_accepted, accepted_in}
 
--- one of two lists by a test
-by_test : (b : Bool) (name : List ℕ)
-    → (if b then 1 else 0) ≡ length (cond b (name ∷ []) [])
-by_test true name = refl
-by_test false name = refl
-
--- one name, by the page that it has
-pub one_counted : (contents : Option Pages) (name : List ℕ) (page : Page) (accepted : Bool)
-    (count : ℕ) → IfSome contents (λ pages. page ≡ page_of name pages)
-    → accepted ≡ is_accepted page → count ≡ (if accepted then 1 else 0)
-    → IfSome contents (λ pages. count ≡ length (accepted_in pages (name ∷ [])))
-one_counted None name page accepted count is so counted = tt
-one_counted (Some pages) name page accepted count is so counted =
-    counted ∙ ap (λ (b : Bool). if b then 1 else 0) (so ∙ ap is_accepted is)
-    ∙ by_test (is_accepted (page_of name pages)) name
-
 -- one name more
-pub more_counted : (contents : Option Pages) (names : List (List ℕ)) (i : ℕ) (name : List ℕ)
-    (count one : ℕ) → i < length names → name ≡ get_or names i name
-    → IfSome contents (λ pages. count ≡ length (accepted_in pages (take i names)))
-    → IfSome contents (λ pages. one ≡ length (accepted_in pages (name ∷ [])))
-    → IfSome contents (λ pages. count + one ≡ length (accepted_in pages (take (i + 1) names)))
-more_counted None names i name count one within is so next = tt
-more_counted (Some pages) names i name count one within is so next =
+pub more_counted : (before after : Seen) (names : List (List ℕ)) (i : ℕ) (name : List ℕ)
+    (count one : ℕ) → Stays before after → i < length names → name ≡ get_or names i name
+    → ((pages : Pages) → MayBe before pages → count ≡ length (accepted_in pages (take i names)))
+    → ((pages : Pages) → MayBe after pages → one ≡ length (accepted_in pages (name ∷ [])))
+    → (pages : Pages) → MayBe after pages
+    → count + one ≡ length (accepted_in pages (take (i + 1) names))
+more_counted before after names i name count one stays within is so next pages may =
     let test = λ (name : List ℕ). is_accepted (page_of name pages) in
     let front = take i names in
-    ap₂ (λ (a b : ℕ). a + b) so next
+    ap₂ (λ (a b : ℕ). a + b) (so pages (Stays-may before after stays pages may)) (next pages may)
     ∙ sym (length-append (accepted_in pages front) (accepted_in pages (name ∷ [])))
     ∙ ap length (sym (filter-append test front (name ∷ [])))
     ∙ ap (λ (l : List (List ℕ)). length (accepted_in pages l))

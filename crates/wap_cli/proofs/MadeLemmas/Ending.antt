@@ -1,5 +1,5 @@
 -- How the browsing of a made folder ends.
-use Rattle.std.proofs.Common.{◌≡◌, ℕ, List, Result, Ok, Err, inl, inr, refl, sym, subst, arith}
+use Rattle.std.proofs.Common.{◌≡◌, ℕ, List, Ok, Err, inl, inr, refl, sym, subst, arith}
 use Rattle.wap_devices.specs.Sinks.{SinkSeen, Puts}
 use Rattle.wap_devices.specs.Transfer.{Appends, AppendsPrefix}
 use Rattle.wap_devices.specs.declared.fault.Failed.{Failed}
@@ -34,8 +34,8 @@ module _ {A : Type 0} (n : ℕ) (before after : SinkSeen) (text : List ℕ)
   pub made_whole : (x : A) → Puts {A = A} text before after (Ok x) → Makes n before after Done
   made_whole x puts = record {
     done = λ e.
-        told n (Appends before.written after.written)
-        (subst (λ (l : List ℕ). Appends before.written after.written l) is puts.whole);
+        told n (Appends before.taken after.taken)
+        (subst (λ (l : List ℕ). Appends before.taken after.taken l) is puts.whole);
     prefix = λ e. absurd cc;
     unwritten = λ undone other. absurd (undone refl);
     ends = inl refl;
@@ -50,8 +50,8 @@ module _ {A : Type 0} (n : ℕ) (before after : SinkSeen) (text : List ℕ)
   made_part x puts = record {
     done = λ e. absurd cc;
     prefix = λ e.
-        told n (AppendsPrefix before.written after.written)
-        (subst (λ (l : List ℕ). AppendsPrefix before.written after.written l) is puts.prefix);
+        told n (AppendsPrefix before.taken after.taken)
+        (subst (λ (l : List ℕ). AppendsPrefix before.taken after.taken l) is puts.prefix);
     unwritten = λ undone other. absurd (other refl);
     ends = inr (inl refl);
     write_fault = λ e. puts.failed;

@@ -1,7 +1,7 @@
 -- A page is refused, and a command on one or on what was saved, for a reason that isn't want of
 -- memory.
 use Rattle.std.proofs.Common.{◌≡◌, ◌≢◌, ℕ, false, List, Option, Some, None, refl, sym, subst}
-use Rattle.wap_base.specs.Contents.{Contents}
+use Rattle.wap_devices.specs.Stores.{Known}
 use Rattle.wap_grammar.specs.declared.lexeme.Lexeme.{Lexeme}
 use Rattle.wap_grammar.specs.Lexemes.{lexemes_of}
 use Rattle.wap_wbxml.specs.declared.fault.DocFault.{DocFault}
@@ -150,17 +150,17 @@ reason_remembers one (Some bytes) why is = reason one bytes why is
 
 -- ---- what was saved
 
-without_deck : (contents : Option Contents) (name : List ℕ) (why : PageFault)
-    → IsDeckless contents name why → Remembers why
-without_deck contents name _ (IsDeckless.missing none) = refl
-without_deck contents name _ (IsDeckless.refused bytes why there so) =
+without_deck : (known : Known) (name : List ℕ) (why : PageFault)
+    → IsDeckless known name why → Remembers why
+without_deck known name _ (IsDeckless.missing none) = refl
+without_deck known name _ (IsDeckless.refused bytes why there so) =
     page_remembers name bytes why so
-without_deck contents name _ (IsDeckless.other bytes there so) = refl
+without_deck known name _ (IsDeckless.other bytes there so) = refl
 
-pub hinders_remember : (contents : Option Contents) (name : List ℕ) (why : PageFault)
-    → Hinders contents name why → is_of_memory why ≡ false
-hinders_remember contents name _ (Hinders.missing none) = refl
-hinders_remember contents name _ (Hinders.refused bytes why there so) =
+pub hinders_remember : (known : Known) (name : List ℕ) (why : PageFault)
+    → Hinders known name why → is_of_memory why ≡ false
+hinders_remember known name _ (Hinders.missing none) = refl
+hinders_remember known name _ (Hinders.refused bytes why there so) =
     by_image why (image_remembers bytes why so)
-hinders_remember contents name _ (Hinders.deckless bytes saved why there image lacks) =
-    without_deck contents lacks.name why lacks.deckless
+hinders_remember known name _ (Hinders.deckless bytes saved why there image lacks) =
+    without_deck known lacks.name why lacks.deckless

@@ -1,29 +1,34 @@
 -- A store that was asked for some pages is asked for more.
 use Rattle.std.proofs.Common.{◌≡◌, ℕ, ◌+◌, ◌≤◌, Result, Ok, Err, refl, sym, ap, ◌∙◌}
-use Rattle.std.proofs.Common.{subst, arith, Option, Some, None}
-use Rattle.std.specs.Prelude.{List, [], ◌∷◌, ◌++◌, length, IfSome, IsErr, IsErrAnd, IsErrOf}
+use Rattle.std.proofs.Common.{subst, arith}
+use Rattle.std.specs.Prelude.{List, [], ◌∷◌, ◌++◌, length, All, IsErr, IsErrAnd, IsErrOf}
 use Rattle.std.specs.Map.{keys_of}
-use Rattle.wap_base.specs.Contents.{Contents, page_named}
+use Rattle.std.proofs.lemmas.List.Elements.{All-push, All-weaker}
 use Rattle.wap_base.specs.Count.{Rose}
-use Rattle.wap_devices.specs.Contents.{answer_of, answer_for}
-use Rattle.wap_devices.specs.Stores.{StoreSeen, Fetches}
-use Rattle.wap_devices.specs.declared.store.Fetched.{Fetched}
+use Rattle.wap_devices.specs.Stores.{StoreSeen, Known, Grew, Fetches}
 use Rattle.wap_devices.specs.declared.store.StoreErr.{StoreErr}
 use Rattle.wap_devices.specs.declared.store.StoreErr.TheVariants.{Failed, NoMemory}
+use Rattle.wap_devices.proofs.Telling.{grew_nothing, grew_then}
 use Rattle.wap_world.specs.site.Asking.{raised_by}
 use Rattle.wap_world.proofs.SiteLemmas.Counts.{raised_by-then}
-use Rattle.wap_cli.specs.prepare.Fetching.{AsksFor}
-use Rattle.wap_cli.specs.prepare.Fetching.{page_of, Job, IsAnswered}
+use Rattle.wap_cli.specs.Answers.{page_of}
+use Rattle.wap_cli.specs.prepare.Fetching.{AsksFor, Job, IsAnswered}
+use Rattle.wap_cli.proofs.ResumeLemmas.Fetching.{page_later}
 
 -- so many were asked for, and none failed
 pub record Asked (count : ℕ) (before after : StoreSeen) : Type 0 where
   pub fetches : after.fetches ≡ raised_by count before.fetches
   pub listings : after.listings ≡ before.listings
-  pub contents : after.contents ≡ before.contents
+  pub known : Grew before.known after.known
   pub faults : after.faults ≡ before.faults
 
 pub none_asked : (store : StoreSeen) → Asked 0 store store
-none_asked store = record { fetches = refl; listings = refl; contents = refl; faults = refl }
+none_asked store = record {
+  fetches = refl;
+  listings = refl;
+  known = grew_nothing store.known store.known refl;
+  faults = refl;
+}
 
 -- a fault is the same beside any other value
 err_over : {A B : Type 0} (fault other : StoreErr) → IsErrOf {T = A} (Err fault) other
@@ -42,7 +47,7 @@ module _ (i : ℕ) (a b c : StoreSeen) (asked : Asked i a b) where
   asked_more more job asks = record {
     fetches = more_fetches more asks.whole;
     listings = asks.listings ∙ asked.listings;
-    contents = asks.contents ∙ asked.contents;
+    known = grew_then a.known b.known c.known asked.known asks.known;
     faults = asks.steady ∙ asked.faults;
   }
 
@@ -58,7 +63,7 @@ module _ (i : ℕ) (a b c : StoreSeen) (asked : Asked i a b) where
         whole = tt;
         few = (i + asks.few.0, omega (arith, some, within), more_fetches asks.few.0 asks.few.2);
         listings = asks.listings ∙ asked.listings;
-        contents = asks.contents ∙ asked.contents;
+        known = grew_then a.known b.known c.known asked.known asks.known;
         counts = omega (arith, counts, same);
         failed = λ is.
             subst (λ (faults : ℕ). Rose faults c.faults) same
@@ -75,7 +80,7 @@ then_memory i count a b asked within =
       whole = tt;
       few = (i, within, asked.fetches);
       listings = asked.listings;
-      contents = asked.contents;
+      known = asked.known;
       counts = omega (arith, same);
       failed = λ is. absurd cc;
       steady = tt;
@@ -111,46 +116,31 @@ all_asked count a b jobs asked =
       whole = asked.fetches;
       few = (count, omega arith, asked.fetches);
       listings = asked.listings;
-      contents = asked.contents;
+      known = asked.known;
       counts = omega (arith, same);
       failed = λ is. absurd cc;
       steady = asked.faults;
     }
 
--- ---- one page
+-- what was answered earlier is so of what is known later, and of one job more
+pub answered_more : (before after : Known) (jobs all : List Job) (job : Job) → Grew before after
+    → All (IsAnswered before) jobs → IsAnswered after job → all ≡ jobs ++ job ∷ []
+    → All (IsAnswered after) all
+answered_more before after jobs all job grew so_far next together =
+    subst (All (IsAnswered after)) (sym together)
+    (All-push (IsAnswered after) jobs job
+    (All-weaker (IsAnswered before) (IsAnswered after)
+    (λ one answered. page_later before after grew one.0 (page_of one.1) answered) jobs so_far) next)
 
-page_of_answer : (page : Option (List ℕ)) → page_of (answer_of page) ≡ page
-page_of_answer (Some bytes) = refl
-page_of_answer None = refl
-
-pub job_answered : (contents : Option Contents) (name copy : List ℕ) (page : Fetched) → copy ≡ name
-    → IfSome contents (λ pages. page ≡ answer_for name pages) → IsAnswered contents (copy, page)
-job_answered None name copy page same found = tt
-job_answered (Some pages) name copy page same found =
-    ap page_of found ∙ page_of_answer (page_named name pages)
-    ∙ ap (λ (n : List ℕ). page_named n pages) (sym same)
-
-module _ {A : Type 0} (name : List ℕ) (a b : StoreSeen) where
-  pub fetched_one : (page : Fetched) → Fetches name a b (Ok page) → (job : A)
-      → AsksFor {A = A} 1 a b (Ok job)
-  fetched_one page fetches job = record {
-    whole = fetches.fetches;
-    few = (1, omega arith, fetches.fetches);
-    listings = fetches.listings;
-    contents = fetches.asked.contents;
-    counts = fetches.asked.counts;
-    failed = λ is. absurd cc;
-    steady = fetches.asked.steady;
-  }
-
-  pub failed_one : (fault : StoreErr) → Fetches name a b (Err fault)
-      → AsksFor {A = A} 1 a b (Err fault)
-  failed_one fault fetches = record {
-    whole = tt;
-    few = (1, omega arith, fetches.fetches);
-    listings = fetches.listings;
-    contents = fetches.asked.contents;
-    counts = fetches.asked.counts;
-    failed = λ is. fetches.asked.failed (err_over fault Failed is);
-    steady = tt;
-  }
+-- one page was asked for, and the store failed, or memory ran out
+pub failed_one : {A : Type 0} (name : List ℕ) (a b : StoreSeen) (fault : StoreErr)
+    → Fetches name a b (Err fault) → AsksFor {A = A} 1 a b (Err fault)
+failed_one name a b fault fetches = record {
+  whole = tt;
+  few = (1, omega arith, fetches.fetches);
+  listings = fetches.listings;
+  known = grew_nothing a.known b.known fetches.asked.untold;
+  counts = fetches.asked.counts;
+  failed = λ is. fetches.asked.failed (err_over fault Failed is);
+  steady = tt;
+}

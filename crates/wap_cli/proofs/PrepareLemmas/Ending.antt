@@ -1,15 +1,16 @@
 -- How work on all pages of a folder ends.
-use Rattle.std.proofs.Common.{◌≡◌, ℕ, ◌≤◌, List, [], ◌∷◌, Option, Some, None, Ok, Err, Result}
+use Rattle.std.proofs.Common.{◌≡◌, ℕ, ◌≤◌, List, [], ◌∷◌, Ok, Err, Result}
 use Rattle.std.proofs.Common.{inl, inr, refl}
 use Rattle.std.proofs.Common.{ap, subst, ◌∙◌, arith}
-use Rattle.std.specs.Prelude.{IfSome, length}
+use Rattle.std.specs.Prelude.{length}
 use Rattle.std.specs.List.Sorted.{IsPermutation}
 use Rattle.std.proofs.lemmas.List.Sorted.{length_permutation}
 use Rattle.wap_base.specs.Contents.{Contents, names_of}
 use Rattle.wap_base.specs.Count.{Rose}
-use Rattle.wap_devices.specs.Stores.{StoreSeen, Lists}
+use Rattle.wap_devices.specs.Stores.{StoreSeen, Grew, Lists}
 use Rattle.wap_devices.specs.Sinks.{SinkSeen}
 use Rattle.wap_devices.specs.Transfer.{Appends, AppendsPrefix}
+use Rattle.wap_devices.proofs.Telling.{grew_nothing, grew_then, agrees_before}
 use Rattle.wap_devices.specs.declared.store.StoreErr.{StoreErr}
 use Rattle.wap_devices.specs.declared.store.StoreErr.TheVariants as store_error
 use Rattle.wap_world.specs.site.Asking.{raised_by}
@@ -26,22 +27,17 @@ length-keys [] = refl
 length-keys (page ∷ pages) = let so = length-keys pages in omega (arith, so)
 
 -- no more pages were asked for than there are
-within : (contents : Option Contents) (names : List (List ℕ)) (more before after : ℕ)
-    → more ≤ length names → after ≡ raised_by more before
-    → IfSome contents (λ pages. IsPermutation (names_of pages) names)
-    → IfSome contents (λ pages.
-    (more : ℕ) × (more ≤ length pages) × (after ≡ raised_by more before))
-within None names more before after few is all = tt
-within (Some pages) names more before after few is all =
+within : (pages : Contents) (names : List (List ℕ)) (more : ℕ) → more ≤ length names
+    → IsPermutation (names_of pages) names → more ≤ length pages
+within pages names more few all =
     let same = length_permutation (names_of pages) names all in
     let keys = length-keys pages in
-    (more, omega (arith, few, same, keys), is)
+    omega (arith, few, same, keys)
 
-none_asked : (contents : Option Contents) (after before : ℕ) → after ≡ before
-    → IfSome contents (λ pages.
-    (more : ℕ) × (more ≤ length pages) × (after ≡ raised_by more before))
-none_asked None after before is = tt
-none_asked (Some pages) after before is = (0, omega arith, is)
+-- no page was asked for
+pub none_asked : (before after : StoreSeen) → after.fetches ≡ before.fetches
+    → AsksWithin before after
+none_asked before after is pages agrees = (0, omega arith, is)
 
 -- memory ran out before the store was asked
 pub nothing_done : (Tells : (List ℕ → Type 0) → Type 0) (store : StoreSeen) (sink : SinkSeen)
@@ -58,8 +54,8 @@ nothing_done Tells store sink = record {
   complete = λ whole other. inr refl;
   listings = λ other. absurd (other refl);
   once = inl refl;
-  asked = none_asked store.contents store.fetches store.fetches refl;
-  kept = refl;
+  asked = none_asked store store refl;
+  kept = grew_nothing store.known store.known refl;
   store_counts = omega arith;
   write_counts = omega arith;
 }
@@ -81,8 +77,8 @@ module _ (Tells : (List ℕ → Type 0) → Type 0) {A : Type 0} (names_in : A �
     complete = λ whole other. absurd (whole (lists.asked.failed refl));
     listings = λ e. lists.listings;
     once = inr lists.listings;
-    asked = none_asked store.contents listed.fetches store.fetches lists.fetches;
-    kept = lists.asked.contents;
+    asked = none_asked store listed lists.fetches;
+    kept = grew_nothing store.known listed.known lists.asked.untold;
     store_counts = lists.asked.counts;
     write_counts = omega arith;
   }
@@ -102,8 +98,8 @@ module _ (Tells : (List ℕ → Type 0) → Type 0) {A : Type 0} (names_in : A �
     complete = λ whole other. inr refl;
     listings = λ e. lists.listings;
     once = inr lists.listings;
-    asked = none_asked store.contents listed.fetches store.fetches lists.fetches;
-    kept = lists.asked.contents;
+    asked = none_asked store listed lists.fetches;
+    kept = grew_nothing store.known listed.known lists.asked.untold;
     store_counts = lists.asked.counts;
     write_counts = omega arith;
   }
@@ -111,9 +107,19 @@ module _ (Tells : (List ℕ → Type 0) → Type 0) {A : Type 0} (names_in : A �
   module _ (names : A) (lists : Lists names_in store listed (Ok names)) where
     pages_within : {B : Type 0} {result : Result B StoreErr}
         → AsksFor (length (names_in names)) listed after result → AsksWithin store after
-    pages_within asks =
-        within store.contents (names_in names) asks.few.0 store.fetches after.fetches asks.few.1
-        (asks.few.2 ∙ ap (raised_by asks.few.0) lists.fetches) lists.names
+    pages_within asks pages agrees = (
+      asks.few.0,
+      within pages (names_in names) asks.few.0 asks.few.1
+          (lists.names pages (agrees_before listed.known after.known asks.known pages agrees)),
+      asks.few.2 ∙ ap (raised_by asks.few.0) lists.fetches,
+    )
+
+    kept : {B : Type 0} {result : Result B StoreErr}
+        → AsksFor (length (names_in names)) listed after result → Grew store.known after.known
+    kept asks =
+        let listing : Grew store.known listed.known =
+        record { answers = []; lists = names_in names ∷ []; is = lists.told } in
+        grew_then store.known listed.known after.known listing asks.known
 
     -- it failed at a page
     pub page_fails : {B : Type 0}
@@ -137,7 +143,7 @@ module _ (Tells : (List ℕ → Type 0) → Type 0) {A : Type 0} (names_in : A �
           listings = λ e. asks.listings ∙ lists.listings;
           once = inr (asks.listings ∙ lists.listings);
           asked = pages_within asks;
-          kept = asks.contents ∙ lists.asked.contents;
+          kept = kept asks;
           store_counts = omega (arith, first, second);
           write_counts = omega arith;
         }
@@ -162,7 +168,7 @@ module _ (Tells : (List ℕ → Type 0) → Type 0) {A : Type 0} (names_in : A �
           listings = λ e. asks.listings ∙ lists.listings;
           once = inr (asks.listings ∙ lists.listings);
           asked = pages_within asks;
-          kept = asks.contents ∙ lists.asked.contents;
+          kept = kept asks;
           store_counts = omega (arith, first, second);
           write_counts = omega arith;
         }
@@ -180,7 +186,7 @@ module _ (Tells : (List ℕ → Type 0) → Type 0) {A : Type 0} (names_in : A �
           let faults = steady in
           let writes = so.steady in
           record {
-            done = λ e. tells (Appends sink.written sink_after.written) so.wrote;
+            done = λ e. tells (Appends sink.taken sink_after.taken) so.wrote;
             prefix = λ e. absurd cc;
             unwritten = λ undone other. absurd (undone refl);
             ends = tt;
@@ -192,7 +198,7 @@ module _ (Tells : (List ℕ → Type 0) → Type 0) {A : Type 0} (names_in : A �
             listings = λ e. asks.listings ∙ lists.listings;
             once = inr (asks.listings ∙ lists.listings);
             asked = pages_within asks;
-            kept = asks.contents ∙ lists.asked.contents;
+            kept = kept asks;
             store_counts = omega (arith, faults);
             write_counts = omega (arith, writes);
           }
@@ -200,7 +206,7 @@ module _ (Tells : (List ℕ → Type 0) → Type 0) {A : Type 0} (names_in : A �
           let faults = steady in
           record {
             done = λ e. absurd cc;
-            prefix = λ e. tells (AppendsPrefix sink.written sink_after.written) so.wrote;
+            prefix = λ e. tells (AppendsPrefix sink.taken sink_after.taken) so.wrote;
             unwritten = λ undone other. absurd (other refl);
             ends = tt;
             store_fault = λ e. absurd cc;
@@ -211,7 +217,7 @@ module _ (Tells : (List ℕ → Type 0) → Type 0) {A : Type 0} (names_in : A �
             listings = λ e. asks.listings ∙ lists.listings;
             once = inr (asks.listings ∙ lists.listings);
             asked = pages_within asks;
-            kept = asks.contents ∙ lists.asked.contents;
+            kept = kept asks;
             store_counts = omega (arith, faults);
             write_counts = so.counts;
           }
@@ -231,7 +237,7 @@ module _ (Tells : (List ℕ → Type 0) → Type 0) {A : Type 0} (names_in : A �
             listings = λ e. asks.listings ∙ lists.listings;
             once = inr (asks.listings ∙ lists.listings);
             asked = pages_within asks;
-            kept = asks.contents ∙ lists.asked.contents;
+            kept = kept asks;
             store_counts = omega (arith, faults);
             write_counts = omega (arith, writes);
           }

@@ -2,23 +2,26 @@
 use Rattle.std.proofs.Common.{◌≡◌, ℕ, false, List, [], ◌∷◌, map, Option, Some, None, Result, Ok}
 use Rattle.std.proofs.Common.{refl, sym, ap, ap₂, subst, ◌∙◌, ◌+◌, ◌++◌, take, drop}
 use Rattle.std.proofs.Common.{length, append_assoc}
-use Rattle.std.specs.Prelude.{All, IfOk, IfSome}
+use Rattle.std.specs.Prelude.{All, IfOk}
 use Rattle.std.specs.List.{AllZip, AllByRecursion}
 use Rattle.std.specs.Map.{keys_of}
 use Rattle.std.specs.List.Sorted.{IsPermutation}
 use Rattle.std.proofs.lemmas.List.{take-append-drop, length-append}
 use Rattle.std.proofs.lemmas.List.Elements.{recursion_from_All, All-from_recursion, All-append}
-use Rattle.wap_base.specs.Contents.{Contents, names_of}
+use Rattle.std.proofs.lemmas.List.Elements.{All-weaker}
+use Rattle.wap_base.specs.Contents.{names_of}
 use Rattle.wap_base.specs.Texts.{AreAscending}
 use Rattle.wap_base.specs.declared.fault.NoMemory.{NoMemory}
-use Rattle.wap_devices.specs.Stores.{StoreSeen, Lists}
+use Rattle.wap_devices.specs.Stores.{StoreSeen, Known, Grew, Lists}
+use Rattle.wap_devices.proofs.Telling.{agrees_before}
 use Rattle.wap_pages.specs.declared.fault.PageFault.{PageFault}
 use Rattle.wap_cli.specs.prepare.Reports.{Entry, AreEntries, IsVerdict, IsEntry}
-use Rattle.wap_cli.specs.Answers.{IsPageOf}
+use Rattle.wap_cli.specs.Answers.{IsPageOf, page_of}
 use Rattle.wap_cli.specs.Memory.{is_of_memory}
-use Rattle.wap_cli.specs.prepare.Fetching.{page_of, Job, IsAnswered}
+use Rattle.wap_cli.specs.prepare.Fetching.{Job, IsAnswered}
 use Rattle.wap_cli.specs.prepare.inside.Jobs.{IsRight}
 use Rattle.wap_cli.proofs.MemoryLemmas.Pages.{page_remembers}
+use Rattle.wap_cli.proofs.ResumeLemmas.Fetching.{page_later}
 
 -- answers that all are there
 pub all_there : (jobs : List Job) (entries : List Entry) (answers : List (Result Entry NoMemory))
@@ -58,11 +61,11 @@ verdict_remembers name None fault is =
 verdict_remembers name (Some bytes) fault refuses = page_remembers name bytes fault refuses
 
 -- and are right for the answers of the store
-entry_right : (contents : Option Contents) (job : Job) (entry : Entry) → IsAnswered contents job
-    → IsRight job entry → IsEntry contents entry
-entry_right contents job entry answered right = record {
+entry_right : (known : Known) (job : Job) (entry : Entry) → IsAnswered known job
+    → IsRight job entry → IsEntry known entry
+entry_right known job entry answered right = record {
   page = page_of job.1;
-  is = subst (λ (name : List ℕ). IsPageOf contents name (page_of job.1)) (sym right.name) answered;
+  is = subst (λ (name : List ℕ). IsPageOf known name (page_of job.1)) (sym right.name) answered;
   verdict =
       subst (λ (name : List ℕ). IsVerdict name (page_of job.1) entry.1) (sym right.name)
       right.verdict;
@@ -72,37 +75,34 @@ entry_right contents job entry answered right = record {
       right.verdict);
 }
 
-pub all_right : (contents : Option Contents) (jobs : List Job) (entries : List Entry)
-    → All (IsAnswered contents) jobs → AllZip IsRight jobs entries
-    → All (IsEntry contents) entries
-all_right contents jobs entries answered right =
-    All-from_recursion (IsEntry contents) entries
-    (by_lists jobs entries (recursion_from_All (IsAnswered contents) jobs answered) right)
+pub all_right : (known : Known) (jobs : List Job) (entries : List Entry)
+    → All (IsAnswered known) jobs → AllZip IsRight jobs entries → All (IsEntry known) entries
+all_right known jobs entries answered right =
+    All-from_recursion (IsEntry known) entries
+    (by_lists jobs entries (recursion_from_All (IsAnswered known) jobs answered) right)
   where
     by_lists : (jobs : List Job) (entries : List Entry)
-        → AllByRecursion (IsAnswered contents) jobs → AllZip IsRight jobs entries
-        → AllByRecursion (IsEntry contents) entries
+        → AllByRecursion (IsAnswered known) jobs → AllZip IsRight jobs entries
+        → AllByRecursion (IsEntry known) entries
     by_lists [] [] answered right = tt
     by_lists [] (entry ∷ entries) answered right = absurd right
     by_lists (job ∷ jobs) [] answered right = absurd right
     by_lists (job ∷ jobs) (entry ∷ entries) answered right = (
-      entry_right contents job entry answered.0 right.0,
+      entry_right known job entry answered.0 right.0,
       by_lists jobs entries answered.1 right.1,
     )
 
 -- so they are the entries of all pages, of which the names were listed
 pub are_entries : {A : Type 0} (names_in : A → List (List ℕ)) (store listed : StoreSeen) (names : A)
-    (entries : List Entry) → Lists names_in store listed (Ok names)
-    → keys_of entries ≡ names_in names → All (IsEntry listed.contents) entries
-    → AreEntries store.contents entries
-are_entries names_in store listed names entries lists same right = record {
+    (entries : List Entry) (after : Known) → Lists names_in store listed (Ok names)
+    → Grew listed.known after → keys_of entries ≡ names_in names → All (IsEntry after) entries
+    → AreEntries after entries
+are_entries names_in store listed names entries after lists grew same right = record {
   ascending = subst AreAscending (sym same) lists.ascending;
-  all =
-      subst (λ (l : List (List ℕ)). IfSome store.contents
-      (λ pages. IsPermutation (names_of pages) l)) (sym same) lists.names;
-  right =
-      subst (λ (contents : Option Contents). All (IsEntry contents) entries)
-      lists.asked.contents right;
+  all = λ pages agrees.
+      subst (λ (l : List (List ℕ)). IsPermutation (names_of pages) l) (sym same)
+      (lists.names pages (agrees_before listed.known after grew pages agrees));
+  right = right;
 }
 
 -- ---- entries that are judged in parts
@@ -132,11 +132,22 @@ left_after entries more all some left rest names k so first last are together =
     (ap₂ (λ (l m : List (List ℕ)). l ++ m) (are ∙ first) last ∙ take-append-drop k left)
     ∙ so
 
+-- an entry that was right earlier is right of what is known later
+still_right : (before after : Known) → Grew before after → (entry : Entry) → IsEntry before entry
+    → IsEntry after entry
+still_right before after grew entry right = record {
+  page = right.page;
+  is = page_later before after grew entry.0 right.page right.is;
+  verdict = right.verdict;
+  of_reason = right.of_reason;
+}
+
 -- all of them are right
-pub right_after : (contents now : Option Contents) (entries more all : List Entry)
-    → All (IsEntry contents) entries → now ≡ contents → All (IsEntry now) more
-    → all ≡ entries ++ more → All (IsEntry contents) all
-right_after contents now entries more all right same more_right together =
-    subst (λ (l : List Entry). All (IsEntry contents) l) (sym together)
-    (All-append (IsEntry contents) entries more right
-    (subst (λ (c : Option Contents). All (IsEntry c) more) same more_right))
+pub right_after : (before after : Known) (entries more all : List Entry) → Grew before after
+    → All (IsEntry before) entries → All (IsEntry after) more → all ≡ entries ++ more
+    → All (IsEntry after) all
+right_after before after entries more all grew right more_right together =
+    subst (All (IsEntry after)) (sym together)
+    (All-append (IsEntry after) entries more
+    (All-weaker (IsEntry before) (IsEntry after) (still_right before after grew) entries right)
+    more_right)

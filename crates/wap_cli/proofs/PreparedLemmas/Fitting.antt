@@ -1,12 +1,31 @@
--- Pages that are ready to be shared are those of a site.
+-- Pages that are ready to be shared are those of a site, and stay.
+use Rattle.std.proofs.Common.{[], refl, ap, subst, sym}
+use Rattle.std.specs.List.{IsDistinct}
 use Rattle.std.specs.Map.{keys_of}
+use Rattle.wap_base.specs.Contents.{Contents}
 use Rattle.wap_base.proofs.Orders.{distinct_from_ascending}
 use Rattle.wap_world.specs.site.Pages.{Pages, AreSitePages}
-use Rattle.wap_cli.specs.prepared.Prepared.{ArePrepared}
+use Rattle.wap_world.specs.site.Asking.{MayBe, Stays}
+use Rattle.wap_cli.specs.prepared.Prepared.{ArePrepared, shared_seen}
 
 -- none of their names stands twice
 pub fit : (pages : Pages) → ArePrepared pages → AreSitePages pages
 fit pages prepared = record {
   distinct = distinct_from_ascending (keys_of pages) prepared.ascending;
   there = prepared.there;
+}
+
+-- whatever pages these may be are those of a site
+pub fit_all : (seen : Pages) → ArePrepared seen → (pages : Pages) → MayBe (shared_seen seen) pages
+    → AreSitePages pages
+fit_all seen prepared pages may = subst AreSitePages (sym may.are) (fit seen prepared)
+
+-- after any calls they may be what they were
+pub still : (before after : Pages) → Stays (shared_seen before) (shared_seen after)
+    → MayBe (shared_seen after) before
+unfolding IsDistinct
+still before after stays = record {
+  contents = [];
+  agrees = record { distinct = tt; fits = refl };
+  are = ap (λ (judge : Contents → Pages). judge []) (sym stays.judge);
 }

@@ -1,13 +1,12 @@
 -- How replaying ends.
-use Rattle.std.proofs.Common.{◌≡◌, ◌≢◌, ℕ, ◌+◌, ◌≤◌, List, Option, Some, None, Ok, Err}
+use Rattle.std.proofs.Common.{◌≡◌, ◌≢◌, ℕ, ◌+◌, ◌≤◌, List, Ok, Err}
 use Rattle.std.proofs.Common.{inl, inr, refl, sym, ap, subst, ◌∙◌, arith}
-use Rattle.std.specs.Prelude.{IfSome, length}
-use Rattle.wap_base.specs.Contents.{Contents}
 use Rattle.wap_base.specs.declared.fault.NoMemory.{NoMemory as OutOfMemory}
 use Rattle.wap_devices.specs.Stores.{StoreSeen}
-use Rattle.wap_devices.specs.Sources.{SourceSeen}
+use Rattle.wap_devices.specs.Sources.{SourceSeen, MayGive}
 use Rattle.wap_devices.specs.Sinks.{SinkSeen, Puts}
 use Rattle.wap_devices.specs.Transfer.{Appends, AppendsPrefix}
+use Rattle.wap_devices.proofs.Telling.{grew_nothing}
 use Rattle.wap_devices.specs.declared.fault.Failed.{Failed}
 use Rattle.wap_base.specs.declared.key.Key.{Key}
 use Rattle.wap_keys.specs.declared.limits.TheConstants.{KEYS_LIMIT}
@@ -15,11 +14,10 @@ use Rattle.wap_keys.specs.declared.fault.KeyFault.{KeyFault}
 use Rattle.wap_keys.specs.declared.fault.KeyFault.TheVariants as key
 use Rattle.wap_keys.specs.declared.ending.Ending.{Ending}
 use Rattle.wap_keys.specs.declared.ending.Ending.TheVariants as ending
-use Rattle.wap_keys.specs.Read.{TakesAtMost, AtMostOnce}
+use Rattle.wap_keys.specs.Read.{TakesAtMost, EndsAtMostOnce}
 use Rattle.wap_keys.specs.lists.Lists.{all_of, lists_of}
 use Rattle.wap_keys.specs.lists.Read.{AreRead, ReadsLists}
 use Rattle.wap_pages.specs.declared.fault.PageFault.{PageFault}
-use Rattle.wap_world.specs.site.Asking.{raised_by}
 use Rattle.wap_world.specs.Sites.{Site}
 use Rattle.wap_world.specs.Sessions.{Begun}
 use Rattle.wap_cli.specs.declared.status.Status.{Status}
@@ -27,12 +25,13 @@ use Rattle.wap_cli.specs.declared.status.Status.TheVariants.{Done, Usage, Refuse
 use Rattle.wap_cli.specs.declared.status.Status.TheVariants.{KeyReadFault, WriteFault, NoMemory}
 use Rattle.wap_cli.specs.declared.status.Status.TheVariants.{BadKey, OpenDialog, TooManyKeys}
 use Rattle.wap_cli.specs.Statuses.{IsOrWants}
-use Rattle.wap_cli.specs.prepare.Working.{WorksOnAll, IsOfFolder, AsksWithin}
+use Rattle.wap_cli.specs.prepare.Working.{WorksOnAll, IsOfFolder}
 use Rattle.wap_cli.specs.prepare.Writing.{PutsTo}
 use Rattle.wap_cli.specs.replay.Outside.{Outside}
-use Rattle.wap_cli.specs.replay.Texts.{replayed, site_of_store}
+use Rattle.wap_cli.specs.replay.Texts.{replayed}
 use Rattle.wap_cli.specs.replay.Headline.{ended, AllRead, IsSiteOf, ReplaysSeen}
 use Rattle.wap_cli.specs.replay.inside.Jobs.{TellsOf}
+use Rattle.wap_cli.proofs.PrepareLemmas.Ending.{none_asked}
 
 -- ---- a text that was written
 
@@ -52,14 +51,6 @@ module _ {A : Type 0} (text other : List ℕ) (same : text ≡ other) (before af
       (record { wrote = puts.prefix; counts = puts.counts; rose = puts.failed })
 
 -- ---- nothing was asked of the store
-
-none_asked : (store : StoreSeen) → AsksWithin store store
-none_asked store = by store.contents
-  where
-    by : (contents : Option Contents) → IfSome contents (λ pages.
-        (more : ℕ) × (more ≤ length pages) × (store.fetches ≡ raised_by more store.fetches))
-    by None = tt
-    by (Some pages) = (0, omega arith, refl)
 
 -- keys that came to an end say which
 ended_is : (a b : Ending) → ended a ≡ ended b → a ≡ b
@@ -116,14 +107,10 @@ of_keys ending.ReadFault differs = record {
   closed = λ e. cc;
 }
 
--- where the bytes are known, what their lists end with is the status
-or_wants : (left : Option (List ℕ)) (by : Ending) (status : Status)
-    → IfSome left (λ bytes. (lists_of bytes).ending ≡ by)
-    → IsOrWants (ended by) status
-    → IfSome left (λ bytes. IsOrWants (ended (lists_of bytes).ending) status)
-or_wants None by status is so = tt
-or_wants (Some bytes) by status is so =
-    subst (λ (e : Ending). IsOrWants (ended e) status) (sym is) so
+-- what lists end with is the status
+or_wants : (said by : Ending) (status : Status) → said ≡ by → IsOrWants (ended by) status
+    → IsOrWants (ended said) status
+or_wants said by status is so = subst (λ (e : Ending). IsOrWants (ended e) status) (sym is) so
 
 of_line_by : (by : Ending) → ((line : ℕ) → by ≢ ending.BadKey line key.NoMemory)
     → (line : ℕ) → ended by ≢ BadKey line key.NoMemory
@@ -132,7 +119,7 @@ of_line_by by none line e = none line (ended_is by (ending.BadKey line key.NoMem
 -- where memory ran out before the store was asked
 pub wanting : (begun : Begun) (source last : SourceSeen) (store : StoreSeen) (sink : SinkSeen)
     → last.faults ≡ source.faults → TakesAtMost (KEYS_LIMIT + 1) source last
-    → source.faults ≤ last.faults → AtMostOnce source.ends last.ends
+    → source.faults ≤ last.faults → EndsAtMostOnce source last
     → ReplaysSeen begun (record { store = store; source = source; sink = sink })
     (record { store = store; source = last; sink = sink }) NoMemory
 wanting begun source last store sink unread few counts end_once = record {
@@ -154,15 +141,15 @@ wanting begun source last store sink unread few counts end_once = record {
   store_steady = λ read other. refl;
   read_steady = λ e. unread;
   write_steady = λ e. refl;
-  complete = λ whole. wanted source.left;
+  complete = λ whole bytes may. inr refl;
   command = λ e. cc;
   accepted = λ why e. cc;
   closed = λ e. cc;
   of_line = λ line e. cc;
   listed = λ e. absurd cc;
   once = inl refl;
-  asked = none_asked store;
-  kept = refl;
+  asked = none_asked store store refl;
+  kept = grew_nothing store.known store.known refl;
   store_counts = omega arith;
   read_counts = counts;
   write_counts = omega arith;
@@ -175,11 +162,6 @@ wanting begun source last store sink unread few counts end_once = record {
     no_end (ending.BadKey line why) e = cc
     no_end ending.TooManyKeys e = cc
     no_end ending.ReadFault e = cc
-
-    wanted : (left : Option (List ℕ))
-        → IfSome left (λ bytes. IsOrWants (ended (lists_of bytes).ending) NoMemory)
-    wanted None = tt
-    wanted (Some bytes) = inr refl
 
 module _ {A : Type 0} (lists_in : A → List (List Key)) (begun : Begun) (source last : SourceSeen)
     (store : StoreSeen) (sink : SinkSeen) where
@@ -206,10 +188,9 @@ module _ {A : Type 0} (lists_in : A → List (List Key)) (begun : Begun) (source
         done = λ e. absurd (is.done e);
         prefix = λ e. absurd (is.write e);
         unwritten = λ undone other. refl;
-        keys = λ other some e.
+        keys = λ other some e bytes may.
             let same = ended_is by other e in
-            subst (λ (x : Ending). IfSome source.left (λ bytes. (lists_of bytes).ending ≡ x)) same
-            (read.ending_is (λ fails. some (sym same ∙ fails)));
+            read.ending_is (λ fails. some (sym same ∙ fails)) bytes may ∙ same;
         too_many = λ e. read.too_many (ended_is by ending.TooManyKeys e);
         given = λ e. read.given (ended_is by ending.ReadFault e);
         prompt = λ other. read.prompt;
@@ -224,17 +205,17 @@ module _ {A : Type 0} (lists_in : A → List (List Key)) (begun : Begun) (source
         store_steady = λ read other. refl;
         read_steady = λ differs. read.steady (λ fails. differs (ap ended fails));
         write_steady = λ e. refl;
-        complete = λ whole.
-            or_wants source.left by (ended by)
-            (read.ending_is (λ fails. whole.source (read.failed fails))) (inl refl);
+        complete = λ whole bytes may.
+            or_wants (lists_of bytes).ending by (ended by)
+            (read.ending_is (λ fails. whole.source (read.failed fails)) bytes may) (inl refl);
         command = is.used;
         accepted = is.refused;
         closed = is.closed;
         of_line = of_line_by by read.of_line;
         listed = λ e. absurd (is.done e);
         once = inl refl;
-        asked = none_asked store;
-        kept = refl;
+        asked = none_asked store store refl;
+        kept = grew_nothing store.known store.known refl;
         store_counts = omega arith;
         read_counts = reads.counts;
         write_counts = omega arith;
@@ -255,29 +236,21 @@ many_differ e = cc
 pub fault_differs : ending.ReadFault ≢ ending.End
 fault_differs e = cc
 
--- what was written of the lists, where both are known
-tells_both : (begun : Begun) (store : StoreSeen) (left : Option (List ℕ)) (lists : List (List Key))
-    (Wrote : List ℕ → Type 0) → IfSome left (λ bytes. all_of (lists_of bytes) ≡ lists)
-    → TellsOf begun lists store.contents Wrote → (site : Site) → IsSiteOf store site
-    → IfSome left (λ bytes. Wrote (replayed site begun (all_of (lists_of bytes))))
-tells_both begun store left lists Wrote same told site (contents, known, is) = by left same
-  where
-    over : Wrote (replayed site begun lists)
-    over =
-        subst (λ (s : Site). Wrote (replayed s begun lists)) (sym is)
-        (subst (λ (c : Option Contents).
-        IfSome c (λ pages. Wrote (replayed (site_of_store pages) begun lists))) known told)
-
-    by : (left : Option (List ℕ)) → IfSome left (λ bytes. all_of (lists_of bytes) ≡ lists)
-        → IfSome left (λ bytes. Wrote (replayed site begun (all_of (lists_of bytes))))
-    by None same = tt
-    by (Some bytes) same =
-        subst (λ (l : List (List Key)). Wrote (replayed site begun l)) (sym same) over
+-- what was written of the lists, over whatever both may be
+tells_both : (begun : Begun) (store : StoreSeen) (source last : SourceSeen)
+    (lists : List (List Key)) (Wrote : List ℕ → Type 0)
+    → ((bytes : List ℕ) → MayGive source last bytes → all_of (lists_of bytes) ≡ lists)
+    → TellsOf begun lists store.known Wrote → (site : Site) → IsSiteOf store site
+    → (bytes : List ℕ) → MayGive source last bytes
+    → Wrote (replayed site begun (all_of (lists_of bytes)))
+tells_both begun store source last lists Wrote same told site (contents, agrees, is) bytes may =
+    subst (λ (l : List (List Key)). Wrote (replayed site begun l)) (sym (same bytes may))
+    (subst (λ (s : Site). Wrote (replayed s begun lists)) (sym is) (told contents agrees))
 
 module _ {A : Type 0} (lists_in : A → List (List Key)) (begun : Begun) (lists : A)
     (source last : SourceSeen) (store store_after : StoreSeen) (sink sink_after : SinkSeen)
     (reads : ReadsLists {A = A} lists_in source last (Ok (lists, ending.End))) (status : Status)
-    (works : WorksOnAll (TellsOf begun (lists_in lists) store.contents) store store_after sink
+    (works : WorksOnAll (TellsOf begun (lists_in lists) store_after.known) store store_after sink
     sink_after status) where
   read : AreRead source last (lists_in lists) ending.End
   read = reads.read
@@ -306,15 +279,13 @@ module _ {A : Type 0} (lists_in : A → List (List Key)) (begun : Begun) (lists 
       (record { store = store_after; source = last; sink = sink_after }) status
   worked = record {
     done = λ e.
-        tells_both begun store source.left (lists_in lists)
-        (Appends sink.written sink_after.written) (read.all refl) (works.done e);
+        tells_both begun store_after source last (lists_in lists)
+        (Appends sink.taken sink_after.taken) (read.all refl) (works.done e);
     prefix = λ e.
-        tells_both begun store source.left (lists_in lists)
-        (AppendsPrefix sink.written sink_after.written) (read.all refl) (works.prefix e);
+        tells_both begun store_after source last (lists_in lists)
+        (AppendsPrefix sink.taken sink_after.taken) (read.all refl) (works.prefix e);
     unwritten = works.unwritten;
-    keys = λ by differs e.
-        subst (λ (x : Ending). IfSome source.left (λ bytes. (lists_of bytes).ending ≡ x))
-        (sym (by_end by e)) (read.ending_is no_read);
+    keys = λ by differs e bytes may. read.ending_is no_read bytes may ∙ sym (by_end by e);
     too_many = λ e. absurd (not_so TooManyKeys (λ none. none) e);
     given = λ e. absurd (not_so KeyReadFault (λ none. none) e);
     prompt = λ other. read.prompt;
@@ -329,8 +300,8 @@ module _ {A : Type 0} (lists_in : A → List (List Key)) (begun : Begun) (lists 
     store_steady = works.store_steady;
     read_steady = λ e. read.steady no_read;
     write_steady = works.write_steady;
-    complete = λ whole.
-        or_wants source.left ending.End status (read.ending_is no_read)
+    complete = λ whole bytes may.
+        or_wants (lists_of bytes).ending ending.End status (read.ending_is no_read bytes may)
         (works.complete whole.store whole.sink);
     command = not_so Usage (λ none. none);
     accepted = λ fault. not_so (Refused fault) (λ none. none);

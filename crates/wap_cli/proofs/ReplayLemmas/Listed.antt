@@ -1,7 +1,7 @@
 -- Pages that a store answered for names, and that are judged.
-use Rattle.std.proofs.Common.{◌≡◌, ℕ, Bool, true, false, cond, List, [], ◌∷◌, map, Option, Some}
-use Rattle.std.proofs.Common.{None, Result, Ok, refl, sym, ap, ap₂, subst, ◌∙◌}
-use Rattle.std.specs.Prelude.{All, IfOk, IfSome}
+use Rattle.std.proofs.Common.{◌≡◌, ℕ, Bool, true, false, cond, List, [], ◌∷◌, map}
+use Rattle.std.proofs.Common.{Result, Ok, refl, sym, ap, ap₂, subst, ◌∙◌}
+use Rattle.std.specs.Prelude.{All, IfOk}
 use Rattle.std.specs.List.{AllZip, AllByRecursion}
 use Rattle.std.specs.Map.{keys_of}
 use Rattle.std.proofs.lemmas.List.Elements.{recursion_from_All, All-from_recursion}
@@ -9,6 +9,7 @@ use Rattle.std.specs.List.Sorted.{IsStrictlySortedBy}
 use Rattle.wap_base.specs.Contents.{Contents}
 use Rattle.wap_base.specs.Texts.{byte_cmp, AreAscending}
 use Rattle.wap_base.specs.declared.fault.NoMemory.{NoMemory}
+use Rattle.wap_devices.specs.Stores.{Known, Agrees}
 use Rattle.wap_world.specs.site.Pages.{Pages, IsThere}
 use Rattle.wap_world.specs.declared.site.page.Page.{Page}
 use Rattle.wap_world.specs.declared.site.page.Page.TheVariants as page
@@ -44,30 +45,29 @@ same_names (job ∷ jobs) (one ∷ pages) right =
     ap₂ (λ (name : List ℕ) (names : List (List ℕ)). name ∷ names) right.0.name
     (same_names jobs pages right.1)
 
--- and are those of the contents
-judged_by : (contents : Contents) (jobs : List Job) (pages : Pages)
-    → AllByRecursion (IsAnswered (Some contents)) jobs → AllZip IsJudged jobs pages
-    → pages ≡ map (judged_name contents) (keys_of jobs)
-judged_by contents [] [] answered right = refl
-judged_by contents [] (one ∷ pages) answered right = absurd right
-judged_by contents (job ∷ jobs) [] answered right = absurd right
-judged_by contents (job ∷ jobs) (one ∷ pages) answered right =
-    ap₂ (λ (first : List ℕ × Page) (l : Pages). first ∷ l)
-    (ap₂ (λ (n : List ℕ) (p : Page). pair n p) right.0.name
-    (right.0.page ∙ ap (page_where job.0) answered.0))
-    (judged_by contents jobs pages answered.1 right.1)
-  where
-    pair : List ℕ → Page → List ℕ × Page
-    pair n p = (n, p)
+module _ (known : Known) (contents : Contents) (agrees : Agrees known contents) where
+  -- and are those of whatever contents the store may have
+  judged_by : (jobs : List Job) (pages : Pages) → AllByRecursion (IsAnswered known) jobs
+      → AllZip IsJudged jobs pages → pages ≡ map (judged_name contents) (keys_of jobs)
+  judged_by [] [] answered right = refl
+  judged_by [] (one ∷ pages) answered right = absurd right
+  judged_by (job ∷ jobs) [] answered right = absurd right
+  judged_by (job ∷ jobs) (one ∷ pages) answered right =
+      ap₂ (λ (first : List ℕ × Page) (l : Pages). first ∷ l)
+      (ap₂ (λ (n : List ℕ) (p : Page). pair n p) right.0.name
+      (right.0.page ∙ ap (page_where job.0) (answered.0 contents agrees)))
+      (judged_by jobs pages answered.1 right.1)
+    where
+      pair : List ℕ → Page → List ℕ × Page
+      pair n p = (n, p)
 
-pub named_pages : (contents : Option Contents) (jobs : List Job) (pages found : Pages)
-    (names : List (List ℕ)) → All (IsAnswered contents) jobs → AllZip IsJudged jobs pages
-    → keys_of jobs ≡ names → found ≡ present pages
-    → IfSome contents (λ known. found ≡ pages_named known names)
-named_pages None jobs pages found names answered right same is = tt
-named_pages (Some contents) jobs pages found names answered right same is =
-    is ∙ ap present (judged_by contents jobs pages
-    (recursion_from_All (IsAnswered (Some contents)) jobs answered) right
+pub named_pages : (known : Known) (jobs : List Job) (pages found : Pages) (names : List (List ℕ))
+    → All (IsAnswered known) jobs → AllZip IsJudged jobs pages → keys_of jobs ≡ names
+    → found ≡ present pages
+    → (contents : Contents) → Agrees known contents → found ≡ pages_named contents names
+named_pages known jobs pages found names answered right same is contents agrees =
+    is ∙ ap present (judged_by known contents agrees jobs pages
+    (recursion_from_All (IsAnswered known) jobs answered) right
     ∙ ap (map (judged_name contents)) same)
 
 -- ---- those that are there

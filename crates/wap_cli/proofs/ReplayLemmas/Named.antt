@@ -2,7 +2,7 @@
 use Rattle.std.proofs.Common.{◌≡◌, ◌≢◌, ℕ, Bool, true, false, cond, List, [], ◌∷◌, map, Option}
 use Rattle.std.proofs.Common.{Some, None, refl, sym, ap, subst, ◌∙◌}
 use mathlib.Core.Path.{fun_ext}
-use Rattle.std.specs.Prelude.{IfSome, is_some, option_map, ◌||◌}
+use Rattle.std.specs.Prelude.{is_some, option_map, ◌||◌}
 use Rattle.std.specs.List.{list_any}
 use Rattle.std.specs.List.Sorted.{IsPermutation}
 use Rattle.std.specs.Map.{keys_of, lookup}
@@ -13,6 +13,8 @@ use Rattle.std.proofs.lemmas.Map.Made.{lookup-map_values, is_some-lookup}
 use Rattle.wap_base.specs.Contents.{Contents, names_of, page_named}
 use Rattle.wap_base.specs.Texts.{is_same_text, AreAscending, AreDistinct}
 use Rattle.wap_base.proofs.Orders.{distinct_from_ascending}
+use Rattle.wap_devices.specs.Stores.{Known, Agrees, Grew}
+use Rattle.wap_devices.proofs.Telling.{agrees_before}
 use Rattle.wap_world.specs.site.Pages.{Pages, page_under}
 use Rattle.wap_world.specs.declared.site.page.Page.{Page}
 use Rattle.wap_world.specs.declared.site.page.Page.TheVariants as page
@@ -126,21 +128,19 @@ module _ (found : (name bytes : List ℕ) → page_of_bytes name bytes ≢ page.
       ∙ ap (option_map unit_page) (same_page name)
       ∙ sym (lookup-map_values unit_page (λ other. is_same_text other name) (judged contents)))
 
--- so what is written of lists over them is what is written over the pages of the store
+-- so what is written of lists over them is what is written over whatever pages the store may have
 pub tells_named : ((name bytes : List ℕ) → page_of_bytes name bytes ≢ page.Missing)
-    → (contents listed : Option Contents) (names given : List (List ℕ)) (pages : Pages)
-    (begun : Begun) (lists : List (List Key)) → AreAscending names
-    → IfSome contents (λ known. IsPermutation (names_of known) names) → listed ≡ contents
-    → given ≡ names → IfSome listed (λ known. pages ≡ pages_named known given)
+    → (listed after : Known) (names given : List (List ℕ)) (pages : Pages) (begun : Begun)
+    (lists : List (List Key)) → AreAscending names
+    → ((contents : Contents) → Agrees listed contents → IsPermutation (names_of contents) names)
+    → Grew listed after → given ≡ names
+    → ((contents : Contents) → Agrees after contents → pages ≡ pages_named contents given)
     → (Wrote : List ℕ → Type 0) → Wrote (replayed (site_of (unit_pages pages)) begun lists)
-    → TellsOf begun lists contents Wrote
-tells_named found None listed names given pages begun lists ascending all same gives named Wrote
-    wrote = tt
-tells_named found (Some contents) listed names given pages begun lists ascending all same gives
-    named Wrote wrote =
-    let are : pages ≡ pages_named contents names =
-    subst (λ (l : Option Contents). IfSome l (λ known. pages ≡ pages_named known given)) same named
-    ∙ ap (pages_named contents) gives in
+    → TellsOf begun lists after Wrote
+tells_named found listed after names given pages begun lists ascending all grew gives named Wrote
+    wrote contents agrees =
     subst (λ (site : Site). Wrote (replayed site begun lists))
-    (ap (λ (p : Pages). site_of (unit_pages p)) are
-    ∙ named_site found contents names ascending all) wrote
+    (ap (λ (p : Pages). site_of (unit_pages p))
+    (named contents agrees ∙ ap (pages_named contents) gives)
+    ∙ named_site found contents names ascending
+    (all contents (agrees_before listed after grew contents agrees))) wrote

@@ -1,7 +1,7 @@
 -- What is said of lists of keys over the sites of a store is said of them over others that are such
 -- sites; and where nothing was done, memory ran out.
-use Rattle.std.proofs.Common.{ℕ, ◌+◌, Option, Some, None, List, [], refl, inl, arith}
-use Rattle.wap_devices.specs.Transfer.{TakesFrom}
+use Rattle.std.proofs.Common.{◌+◌, [], refl, inl, arith}
+use Rattle.wap_devices.proofs.Transfers.{Appends-nil}
 use Rattle.wap_devices.specs.Sources.{SourceSeen}
 use Rattle.wap_keys.specs.declared.limits.TheConstants.{KEYS_LIMIT}
 use Rattle.wap_keys.specs.Read.{TakesAtMost}
@@ -56,16 +56,12 @@ module _ (IsSite IsSiteToo : Site → Type 0) (same : (site : Site) → IsSiteTo
 
 -- ---- where nothing was done
 
-from_none : (left : Option (List ℕ)) → TakesFrom left left []
-from_none None = refl
-from_none (Some bytes) = refl
-
 -- no byte was taken
 takes_none : (seen : SourceSeen) → TakesAtMost (KEYS_LIMIT + 1) seen seen
 takes_none seen = (
   [],
   omega arith,
-  record { left = from_none seen.left; least = omega arith; most = omega arith },
+  record { given = Appends-nil seen.given; coming = λ rest may. may },
 )
 
 -- memory ran out

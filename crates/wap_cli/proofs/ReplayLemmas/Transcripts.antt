@@ -1,5 +1,5 @@
 -- What a list comes to that is played by a session of its own.
-use Rattle.std.proofs.Common.{◌≡◌, ℕ, List, [], ◌∷◌, ◌++◌, Option, Some, refl, sym}
+use Rattle.std.proofs.Common.{◌≡◌, ℕ, List, [], ◌∷◌, ◌++◌, refl, sym}
 use Rattle.std.proofs.Common.{◌+◌, length, ap, ap₂, subst, ◌∙◌, append_assoc, arith, Vec}
 use Rattle.std.specs.Prelude.{is_some}
 use Rattle.std.specs.List.{AllZip, flat_map, enumerate_from}
@@ -9,10 +9,12 @@ use Rattle.wap_base.specs.declared.key.Key.{Key}
 use Rattle.wap_base.specs.declared.key.Key.TheVariants.{Open}
 use Rattle.wap_devices.proofs.Putting.{flat_map-append}
 use Rattle.wap_world.specs.site.Pages.{Pages}
+use Rattle.wap_world.specs.site.Asking.{Seen, MayBe}
 use Rattle.wap_layout.specs.buffer.Written.{line_bytes, lines_bytes}
 use Rattle.wap_world.specs.Steps.{Step}
 use Rattle.wap_world.specs.Sessions.{Begun, shown_by}
-use Rattle.wap_world.specs.scripting.UnitSites.{unit_pages}
+use Rattle.wap_world.specs.scripting.UnitSites.{unit_pages, shelf_of}
+use Rattle.wap_context.specs.Browsers.{IsOver}
 use Rattle.wap_context.specs.Sites.{site_of, IfOver}
 use Rattle.wap_session.specs.handset.Feeding.{State, beginning, Leads, ShowsOn}
 use Rattle.wap_cli.specs.replay.Texts.{alone}
@@ -31,30 +33,29 @@ module _ (pages : Pages) (begun : Begun) (keys : List Key) (first last : State)
   open_is : is_some last.waiting ≡ (alone (site_of (unit_pages pages)) begun keys).is_open
   open_is = goes_on.asks_user ∙ sym (ap (λ (step : Step). step.is_open) (leads.on keys))
 
--- the same, as the calls of a session say it
-pub played_alone : (P : Pages) (after : Option Pages) (begun : Begun) (key : Key) (keys : List Key)
-    (state first last : State) (opened played : List (List ℕ)) → state ≡ beginning begun
-    → key ≡ Open begun.url → after ≡ Some P
-    → IfOver (Some P) state.browser (λ of. Leads (key ∷ []) of state first opened)
-    → IfOver (Some P) state.browser (λ of. ShowsOn (key ∷ []) of state first opened)
-    → IfOver after first.browser (λ of. Leads keys of first last played)
+-- the same, as the calls of a session say it, after each of which these may be the pages
+pub played_alone : (P : Pages) (one two : Seen) (begun : Begun) (key : Key) (keys : List Key)
+    (state first last : State) (opened played : List (List ℕ)) → MayBe one P → MayBe two P
+    → state ≡ beginning begun → key ≡ Open begun.url
+    → IfOver one state.browser (λ of. Leads (key ∷ []) of state first opened)
+    → IfOver one state.browser (λ of. ShowsOn (key ∷ []) of state first opened)
+    → IfOver two first.browser (λ of. Leads keys of first last played)
     → (opened ++ played ≡ shown_by (alone (site_of (unit_pages P)) begun keys))
     × (is_some last.waiting ≡ (alone (site_of (unit_pages P)) begun keys).is_open)
-played_alone P after begun key keys state first last opened played begins opens known leads shows
-    goes_on =
+played_alone P one two begun key keys state first last opened played now later begins opens leads
+    shows goes_on =
+    let of = unit_pages P in
     let leads_on =
-    subst (λ (s : State). IfOver (Some P) s.browser
-    (λ of. Leads (Open begun.url ∷ []) of s first opened)) begins
-    (subst (λ (k : Key). IfOver (Some P) state.browser
-    (λ of. Leads (k ∷ []) of state first opened)) opens leads) refl in
+    subst (λ (s : State). IsOver (shelf_of of) s.browser
+    → Leads (Open begun.url ∷ []) of s first opened) begins
+    (subst (λ (k : Key). IsOver (shelf_of of) state.browser
+    → Leads (k ∷ []) of state first opened) opens (leads P now)) refl in
     let shows_on =
-    subst (λ (s : State). IfOver (Some P) s.browser
-    (λ of. ShowsOn (Open begun.url ∷ []) of s first opened)) begins
-    (subst (λ (k : Key). IfOver (Some P) state.browser
-    (λ of. ShowsOn (k ∷ []) of state first opened)) opens shows) refl in
-    let on =
-    subst (λ (contents : Option Pages). IfOver contents first.browser
-    (λ of. Leads keys of first last played)) known goes_on leads_on.over in (
+    subst (λ (s : State). IsOver (shelf_of of) s.browser
+    → ShowsOn (Open begun.url ∷ []) of s first opened) begins
+    (subst (λ (k : Key). IsOver (shelf_of of) state.browser
+    → ShowsOn (k ∷ []) of state first opened) opens (shows P now)) refl in
+    let on = goes_on P later leads_on.over in (
       lines_are P begun keys first last opened played leads_on shows_on on,
       open_is P begun keys first last opened played leads_on shows_on on,
     )

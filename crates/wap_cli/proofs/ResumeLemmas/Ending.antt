@@ -1,8 +1,7 @@
 -- How a command ends whose page of the current card is no deck, or isn't got.
-use Rattle.std.proofs.Common.{◌≡◌, ℕ, false, List, [], ◌∷◌, Option, Ok, Err, refl, subst, ◌∙◌}
+use Rattle.std.proofs.Common.{◌≡◌, ℕ, false, List, [], ◌∷◌, Ok, Err, refl, subst, ◌∙◌}
 use Rattle.std.specs.Prelude.{Result}
 use Rattle.wap_base.specs.Count.{Rose}
-use Rattle.wap_base.specs.Contents.{Contents}
 use Rattle.wap_base.specs.declared.fault.RunErr.{RunErr}
 use Rattle.wap_base.specs.declared.fault.RunErr.TheVariants as run_error
 use Rattle.wap_devices.specs.Stores.{StoreSeen}
@@ -12,7 +11,6 @@ use Rattle.wap_image.specs.declared.context_parts.parts.ContextParts.{ContextPar
 use Rattle.wap_world.specs.site.Misses.{Cache}
 use Rattle.wap_world.specs.site.Asking.{Stays}
 use Rattle.wap_world.proofs.SiteLemmas.Asking.{Stays-then}
-use Rattle.wap_pages.specs.declared.fault.PageFault.{PageFault}
 use Rattle.wap_pages.specs.declared.fault.PageFault.TheVariants as page_fault
 use Rattle.wap_pages.specs.Caches.{seen_over}
 use Rattle.wap_context.specs.declared.saved.Revived.{Revived}
@@ -22,7 +20,7 @@ use Rattle.wap_cli.specs.declared.status.Status.{Status}
 use Rattle.wap_cli.specs.declared.status.Status.TheVariants.{Refused, StoreFault, NoMemory}
 use Rattle.wap_cli.proofs.BrowseLemmas.Forgetting.{fresh_over}
 use Rattle.wap_cli.specs.resume.Resuming.{LacksDeck, Unbegun}
-use Rattle.wap_cli.specs.resume.inside.Loading.{IsCause, RefusesDeck}
+use Rattle.wap_cli.specs.resume.inside.Loading.{RefusesDeck}
 use Rattle.wap_cli.proofs.ResumeLemmas.Reviving.{lacks_missing, lacks_deck}
 use Rattle.wap_cli.proofs.ResumeLemmas.Going.{fetched_stays}
 
@@ -36,8 +34,8 @@ module _ (parts : ContextParts) (store mid : StoreSeen) (cache : Cache) (capacit
   forgets : Stays (seen_over store (fresh capacity)) (seen_over mid cache)
       → Stays (seen_over store (fresh capacity)) (seen_over mid (fresh capacity))
   forgets stays = record {
-    contents = stays.contents;
-    behind = stays.behind;
+    known = stays.known;
+    judge = stays.judge;
     capacity = refl;
     listings = stays.listings;
     faults = stays.faults;
@@ -50,7 +48,7 @@ module _ (parts : ContextParts) (store mid : StoreSeen) (cache : Cache) (capacit
 
   -- nothing is begun
   abbrev Ends : Status → Type 0
-  Ends status = Unbegun (LacksDeck store.contents parts) (fresh_over store capacity source sink)
+  Ends status = Unbegun (LacksDeck mid.known parts) (fresh_over store capacity source sink)
       (fresh_over mid capacity source sink) status
 
   -- the store failed
@@ -83,7 +81,7 @@ module _ (parts : ContextParts) (store mid : StoreSeen) (cache : Cache) (capacit
     ends = tt;
     refused = λ fault is.
         let same : page_fault.Missing ≡ fault = cc in
-        subst (LacksDeck store.contents parts) same (lacks_missing parts store.contents made.is);
+        subst (LacksDeck mid.known parts) same (lacks_missing parts mid cache made.is);
     store_fault = λ is. absurd cc;
     steady = λ other some. made.asks.steady;
     stays = forgets made.stays;
@@ -95,14 +93,13 @@ module _ (parts : ContextParts) (store mid : StoreSeen) (cache : Cache) (capacit
   pub refused_ends : (name : List ℕ) (last : StoreSeen) (status : Status)
       → Made (Ok what.Refused) → asked_for parts ≡ (name, false) ∷ []
       → RefusesDeck name mid last status
-      → Unbegun (LacksDeck store.contents parts) (fresh_over store capacity source sink)
+      → Unbegun (LacksDeck last.known parts) (fresh_over store capacity source sink)
       (fresh_over last capacity source sink) status
   refused_ends name last status made asked refuses = record {
     ends = refuses.none.ends;
     refused = λ fault is.
-        lacks_deck parts store.contents name fault made.is asked
-        (subst (λ (contents : Option Contents). IsCause contents name fault) made.stays.behind
-        (refuses.none.refused fault is));
+        lacks_deck parts mid cache last.known refuses.fetched.known name fault made.is asked
+        (refuses.none.refused fault is);
     store_fault = λ is.
         subst (λ (count : ℕ). Rose count last.faults) made.asks.steady (refuses.none.failed is);
     steady = λ other some. refuses.none.steady other some ∙ made.asks.steady;

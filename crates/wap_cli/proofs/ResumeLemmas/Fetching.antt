@@ -1,10 +1,11 @@
 -- What is fetched of a store: what was saved, or the page of a deck.
-use Rattle.std.proofs.Common.{◌≡◌, ℕ, List, Option, Some, None, Ok, Err, refl, sym, ap, subst}
-use Rattle.std.proofs.Common.{inl, inr, ◌∙◌}
-use Rattle.std.specs.Prelude.{Result, IfSome, IfOk, IfErr}
+use Rattle.std.proofs.Common.{◌≡◌, ℕ, List, [], ◌∷◌, Option, Some, None, Ok, Err, refl, sym, ap}
+use Rattle.std.proofs.Common.{subst, inl, inr, ◌∙◌}
+use Rattle.std.specs.Prelude.{Result, IfOk, IfErr}
 use Rattle.wap_base.specs.Contents.{Contents, page_named}
 use Rattle.wap_devices.specs.Contents.{answer_of, answer_for}
-use Rattle.wap_devices.specs.Stores.{StoreSeen, Fetches}
+use Rattle.wap_devices.specs.Stores.{Known, Agrees, StoreSeen, Grew, Fetches}
+use Rattle.wap_devices.proofs.Telling.{grew_nothing, agrees_before}
 use Rattle.wap_devices.specs.declared.store.Fetched.{Fetched}
 use Rattle.wap_devices.specs.declared.store.Fetched.TheVariants as fetched
 use Rattle.wap_devices.specs.declared.store.StoreErr.{StoreErr}
@@ -27,18 +28,31 @@ page_of_answer (Some bytes) = refl
 page_of_answer None = refl
 
 -- what the store answered is the page of the name
-pub found_page : (contents : Option Contents) (name : List ℕ) (answer : Fetched)
-    → IfSome contents (λ pages. answer ≡ answer_for name pages)
-    → IsPageOf contents name (page_of answer)
-found_page None name answer is = tt
-found_page (Some pages) name answer is = ap page_of is ∙ page_of_answer (page_named name pages)
+pub found_page : (known : Known) (name : List ℕ) (answer : Fetched)
+    → ((pages : Contents) → Agrees known pages → answer ≡ answer_for name pages)
+    → IsPageOf known name (page_of answer)
+found_page known name answer is =
+    λ pages agrees. ap page_of (is pages agrees) ∙ page_of_answer (page_named name pages)
+
+-- and is so still where more is known
+pub page_later : (before after : Known) → Grew before after → (name : List ℕ)
+    (page : Option (List ℕ)) → IsPageOf before name page → IsPageOf after name page
+page_later before after grew name page is =
+    λ pages agrees. is pages (agrees_before before after grew pages agrees)
+
+-- what a store told grew by its answer, or stays
+pub asked_grew : (name : List ℕ) (before after : StoreSeen) (result : Result Fetched StoreErr)
+    → Fetches name before after result → Grew before.known after.known
+asked_grew name before after (Ok answer) fetches =
+    record { answers = (name, answer) ∷ []; lists = []; is = fetches.told }
+asked_grew name before after (Err fault) fetches =
+    grew_nothing before.known after.known fetches.asked.untold
 
 -- whatever was answered, one page was asked for
 pub is_fetched : (name : List ℕ) (before after : StoreSeen) (result : Result Fetched StoreErr)
     → Fetches name before after result → IsFetched before after
 is_fetched name before after result fetches = record {
-  contents = fetches.asked.contents;
-  distinct = fetches.asked.distinct;
+  known = asked_grew name before after result fetches;
   fetches = fetches.fetches;
   listings = fetches.listings;
   counts = fetches.asked.counts;
@@ -83,32 +97,32 @@ module _ (Cause : PageFault → Type 0) (before after : StoreSeen) where
 module _ (name : List ℕ) (before after : StoreSeen) where
   -- the bytes of its page, or none
   was_found : (bytes : List ℕ) → Fetches name before after (Ok (fetched.Found bytes))
-      → IsPageOf before.contents name (Some bytes)
-  was_found bytes fetches = found_page before.contents name (fetched.Found bytes) fetches.found
+      → IsPageOf after.known name (Some bytes)
+  was_found bytes fetches = found_page after.known name (fetched.Found bytes) fetches.found
 
   was_missing : Fetches name before after (Ok fetched.Missing)
-      → IsPageOf before.contents name None
-  was_missing fetches = found_page before.contents name fetched.Missing fetches.found
+      → IsPageOf after.known name None
+  was_missing fetches = found_page after.known name fetched.Missing fetches.found
 
   abbrev Hindered : Status → Type 0
-  Hindered status = GivesNone (Hinders before.contents name) before after status
+  Hindered status = GivesNone (Hinders after.known name) before after status
 
   -- the bytes are no image
   pub unread_none : (bytes : List ℕ) (status : Status)
       → Fetches name before after (Ok (fetched.Found bytes)) → IsUnread bytes status
       → Hindered status
   unread_none bytes status fetches (inl is) =
-      subst Hindered (sym is) (gives_up (Hinders before.contents name) before after)
+      subst Hindered (sym is) (gives_up (Hinders after.known name) before after)
   unread_none bytes status fetches (inr (why, is, refused)) =
       subst Hindered (sym is)
-      (gives_cause (Hinders before.contents name) before after (page_fault.Image why)
+      (gives_cause (Hinders after.known name) before after (page_fault.Image why)
       (Hinders.refused bytes why (was_found bytes fetches) refused) fetches.asked.steady)
 
   -- there is none
   pub missing_none : Fetches name before after (Ok fetched.Missing)
       → Hindered (Refused page_fault.Missing)
   missing_none fetches =
-      gives_cause (Hinders before.contents name) before after page_fault.Missing
+      gives_cause (Hinders after.known name) before after page_fault.Missing
       (Hinders.missing (was_missing fetches)) fetches.asked.steady
 
   -- nothing is loaded
@@ -122,7 +136,7 @@ module _ (name : List ℕ) (before after : StoreSeen) where
       → Fetches name before after (Ok (fetched.Found bytes)) → IsImage bytes saved
       → MayBeSaved saved.0 saved.1 → Loads name before after (Ok saved)
   loads_some bytes saved fetches image rules = record {
-    found = (bytes, was_found bytes fetches, image);
+    found = (bytes, fetches.told, was_found bytes fetches, image);
     rules = rules;
     steady = fetches.asked.steady;
     none = tt;
@@ -132,28 +146,28 @@ module _ (name : List ℕ) (before after : StoreSeen) where
   -- ---- the deck
 
   abbrev Undecked : Status → Type 0
-  Undecked status = GivesNone (IsCause before.contents name) before after status
+  Undecked status = GivesNone (IsCause after.known name) before after status
 
   -- its bytes are those of no deck
   pub deck_none : (bytes : List ℕ) (status : Status)
       → Fetches name before after (Ok (fetched.Found bytes)) → IsDeckFault name bytes status
       → Undecked status
   deck_none bytes status fetches (inl is) =
-      subst Undecked (sym is) (gives_up (IsCause before.contents name) before after)
+      subst Undecked (sym is) (gives_up (IsCause after.known name) before after)
   deck_none bytes status fetches (inr (inl (why, is, refused))) =
       subst Undecked (sym is)
-      (gives_cause (IsCause before.contents name) before after why
+      (gives_cause (IsCause after.known name) before after why
       (IsCause.refused bytes why (was_found bytes fetches) refused) fetches.asked.steady)
   deck_none bytes status fetches (inr (inr (is, accepted))) =
       subst Undecked (sym is)
-      (gives_cause (IsCause before.contents name) before after page_fault.NotDeck
+      (gives_cause (IsCause after.known name) before after page_fault.NotDeck
       (IsCause.accepted bytes (was_found bytes fetches) accepted) fetches.asked.steady)
 
   -- there is none any more
   pub deck_gone : Fetches name before after (Ok fetched.Missing)
       → Undecked (Refused page_fault.Missing)
   deck_gone fetches =
-      gives_cause (IsCause before.contents name) before after page_fault.Missing
+      gives_cause (IsCause after.known name) before after page_fault.Missing
       (IsCause.missing (was_missing fetches)) fetches.asked.steady
 
 -- ---- what a fetch comes to
@@ -181,6 +195,19 @@ module _ (name : List ℕ) (before after : StoreSeen) where
       (missing_none name before after fetches)
       (is_fetched name before after (Ok fetched.Missing) fetches)
 
+  -- the store failed, or memory ran out
+  pub loads_fault : Fetches name before after (Err store_error.Failed)
+      → Loads name before after (Err StoreFault)
+  loads_fault fetches = loads_none name before after StoreFault
+      (gives_fault (Hinders after.known name) before after name fetches)
+      (is_fetched name before after (Err store_error.Failed) fetches)
+
+  pub loads_lost : Fetches name before after (Err store_error.NoMemory)
+      → Loads name before after (Err NoMemory)
+  loads_lost fetches = loads_none name before after NoMemory
+      (gives_up (Hinders after.known name) before after)
+      (is_fetched name before after (Err store_error.NoMemory) fetches)
+
   -- the page of the deck was fetched
   pub refuses_found : (bytes slice : List ℕ) (status : Status) → slice ≡ bytes
       → Fetches name before after (Ok (fetched.Found bytes)) → IsDeckFault name slice status
@@ -197,4 +224,19 @@ module _ (name : List ℕ) (before after : StoreSeen) where
   refuses_missing fetches = record {
     none = deck_gone name before after fetches;
     fetched = is_fetched name before after (Ok fetched.Missing) fetches;
+  }
+
+  -- the store failed, or memory ran out
+  pub refuses_fault : Fetches name before after (Err store_error.Failed)
+      → RefusesDeck name before after StoreFault
+  refuses_fault fetches = record {
+    none = gives_fault (IsCause after.known name) before after name fetches;
+    fetched = is_fetched name before after (Err store_error.Failed) fetches;
+  }
+
+  pub refuses_lost : Fetches name before after (Err store_error.NoMemory)
+      → RefusesDeck name before after NoMemory
+  refuses_lost fetches = record {
+    none = gives_up (IsCause after.known name) before after;
+    fetched = is_fetched name before after (Err store_error.NoMemory) fetches;
   }

@@ -1,11 +1,10 @@
 -- A command on what was saved, from its beginning to its end.
-use Rattle.std.proofs.Common.{◌≡◌, ℕ, List, [], Option, Some, None, Ok, refl, sym, ap, subst}
+use Rattle.std.proofs.Common.{◌≡◌, ℕ, List, [], Option, Some, None, Ok, refl, sym, subst}
 use Rattle.std.proofs.Common.{◌∙◌, inl, inr}
-use Rattle.std.specs.Prelude.{IfSome}
 use Rattle.std.specs.Option.{option_map}
 use Rattle.wap_base.specs.Count.{Rose}
 use Rattle.wap_base.specs.Contents.{Contents}
-use Rattle.wap_devices.specs.Stores.{StoreSeen}
+use Rattle.wap_devices.specs.Stores.{StoreSeen, Agrees, Grew}
 use Rattle.wap_devices.specs.Sources.{SourceSeen}
 use Rattle.wap_devices.specs.Sinks.{SinkSeen}
 use Rattle.wap_image.specs.Images.{Saved}
@@ -14,31 +13,34 @@ use Rattle.wap_world.specs.site.Asking.{Stays}
 use Rattle.wap_world.proofs.SiteLemmas.Asking.{Stays-same, Stays-then}
 use Rattle.wap_pages.specs.declared.fault.PageFault.{PageFault}
 use Rattle.wap_pages.specs.Caches.{CachedPages, seen_over}
-use Rattle.wap_pages.specs.Judged.{judged}
 use Rattle.wap_world.specs.Sessions.{Begun, world_of}
 use Rattle.wap_state.specs.Saved.{parts_of}
 use Rattle.wap_cli.specs.declared.status.Status.{Status}
 use Rattle.wap_cli.specs.declared.status.Status.TheVariants.{Refused, NoMemory}
 use Rattle.wap_cli.specs.browse.Outside.{Outside}
-use Rattle.wap_cli.specs.browse.Plays.{AreUnitPages, opened}
+use Rattle.wap_cli.specs.browse.Plays.{opened}
 use Rattle.wap_cli.specs.browse.Headline.{BrowsesSeen}
 use Rattle.wap_cli.proofs.MemoryLemmas.Pages.{hinders_remember}
 use Rattle.wap_cli.proofs.BrowseLemmas.Exits.{nothing_browses}
 use Rattle.wap_cli.proofs.BrowseLemmas.Summary.{browses_by}
-use Rattle.wap_cli.proofs.BrowseLemmas.Forgetting.{fresh_over, outside_over, forget_cache}
+use Rattle.wap_cli.proofs.BrowseLemmas.Forgetting.{may_too, with_cache, forget_cache, fresh_over}
+use Rattle.wap_cli.proofs.BrowseLemmas.Forgetting.{outside_over}
 use Rattle.wap_cli.specs.resume.Saving.{ImagesSeen, unshown}
+use Rattle.wap_cli.specs.Answers.{IsPageOf}
 use Rattle.wap_cli.specs.resume.Resuming.{resumed, HasDeck, LacksDeck, Hinders, Unbegun}
 use Rattle.wap_cli.specs.resume.Resuming.{asked_once, ResumesSeen}
 use Rattle.wap_cli.specs.resume.inside.Loading.{IsFetched, GivesNone, Loads, Continues}
+use Rattle.wap_cli.proofs.ResumeLemmas.Fetching.{page_later}
 
 -- ---- nothing was done
 
 -- where memory ran out before a session was begun
 pub nothing_imaged : (begun : Begun) (old : Outside) → ImagesSeen begun old old NoMemory
 nothing_imaged begun old = record {
+  dropped = [];
   end = NoMemory;
-  plays = browses_by (opened begun) (unshown old) (unshown old) NoMemory
-      (nothing_browses (opened begun) (unshown old));
+  plays = browses_by (opened begun) (unshown [] old) (unshown [] old) NoMemory
+      (nothing_browses (opened begun) (unshown [] old));
   stops = λ undone. (refl, refl);
   parts = parts_of (world_of begun);
   ends_in = λ is. absurd cc;
@@ -63,9 +65,8 @@ unbegun_same Cause old = record {
 pub nothing_resumed : (name : List ℕ) (old : Outside) → ResumesSeen name old old NoMemory
 nothing_resumed name old = record {
   saved = None;
-  is = tt;
   goes_on = tt;
-  stops = λ none. unbegun_same (Hinders old.pages.behind name) old;
+  stops = λ none. unbegun_same (Hinders old.pages.known name) old;
   of_reason = λ fault is. absurd cc;
 }
 
@@ -77,8 +78,8 @@ module _ (before after : StoreSeen) (capacity : ℕ) (source : SourceSeen) (sink
       (seen_over before (record { names = []; capacity = capacity }))
       (seen_over after (record { names = []; capacity = capacity }))
   fetched_stays fetched = record {
-    contents = ap (option_map judged) fetched.contents;
-    behind = fetched.contents;
+    known = fetched.known;
+    judge = refl;
     capacity = refl;
     listings = fetched.listings;
     faults = fetched.counts;
@@ -116,63 +117,65 @@ module _ (name : List ℕ) (before mid after : StoreSeen) (capacity : ℕ)
   now = fresh_over mid capacity source sink
 
   -- nothing was loaded
-  pub resumes_none : GivesNone (Hinders before.contents name) before mid status
+  pub resumes_none : GivesNone (Hinders mid.known name) before mid status
       → IsFetched before mid → ResumesSeen name old now status
   resumes_none none fetched = record {
     saved = None;
-    is = tt;
     goes_on = tt;
     stops = λ is.
-        unbegun_by before mid capacity source sink (Hinders before.contents name) status none
-        fetched;
-    of_reason = λ fault is.
-        hinders_remember before.contents name fault (none.refused fault is);
+        unbegun_by before mid capacity source sink (Hinders mid.known name) status none fetched;
+    of_reason = λ fault is. hinders_remember mid.known name fault (none.refused fault is);
   }
 
-  -- after the fetch the store is as it was, but that it was asked once more
-  fetched_is : IsFetched before mid → mid.faults ≡ before.faults → now ≡ asked_once old
-  fetched_is fetched steady = λ i. fresh_over (record {
-    contents = fetched.contents i;
-    faults = steady i;
-    fetches = fetched.fetches i;
-    listings = fetched.listings i;
+  -- after the fetch the store is as it was, but that it was asked once more, and told the bytes
+  fetched_is : (saved : Saved) (loads : Loads name before mid (Ok saved))
+      → now ≡ asked_once name loads.found.0 old
+  fetched_is saved loads = λ i. fresh_over (record {
+    known = loads.found.1 i;
+    faults = loads.steady i;
+    fetches = loads.fetched.fetches i;
+    listings = loads.fetched.listings i;
   }) capacity source sink
+
+  -- the bytes are still those of any pages that may be the store's
+  page_still : (saved : Saved) (loads : Loads name before mid (Ok saved))
+      → Grew mid.known after.known → IsPageOf after.known name (Some loads.found.0)
+  page_still saved loads grew =
+      page_later mid.known after.known grew name (Some loads.found.0) loads.found.2
 
   -- what was saved went on
   resumes_on : (saved : Saved) → Loads name before mid (Ok saved)
-      → IfSome now.pages.behind (λ contents. HasDeck contents saved.0)
+      → ((pages : Contents) → Agrees after.known pages → HasDeck pages saved.0)
       → BrowsesSeen (resumed saved.0 saved.1) now new status → ResumesSeen name old new status
   resumes_on saved loads deck plays = record {
     saved = Some saved;
-    is = record {
-      bytes = loads.found.0;
-      page = loads.found.1;
-      image = loads.found.2;
-      deck =
-          subst (λ (c : Option Contents). IfSome c (λ contents. HasDeck contents saved.0))
-          loads.fetched.contents deck;
+    goes_on = record {
+      there = record {
+        bytes = loads.found.0;
+        page = page_still saved loads plays.stays.known;
+        image = loads.found.3;
+        deck = deck;
+      };
+      browses = subst (λ (o : Outside). BrowsesSeen (resumed saved.0 saved.1) o new status)
+          (fetched_is saved loads) plays;
     };
-    goes_on = subst (λ (o : Outside). BrowsesSeen (resumed saved.0 saved.1) o new status)
-        (fetched_is loads.fetched loads.steady) plays;
     stops = λ none. absurd cc;
     of_reason = λ fault is. absurd (plays.accepted fault is);
   }
 
   -- its deck isn't there
   hindered : (saved : Saved) → Loads name before mid (Ok saved)
-      → Unbegun (LacksDeck mid.contents saved.0) now new status → (fault : PageFault)
-      → status ≡ Refused fault → Hinders before.contents name fault
+      → Unbegun (LacksDeck after.known saved.0) now new status → (fault : PageFault)
+      → status ≡ Refused fault → Hinders after.known name fault
   hindered saved loads unbegun fault is =
-      Hinders.deckless loads.found.0 saved fault loads.found.1 loads.found.2
-      (subst (λ (c : Option Contents). LacksDeck c saved.0 fault) loads.fetched.contents
-      (unbegun.refused fault is))
+      Hinders.deckless loads.found.0 saved fault (page_still saved loads unbegun.stays.known)
+      loads.found.3 (unbegun.refused fault is)
 
   resumes_not : (saved : Saved) → Loads name before mid (Ok saved)
-      → Unbegun (LacksDeck mid.contents saved.0) now new status
+      → Unbegun (LacksDeck after.known saved.0) now new status
       → ResumesSeen name old new status
   resumes_not saved loads unbegun = record {
     saved = None;
-    is = tt;
     goes_on = tt;
     stops = λ is. record {
       ends = unbegun.ends;
@@ -186,7 +189,7 @@ module _ (name : List ℕ) (before mid after : StoreSeen) (capacity : ℕ)
       unwritten = unbegun.unwritten;
     };
     of_reason = λ fault is.
-        hinders_remember before.contents name fault (hindered saved loads unbegun fault is);
+        hinders_remember after.known name fault (hindered saved loads unbegun fault is);
   }
 
   pub resumes_by : (saved : Saved) → Loads name before mid (Ok saved)
@@ -201,17 +204,20 @@ forget_images : (begun : Begun) (old new : Outside) (status : Status) (cache : O
     → option_map (λ kept. kept.capacity) cache
     ≡ option_map (λ kept. kept.capacity) old.pages.cache
     → ImagesSeen begun old new status
-    → ImagesSeen begun old (record new { pages = record new.pages { cache = cache } }) status
+    → ImagesSeen begun old (with_cache cache new) status
 forget_images begun old new status cache same so = record {
+  dropped = so.dropped;
   end = so.end;
-  plays = forget_cache (AreUnitPages old.pages) (opened begun) (unshown old) (unshown new) so.end
-      cache same so.plays;
+  plays = forget_cache (opened begun) (unshown [] old) (unshown so.dropped new) so.end cache same
+      so.plays;
   stops = so.stops;
   parts = so.parts;
-  ends_in = so.ends_in;
+  ends_in = λ is bytes gives pages (judged, may, are).
+      so.ends_in is bytes gives pages (judged, may_too new.pages cache judged may, are);
   saves = so.saves;
   of_reason = so.of_reason;
-  whole = so.whole;
+  whole = λ is bytes gives pages (judged, may, are).
+      so.whole is bytes gives pages (judged, may_too new.pages cache judged may, are);
 }
 
 module _ {S : Type 0} (seen : S → StoreSeen) where

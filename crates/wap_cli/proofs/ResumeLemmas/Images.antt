@@ -1,8 +1,9 @@
 -- What is written of an image, and what the keys come to that go on from where it was saved.
 use Rattle.std.proofs.Common.{◌≡◌, ◌≢◌, ◌≤◌, ℕ, true, false, List, [], Option, Some, None, Ok, Err}
 use Rattle.std.proofs.Common.{refl, sym, ap, subst, ◌∙◌, inl, inr, arith}
-use Rattle.std.specs.Prelude.{Result, IfSome, Bool, is_none, not, ◌&&◌, if◌then◌else◌}
+use Rattle.std.specs.Prelude.{Result, Bool, is_none, not, ◌&&◌, if◌then◌else◌}
 use Rattle.wap_base.specs.Count.{Rose}
+use Rattle.wap_devices.specs.Sources.{MayGive}
 use Rattle.wap_devices.specs.Sinks.{SinkSeen}
 use Rattle.wap_devices.specs.Transfer.{Appends, AppendsPrefix}
 use Rattle.wap_base.specs.declared.key.Key.{Key}
@@ -18,8 +19,7 @@ use Rattle.wap_pages.specs.declared.fault.PageFault.TheVariants.{Save}
 use Rattle.wap_world.specs.World.{World}
 use Rattle.wap_world.specs.Steps.{then_step}
 use Rattle.wap_world.specs.Sessions.{Begun, world_of}
-use Rattle.wap_world.specs.site.Pages.{Pages as JudgedPages}
-use Rattle.wap_world.specs.scripting.UnitSites.{Pages, unit_pages}
+use Rattle.wap_world.specs.scripting.UnitSites.{Pages}
 use Rattle.wap_world.specs.scripting.Waiting.{Waits}
 use Rattle.wap_context.specs.Sites.{site_of}
 use Rattle.wap_state.specs.Saved.{parts_of}
@@ -38,7 +38,6 @@ use Rattle.wap_cli.specs.declared.status.Status.TheVariants.{Done, Refused, Writ
 use Rattle.wap_cli.specs.browse.Outside.{Outside}
 use Rattle.wap_cli.specs.browse.Plays.{AreUnitPages, opened}
 use Rattle.wap_cli.specs.browse.Resting.{StandsAfter, Rests}
-use Rattle.wap_cli.proofs.BrowseLemmas.Optional.{if_some, some_fact}
 use Rattle.wap_cli.specs.browse.Headline.{BrowsesSeen}
 use Rattle.wap_cli.specs.resume.Saving.{EndsBy, WritesImage, played_in, EndsIn, ImagesSeen}
 use Rattle.wap_cli.specs.resume.Saving.{IsWhole, unshown}
@@ -85,7 +84,7 @@ image_lacks image why sink is =
 
 -- it was written whole
 pub image_done : (image : Result (List ℕ) SaveFault) (bytes : List ℕ) (before after : SinkSeen)
-    → image ≡ Ok bytes → Appends before.written after.written bytes
+    → image ≡ Ok bytes → Appends before.taken after.taken bytes
     → after.faults ≡ before.faults → before.faults ≤ after.faults
     → WritesImage image before after Done
 image_done image bytes before after is wrote same counts =
@@ -102,7 +101,7 @@ image_done image bytes before after is wrote same counts =
 
 -- the sink failed
 pub image_fails : (image : Result (List ℕ) SaveFault) (bytes : List ℕ) (before after : SinkSeen)
-    → image ≡ Ok bytes → AppendsPrefix before.written after.written bytes
+    → image ≡ Ok bytes → AppendsPrefix before.taken after.taken bytes
     → Rose before.faults after.faults → before.faults ≤ after.faults
     → WritesImage image before after WriteFault
 image_fails image bytes before after is wrote rose counts =
@@ -131,30 +130,23 @@ step_closed pages others state is none =
     ∙ ap (λ (pushes : List Indication). (played_with push_at (site_of pages) others
     (record { world = state.browser.world; pushes = pushes })).step) none
 
--- it stands where these keys lead over the pages that are seen
-stands_there : (begun : Begun) (old : Outside) (state : State) → Rests (opened begun) old state
-    → (bytes : List ℕ) → old.source.left ≡ Some bytes → (pages : Pages) → AreUnitPages old.pages pages
+-- it stands where these keys lead, over any pages that may be seen
+stands_there : (begun : Begun) (old new : Outside) (state : State)
+    → Rests (opened begun) old new state → (bytes : List ℕ) → MayGive old.source new.source bytes
+    → (pages : Pages) → AreUnitPages new.pages pages
     → StandsAfter pages (opened begun pages) (keys_of bytes).keys state
-stands_there begun old state rests bytes known pages (judged, there, are) =
-    let keys = (keys_of bytes).keys in
-    subst (λ (p : Pages). StandsAfter p (opened begun p) keys state) (sym are)
-    (some_fact old.pages.contents
-    (λ (j : JudgedPages). StandsAfter (unit_pages j) (opened begun (unit_pages j)) keys state) judged
-    there
-    (some_fact old.source.left (λ b. IfSome old.pages.contents (λ j.
-    StandsAfter (unit_pages j) (opened begun (unit_pages j)) (keys_of b).keys state)) bytes known
-    rests.stands))
+stands_there begun old new state rests bytes gives pages (judged, may, are) =
+    subst (λ (p : Pages). StandsAfter p (opened begun p) (keys_of bytes).keys state) (sym are)
+    (rests.stands bytes gives judged may)
 
 -- the parts of the session are those of the world in which the keys end
-pub ends_in : (begun : Begun) (old : Outside) (state : State) → Rests (opened begun) old state
-    → IfSome old.source.left (λ bytes. (pages : Pages) → AreUnitPages old.pages pages
-    → EndsIn begun pages (keys_of bytes).keys (parts_of state.browser.world))
-ends_in begun old state rests = if_some old.source.left
-    (λ bytes. (pages : Pages) → AreUnitPages old.pages pages
-    → EndsIn begun pages (keys_of bytes).keys (parts_of state.browser.world))
-    (λ bytes known pages are.
+ends_in : (begun : Begun) (old new : Outside) (state : State)
+    → Rests (opened begun) old new state → (bytes : List ℕ) → MayGive old.source new.source bytes
+    → (pages : Pages) → AreUnitPages new.pages pages
+    → EndsIn begun pages (keys_of bytes).keys (parts_of state.browser.world)
+ends_in begun old new state rests bytes gives pages are =
     let keys = (keys_of bytes).keys in
-    let stands = stands_there begun old state rests bytes known pages are in
+    let stands = stands_there begun old new state rests bytes gives pages are in
     record {
       parts_are = ap (λ (w : World). parts_of w) stands.world;
       outside = stands.outside;
@@ -162,19 +154,7 @@ ends_in begun old state rests = if_some old.source.left
           ∙ ap (then_step (opened begun pages keys))
           (step_closed pages others state rests.waiting (stands.unpushed none)
           ∙ ap (λ (w : World). played_in w pages others) stands.world);
-    })
-
--- and are all of that world
-whole_in : (begun : Begun) (old : Outside) (state : State) → Rests (opened begun) old state
-    → IsWhole (parts_of state.browser.world) state.browser.world
-    → IfSome old.source.left (λ bytes. (pages : Pages) → AreUnitPages old.pages pages
-    → IsWhole (parts_of state.browser.world) (opened begun pages (keys_of bytes).keys).world)
-whole_in begun old state rests whole = if_some old.source.left
-    (λ bytes. (pages : Pages) → AreUnitPages old.pages pages
-    → IsWhole (parts_of state.browser.world) (opened begun pages (keys_of bytes).keys).world)
-    (λ bytes known pages are.
-    subst (λ (w : World). IsWhole (parts_of state.browser.world) w)
-    (stands_there begun old state rests bytes known pages are).world whole)
+    }
 
 -- ---- the command
 
@@ -227,10 +207,12 @@ image_remembers parts budget status fault =
     by false short bytes ends e = by_cause Drawn refl ends e
 
 -- the keys didn't end outside a dialog
-pub images_undone : (begun : Begun) (old new : Outside) (status : Status) → status ≢ Done
-    → BrowsesSeen (opened begun) (unshown old) (unshown new) status → new.sink ≡ old.sink
-    → ImagesSeen begun old new status
-images_undone begun old new status undone plays same = record {
+pub images_undone : (begun : Begun) (old new : Outside) (dropped : List ℕ) (status : Status)
+    → status ≢ Done
+    → BrowsesSeen (opened begun) (unshown [] old) (unshown dropped new) status
+    → new.sink ≡ old.sink → ImagesSeen begun old new status
+images_undone begun old new dropped status undone plays same = record {
+  dropped = dropped;
   end = status;
   plays = plays;
   stops = λ other. (refl, same);
@@ -242,24 +224,30 @@ images_undone begun old new status undone plays same = record {
 }
 
 -- they did, and the context was to be saved
-pub images_done : (begun : Begun) (old new : Outside) (state : State) (context : Browser)
-    (end status : Status) → end ≡ Done
-    → BrowsesSeen (opened begun) (unshown old) (unshown new) end
-    → Rests (opened begun) (unshown old) state → context ≡ state.browser
+pub images_done : (begun : Begun) (old new : Outside) (dropped : List ℕ) (state : State)
+    (context : Browser) (end status : Status) → end ≡ Done
+    → BrowsesSeen (opened begun) (unshown [] old) (unshown dropped new) end
+    → Rests (opened begun) (unshown [] old) (unshown dropped new) state → context ≡ state.browser
     → WritesImage (image_of (parts_of context.world) begun.budget) old.sink new.sink status
     → (status ≡ Done → IsWhole (parts_of context.world) context.world)
     → ImagesSeen begun old new status
-images_done begun old new state context end status done plays rests is writes whole = record {
-  end = Done;
-  plays = subst (λ (s : Status). BrowsesSeen (opened begun) (unshown old) (unshown new) s) done
-      plays;
-  stops = λ other. absurd (other refl);
-  parts = parts_of state.browser.world;
-  ends_in = λ so. ends_in begun (unshown old) state rests;
-  saves = λ so. subst (λ (browser : Browser). WritesImage
-      (image_of (parts_of browser.world) begun.budget) old.sink new.sink status) is writes;
-  of_reason = λ fault.
-      image_remembers (parts_of context.world) begun.budget status fault writes.ends;
-  whole = λ so. whole_in begun (unshown old) state rests
-      (subst (λ (browser : Browser). IsWhole (parts_of browser.world) browser.world) is (whole so));
-}
+images_done begun old new dropped state context end status done plays rests is writes whole =
+    let after = unshown dropped new in
+    record {
+      dropped = dropped;
+      end = Done;
+      plays =
+          subst (λ (s : Status). BrowsesSeen (opened begun) (unshown [] old) after s) done plays;
+      stops = λ other. absurd (other refl);
+      parts = parts_of state.browser.world;
+      ends_in = λ so. ends_in begun (unshown [] old) after state rests;
+      saves = λ so. subst (λ (browser : Browser). WritesImage
+          (image_of (parts_of browser.world) begun.budget) old.sink new.sink status) is writes;
+      of_reason = λ fault.
+          image_remembers (parts_of context.world) begun.budget status fault writes.ends;
+      whole = λ so bytes gives pages are.
+          subst (λ (w : World). IsWhole (parts_of state.browser.world) w)
+          (stands_there begun (unshown [] old) after state rests bytes gives pages are).world
+          (subst (λ (browser : Browser). IsWhole (parts_of browser.world) browser.world) is
+          (whole so));
+    }

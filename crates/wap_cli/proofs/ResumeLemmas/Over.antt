@@ -1,20 +1,17 @@
 -- What was saved goes on over the pages of a store, of which none is kept at first.
-use Rattle.std.proofs.Common.{◌≡◌, ℕ, List, [], ◌∷◌, false, Option, Some, None, Ok, refl, sym, subst}
-use Rattle.std.proofs.Common.{inl, inr}
-use Rattle.std.specs.Prelude.{Result, IfSome}
-use Rattle.std.specs.Option.{option_map}
-use Rattle.wap_base.specs.Contents.{Contents, names_of}
-use Rattle.wap_base.specs.Texts.{AreDistinct}
+use Rattle.std.proofs.Common.{◌≡◌, ℕ, List, [], ◌∷◌, false, Some, Ok, refl, sym, subst, inl, inr}
+use Rattle.std.specs.Prelude.{Result}
 use Rattle.wap_base.specs.declared.fault.RunErr.{RunErr}
 use Rattle.wap_devices.specs.Stores.{StoreSeen}
+use Rattle.wap_devices.proofs.Telling.{grew_nothing, agrees_before}
 use Rattle.wap_devices.specs.Sources.{SourceSeen}
 use Rattle.wap_devices.specs.Sinks.{SinkSeen}
 use Rattle.wap_image.specs.Images.{Saved}
-use Rattle.wap_world.specs.site.Pages.{AreSitePages}
-use Rattle.wap_world.specs.site.Asking.{Seen}
+use Rattle.wap_world.specs.site.Misses.{Cache}
+use Rattle.wap_world.specs.site.Pages.{Pages as JudgedPages, AreSitePages}
+use Rattle.wap_world.specs.site.Asking.{Seen, MayBe, Stays, Asks}
 use Rattle.wap_pages.specs.declared.fault.PageFault.TheVariants as page_fault
 use Rattle.wap_pages.specs.Caches.{CachedPages, cache_of, seen_over}
-use Rattle.wap_pages.specs.Judged.{judged}
 use Rattle.wap_pages.proofs.Judgements.{judged_pages_fit}
 use Rattle.wap_context.specs.Browsers.{Browser}
 use Rattle.wap_context.specs.declared.saved.Revived.{Revived}
@@ -25,22 +22,21 @@ use Rattle.wap_session.specs.handset.Feeding.{State, with_session}
 use Rattle.wap_cli.specs.declared.status.Status.{Status}
 use Rattle.wap_cli.specs.declared.status.Status.TheVariants.{Refused, NoMemory}
 use Rattle.wap_cli.specs.browse.Outside.{Outside}
-use Rattle.wap_cli.specs.browse.Plays.{Play, AreUnitPages}
+use Rattle.wap_cli.specs.browse.Plays.{Play}
 use Rattle.wap_cli.specs.browse.Headline.{BrowsesSeen}
 use Rattle.wap_cli.specs.browse.Standing.{Moved, outside_of, Browsed}
-use Rattle.wap_cli.proofs.BrowseLemmas.Forgetting.{fresh_over, outside_over, forget_cache}
+use Rattle.wap_cli.proofs.BrowseLemmas.Forgetting.{forget_cache, fresh_over, outside_over}
 use Rattle.wap_cli.specs.resume.Resuming.{resumed, LacksDeck}
-use Rattle.wap_cli.specs.resume.inside.Loading.{HasDistinctNames, RefusesDeck, Continues}
+use Rattle.wap_cli.specs.resume.inside.Loading.{RefusesDeck, Continues}
 use Rattle.wap_cli.proofs.ResumeLemmas.Reviving.{browsed_by, has_deck}
 use Rattle.wap_cli.proofs.ResumeLemmas.Going.{unbegun_same}
 use Rattle.wap_cli.proofs.ResumeLemmas.Ending.{fresh, missing_ends, refused_ends}
 
--- contents in which no name stands twice are judged to pages of a site
-are_there : (contents : Option Contents)
-    → IfSome contents (λ known. AreDistinct (names_of known))
-    → IfSome (option_map judged contents) AreSitePages
-are_there (Some known) distinct = judged_pages_fit known distinct
-are_there None distinct = tt
+-- pages that may be seen over a store are those of a site
+site_seen : (store : StoreSeen) (cache : Cache) (pages : JudgedPages)
+    → MayBe (seen_over store cache) pages → AreSitePages pages
+site_seen store cache pages may =
+    subst AreSitePages (sym may.are) (judged_pages_fit may.contents may.agrees.distinct)
 
 module _ {S : Type 0} (seen : S → StoreSeen) (saved : Saved) (first : CachedPages S) (store : S)
     (capacity : ℕ) (source : SourceSeen) (sink : SinkSeen)
@@ -72,6 +68,26 @@ module _ {S : Type 0} (seen : S → StoreSeen) (saved : Saved) (first : CachedPa
   made_there last result =
       subst (λ (at : Seen). Revives saved.0 at (later last) result) seen_first
 
+  -- at first, were what is known later known already
+  abbrev known_already : CachedPages S → Seen
+  known_already cached = record before { known = (seen cached.store).known }
+
+  asks_already : (mid : CachedPages S) → Asks (asked_for saved.0) before (later mid)
+      → Asks (asked_for saved.0) (known_already mid) (later mid)
+  asks_already mid asks =
+      record { cache = asks.cache; fetches = asks.fetches; steady = asks.steady }
+
+  stays_already : (mid : CachedPages S) → Stays before (later mid)
+      → Stays (known_already mid) (later mid)
+  stays_already mid stays = record {
+    known = grew_nothing (seen mid.store).known (seen mid.store).known refl;
+    judge = refl;
+    capacity = stays.capacity;
+    listings = stays.listings;
+    faults = stays.faults;
+    fetches = stays.fetches;
+  }
+
   -- the page of the current card is missing
   pub missing_over : (last : CachedPages S) (back : S) → back ≡ last.store
       → Revives saved.0 (later first) (later last) (Ok what.Missing)
@@ -93,8 +109,7 @@ module _ {S : Type 0} (seen : S → StoreSeen) (saved : Saved) (first : CachedPa
 
   -- the session goes on
   pub context_over : (browser : Browser) (mid last : CachedPages S) (back : S) (handset : State)
-      (source_after : SourceSeen) (sink_after : SinkSeen) (status : Status)
-      → HasDistinctNames (seen store) → back ≡ last.store
+      (source_after : SourceSeen) (sink_after : SinkSeen) (status : Status) → back ≡ last.store
       → Revives saved.0 (later first) (later mid) (Ok (what.Context browser))
       → handset ≡ with_session (going_on browser saved.1)
       → ((play : Play) (from : Moved)
@@ -102,22 +117,28 @@ module _ {S : Type 0} (seen : S → StoreSeen) (saved : Saved) (first : CachedPa
       → BrowsesSeen play (outside_of from source) (outside_over seen last source_after sink_after)
       status)
       → Comes back source_after sink_after status
-  context_over browser mid last back handset source_after sink_after status distinct is made begun
-      plays =
-      let play = resumed saved.0 saved.1 in
-      let from : Moved = record { pages = before; sink = sink } in
+  context_over browser mid last back handset source_after sink_after status is made begun plays =
       let now : Moved = record { pages = later mid; sink = sink } in
       let there = made_there mid (Ok (what.Context browser)) made in
-      let are = are_there (seen store).contents distinct in
-      let browsed : Browsed play [] from now handset =
-      subst (λ (state : State). Browsed play [] from now state) (sym begun)
-      (browsed_by saved.0 saved.1 from now browser are there.is there.asks there.stays refl) in
+      let on : (pages : Seen) → Asks (asked_for saved.0) pages (later mid) → Stays pages (later mid)
+      → BrowsesSeen (resumed saved.0 saved.1)
+      (record { pages = pages; source = source; sink = sink })
+      (outside_over seen last source_after sink_after) status =
+      λ pages asks stays.
+      let from : Moved = record { pages = pages; sink = sink } in
+      plays (resumed saved.0 saved.1) from
+      (subst (Browsed (resumed saved.0 saved.1) [] from now) (sym begun)
+      (browsed_by saved.0 saved.1 from now browser (site_seen (seen mid.store) (cache_of mid))
+      there.is asks stays refl)) in
       subst (λ (s : S). Comes s source_after sink_after status) (sym is)
       (inl (
-        has_deck saved.0 saved.1 (seen store).contents browser are there.is,
-        forget_cache (AreUnitPages before) play old
+        λ contents agrees. has_deck saved.0 saved.1 (seen mid.store) (cache_of mid) browser there.is
+            contents
+            (agrees_before (seen mid.store).known (seen last.store).known (on (known_already mid)
+            (asks_already mid there.asks) (stays_already mid there.stays)).stays.known contents agrees),
+        forget_cache (resumed saved.0 saved.1) old
             (outside_over seen last source_after sink_after) status (Some (fresh capacity)) refl
-            (plays play from browsed),
+            (on before there.asks there.stays),
       ))
 
 -- memory ran out before anything was asked for
@@ -128,5 +149,5 @@ pub lost_over : {S : Type 0} (seen : S → StoreSeen) (saved : Saved) (store bac
 lost_over {S = S} seen saved store back capacity source sink is =
     subst (λ (s : S). Continues saved (fresh_over (seen store) capacity source sink)
     (fresh_over (seen s) capacity source sink) NoMemory) (sym is)
-    (inr (unbegun_same (LacksDeck (seen store).contents saved.0)
+    (inr (unbegun_same (LacksDeck (seen store).known saved.0)
     (fresh_over (seen store) capacity source sink)))

@@ -3,10 +3,12 @@ use Rattle.std.proofs.Common.{◌≡◌, ◌≢◌, ℕ, false, List, [], ◌∷
 use Rattle.std.proofs.Common.{None, refl, sym, ap, subst, ◌∙◌, map}
 use Rattle.std.proofs.lemmas.List.{append-nil}
 use Rattle.std.specs.Prelude.{IfSome}
-use Rattle.std.specs.Option.{option_map, option_map_or, option_and_then, option_to_list}
+use Rattle.std.specs.Option.{option_map_or, option_and_then, option_to_list}
 use Rattle.wap_base.specs.Contents.{Contents, page_named}
 use Rattle.wap_url.specs.Printing.{name_for}
 use Rattle.wap_tokens.specs.declared.markup.deck.Deck.{Deck}
+use Rattle.wap_devices.specs.Stores.{Known, Agrees, StoreSeen, Grew}
+use Rattle.wap_devices.proofs.Telling.{agrees_before}
 use Rattle.wap_devices.specs.Transfer.{Appends}
 use Rattle.wap_devices.specs.Sinks.{SinkSeen}
 use Rattle.wap_devices.proofs.Transfers.{Appends-nil}
@@ -16,12 +18,14 @@ use Rattle.wap_image.specs.declared.context_parts.parts.ContextParts.{ContextPar
 use Rattle.wap_world.specs.declared.site.page.Page.{Page}
 use Rattle.wap_world.specs.declared.site.page.Page.TheVariants as page
 use Rattle.wap_world.specs.site.Pages.{Pages as JudgedPages, page_of, AreSitePages}
-use Rattle.wap_world.specs.site.Misses.{Asked}
-use Rattle.wap_world.specs.site.Asking.{Stays, Asks}
+use Rattle.wap_world.specs.site.Misses.{Cache, Asked}
+use Rattle.wap_world.specs.site.Asking.{Seen, MayBe, Stays, Asks}
 use Rattle.wap_pages.specs.declared.fault.PageFault.{PageFault}
 use Rattle.wap_pages.specs.declared.fault.PageFault.TheVariants as page_fault
-use Rattle.wap_pages.specs.Judged.{judged, page_where, IsDeckPage}
+use Rattle.wap_pages.specs.Judged.{judged, page_where}
+use Rattle.wap_pages.specs.Caches.{seen_over}
 use Rattle.wap_pages.proofs.Judgements.{page_of-judged, page_there, page_deck, deck_page}
+use Rattle.wap_pages.proofs.Judgements.{judged_pages_fit}
 use Rattle.wap_world.specs.declared.history.Entry.{Entry}
 use Rattle.wap_world.specs.Shelves.{Shelf}
 use Rattle.wap_world.specs.World.{World, last_entry, deck_at, deck_in}
@@ -117,26 +121,28 @@ HasPage pages parts = IfSome (last_entry (saved_world parts))
     (λ entry. (deck : Deck) × (page_of (name_for entry.url) pages ≡ page.Deck deck))
 
 -- it has its deck, and stands in the world over the pages
-made_by : (parts : ContextParts) (turns : ℕ) (pages : JudgedPages) (browser : Browser)
-    → AreSitePages pages → IsRevived parts (Some pages) (Context browser)
+made_by : (parts : ContextParts) (turns : ℕ) (seen : Seen) (pages : JudgedPages)
+    (browser : Browser) → MayBe seen pages → AreSitePages pages
+    → IsRevived parts seen (Context browser)
     → ((going_on browser turns).browser.world
     ≡ world_over (shelf_of (unit_pages pages)) (world_with parts turns)) × HasPage pages parts
-made_by parts turns pages browser are made =
+made_by parts turns seen pages browser may are made =
     let shelf = shelf_of (unit_pages pages) in
     let last = last_entry (saved_world parts) in
+    let found = made.found pages may in
     let (world, deck) = context_by shelf parts made.answer browser last turns made.is
     (if_some last (λ entry. (d : Deck) → made.answer ≡ page.Deck d
     → deck_at shelf entry.url ≡ Some d)
     (λ entry is d answer. deck_there pages (name_for entry.url) d are
-    (sym (some_fact last (λ e. made.answer ≡ page_of (name_for e.url) pages) entry is made.found)
+    (sym (some_fact last (λ e. made.answer ≡ page_of (name_for e.url) pages) entry is found)
     ∙ answer))) in (
       world,
       if_some last (λ entry. (d : Deck) × (page_of (name_for entry.url) pages ≡ page.Deck d))
           (λ entry is.
           let (d, answer) = some_fact last (λ e. (x : Deck) × (made.answer ≡ page.Deck x)) entry is deck in (
             d,
-            sym (some_fact last (λ e. made.answer ≡ page_of (name_for e.url) pages) entry is
-                made.found) ∙ answer,
+            sym (some_fact last (λ e. made.answer ≡ page_of (name_for e.url) pages) entry is found)
+                ∙ answer,
           )),
     )
 
@@ -184,33 +190,28 @@ stands_by parts turns pages old now state over alone empty world asks unwritten 
       asks = subst (λ (asked : List Asked). Asks asked old.pages now.pages)
           (sym (ap (λ (s : Step). asked_for parts ++ s.asked) none ∙ append-nil (asked_for parts)))
           asks;
-      wrote = subst (λ (s : Step). Appends old.sink.written now.sink.written (bytes_of s))
+      wrote = subst (λ (s : Step). Appends old.sink.taken now.sink.taken (bytes_of s))
           (sym none)
-          (subst (λ (s : SinkSeen). Appends old.sink.written s.written []) (sym unwritten)
-          (Appends-nil old.sink.written));
+          (subst (λ (s : SinkSeen). Appends old.sink.taken s.taken []) (sym unwritten)
+          (Appends-nil old.sink.taken));
       unpushed = λ none. empty;
     })
 
 -- so far nothing failed, and the session stands at its beginning
 pub browsed_by : (parts : ContextParts) (turns : ℕ) (old now : Moved) (browser : Browser)
-    → IfSome old.pages.contents AreSitePages → IsRevived parts old.pages.contents (Context browser)
+    → ((judged : JudgedPages) → MayBe now.pages judged → AreSitePages judged)
+    → IsRevived parts now.pages (Context browser)
     → Asks (asked_for parts) old.pages now.pages → Stays old.pages now.pages
     → now.sink ≡ old.sink
     → Browsed (resumed parts turns) [] old now (with_session (going_on browser turns))
 browsed_by parts turns old now browser are made asks stays unwritten = record {
-  stands = if_some old.pages.contents
-      (λ pages. Stands (unit_pages pages) (resumed parts turns (unit_pages pages)) [] old now
-      (with_session (going_on browser turns)))
-      (λ pages known.
-      let made_there : IsRevived parts (Some pages) (Context browser) =
-      subst (λ (c : Option JudgedPages). IsRevived parts c (Context browser)) known made in
-      stands_by parts turns (unit_pages pages) old now (with_session (going_on browser turns))
-      made_there.over refl refl
-      ((made_by parts turns pages browser
-      (some_fact old.pages.contents AreSitePages pages known are) made_there).0
+  stands = λ judged may.
+      stands_by parts turns (unit_pages judged) old now (with_session (going_on browser turns))
+      (made.over judged may) refl refl
+      ((made_by parts turns now.pages judged browser may (are judged may) made).0
       ∙ ap (λ (shelf : Shelf). world_over shelf (world_with parts turns))
-      (sym (site_shelf (unit_pages pages))))
-      asks unwritten);
+      (sym (site_shelf (unit_pages judged))))
+      asks unwritten;
   ready = refl;
   stays = stays;
   steady = asks.steady;
@@ -238,17 +239,19 @@ deck_in_contents parts contents has =
     deck_where contents name deck (page_named name contents) refl
     (sym (page_of-judged name contents) ∙ answer))
 
-pub has_deck : (parts : ContextParts) (turns : ℕ) (contents : Option Contents)
-    (browser : Browser) → IfSome (option_map judged contents) AreSitePages
-    → IsRevived parts (option_map judged contents) (Context browser)
-    → IfSome contents (λ known. HasDeck known parts)
-has_deck parts turns contents browser are made = if_some contents (λ known. HasDeck known parts)
-    (λ known is.
-    let there : option_map judged contents ≡ Some (judged known) = ap (option_map judged) is in
-    deck_in_contents parts known
-    (made_by parts turns (judged known) browser
-    (some_fact (option_map judged contents) AreSitePages (judged known) there are)
-    (subst (λ (c : Option JudgedPages). IsRevived parts c (Context browser)) there made)).1)
+-- pages that may be a store's may be seen over it, as they are judged
+may_see : (store : StoreSeen) (cache : Cache) (contents : Contents) → Agrees store.known contents
+    → MayBe (seen_over store cache) (judged contents)
+may_see store cache contents agrees =
+    record { contents = contents; agrees = agrees; are = refl }
+
+pub has_deck : (parts : ContextParts) (turns : ℕ) (store : StoreSeen) (cache : Cache)
+    (browser : Browser) → IsRevived parts (seen_over store cache) (Context browser)
+    → (contents : Contents) → Agrees store.known contents → HasDeck contents parts
+has_deck parts turns store cache browser made contents agrees =
+    deck_in_contents parts contents
+    (made_by parts turns (seen_over store cache) (judged contents) browser
+    (may_see store cache contents agrees) (judged_pages_fit contents agrees.distinct) made).1
 
 -- ---- no session
 
@@ -265,35 +268,31 @@ unnamed : (name : List ℕ) (found : Option (List ℕ)) → page_where name foun
 unnamed name (Some bytes) is = absurd (page_there name bytes is)
 unnamed name None is = refl
 
--- the page of the last entry, where the contents are known
-answered : (parts : ContextParts) (contents : Option Contents) (one : Revived)
-    (made : IsRevived parts (option_map judged contents) one) (entry : Entry)
-    → last_entry (saved_world parts) ≡ Some entry → (known : Contents) → contents ≡ Some known
-    → page_of (name_for entry.url) (judged known) ≡ made.answer
-answered parts contents one made entry is known there =
-    let last = last_entry (saved_world parts) in
-    sym (some_fact last (λ e. made.answer ≡ page_of (name_for e.url) (judged known)) entry is
-    (some_fact (option_map judged contents)
-    (λ all. IfSome last (λ e. made.answer ≡ page_of (name_for e.url) all)) (judged known)
-    (ap (option_map judged) there) made.found))
+-- the page of the last entry, in any pages that may be the store's
+answered : (parts : ContextParts) (store : StoreSeen) (cache : Cache) (one : Revived)
+    (made : IsRevived parts (seen_over store cache) one) (entry : Entry)
+    → last_entry (saved_world parts) ≡ Some entry
+    → (contents : Contents) → Agrees store.known contents
+    → page_of (name_for entry.url) (judged contents) ≡ made.answer
+answered parts store cache one made entry is contents agrees =
+    sym (some_fact (last_entry (saved_world parts))
+    (λ e. made.answer ≡ page_of (name_for e.url) (judged contents)) entry is
+    (made.found (judged contents) (may_see store cache contents agrees)))
 
 -- the page of the last entry is missing
-pub lacks_missing : (parts : ContextParts) (contents : Option Contents)
-    → IsRevived parts (option_map judged contents) Missing
-    → LacksDeck contents parts page_fault.Missing
-lacks_missing parts contents made =
-    let last = last_entry (saved_world parts) in
+pub lacks_missing : (parts : ContextParts) (store : StoreSeen) (cache : Cache)
+    → IsRevived parts (seen_over store cache) Missing
+    → LacksDeck store.known parts page_fault.Missing
+lacks_missing parts store cache made =
     let (entry, is, none) = missing_by (record { world = saved_world parts; deck = None })
-    (saved_world parts) made.answer last made.is in
+    (saved_world parts) made.answer (last_entry (saved_world parts)) made.is in
     let name = name_for entry.url in
     record {
       name = name;
       asked = asked_entry parts entry is;
-      deckless = IsDeckless.missing
-          (if_some contents (λ known. None ≡ page_named name known)
-          (λ known there.
-          sym (unnamed name (page_named name known) (sym (page_of-judged name known)
-          ∙ answered parts contents Missing made entry is known there ∙ none))));
+      deckless = IsDeckless.missing (λ contents agrees.
+          sym (unnamed name (page_named name contents) (sym (page_of-judged name contents)
+          ∙ answered parts store cache Missing made entry is contents agrees ∙ none)));
     }
 
 -- the name that is asked for first
@@ -307,12 +306,12 @@ names_same : (one other : List ℕ)
 unfolding first_name
 names_same one other is = ap first_name is
 
--- or it is no deck, for the cause that its bytes are judged for
-pub lacks_deck : (parts : ContextParts) (contents : Option Contents) (name : List ℕ)
-    (why : PageFault) → IsRevived parts (option_map judged contents) Refused
-    → asked_for parts ≡ (name, false) ∷ [] → IsCause contents name why
-    → LacksDeck contents parts why
-lacks_deck parts contents name why made asked cause =
+-- or it is no deck, for the cause that its bytes are judged for when it is fetched again
+pub lacks_deck : (parts : ContextParts) (store : StoreSeen) (cache : Cache) (later : Known)
+    → Grew store.known later → (name : List ℕ) (why : PageFault)
+    → IsRevived parts (seen_over store cache) Refused
+    → asked_for parts ≡ (name, false) ∷ [] → IsCause later name why → LacksDeck later parts why
+lacks_deck parts store cache later grew name why made asked cause =
     let last = last_entry (saved_world parts) in
     let (entry, is, there, undecked) =
     refused_by (record { world = saved_world parts; deck = None }) (saved_world parts) made.answer
@@ -322,27 +321,25 @@ lacks_deck parts contents name why made asked cause =
     record {
       name = name;
       asked = asked;
-      deckless = deckless_by contents name why made.answer
-          (λ known so.
-          subst (λ (n : List ℕ). page_of n (judged known) ≡ made.answer) same
-          (answered parts contents Refused made entry is known so)) undecked cause;
+      deckless = deckless_by why made.answer
+          (λ contents agrees.
+          subst (λ (n : List ℕ). page_of n (judged contents) ≡ made.answer) same
+          (answered parts store cache Refused made entry is contents
+          (agrees_before store.known later grew contents agrees))) undecked cause;
     }
   where
-    deckless_by : (contents : Option Contents) (name : List ℕ) (why : PageFault) (answer : Page)
-        → ((known : Contents) → contents ≡ Some known → page_of name (judged known) ≡ answer)
+    deckless_by : (why : PageFault) (answer : Page)
+        → ((contents : Contents) → Agrees later contents → page_of name (judged contents) ≡ answer)
         → ((deck : Deck) → answer ≢ page.Deck deck)
-        → IsCause contents name why → IsDeckless contents name why
-    deckless_by contents name _ answer is undecked (IsCause.missing none) =
-        IsDeckless.missing none
-    deckless_by contents name _ answer is undecked (IsCause.refused bytes one there refused) =
+        → IsCause later name why → IsDeckless later name why
+    deckless_by _ answer is undecked (IsCause.missing none) = IsDeckless.missing none
+    deckless_by _ answer is undecked (IsCause.refused bytes one there refused) =
         IsDeckless.refused bytes one there refused
-    deckless_by contents name _ answer is undecked (IsCause.accepted bytes there accepted) =
+    deckless_by _ answer is undecked (IsCause.accepted bytes there accepted) =
         IsDeckless.other bytes there (record {
           accepted = accepted;
-          other = if_some contents (λ known. (deck : Deck) → ¬ IsDeckPage name bytes deck)
-              (λ known so deck is_deck.
-              undecked deck (sym (is known so) ∙ page_of-judged name known
-              ∙ ap (page_where name)
-              (sym (some_fact contents (λ all. Some bytes ≡ page_named name all) known so there))
-              ∙ deck_page name bytes deck is_deck));
+          other = λ contents agrees deck is_deck.
+              undecked deck (sym (is contents agrees) ∙ page_of-judged name contents
+              ∙ ap (page_where name) (sym (there contents agrees))
+              ∙ deck_page name bytes deck is_deck);
         })

@@ -32,7 +32,7 @@ first_misses play keys cache count = misses (first_asked play keys count) cache
 -- these keys were played to their end
 pub record IsPlayed (play : List Key → Step) (keys : List Key) (old new : Outside) : Type 0 where
   -- exactly the lines of their step were written
-  pub wrote : Appends old.sink.written new.sink.written (bytes_of (play keys))
+  pub wrote : Appends old.sink.taken new.sink.taken (bytes_of (play keys))
   -- and the store was asked exactly for what the cache didn't keep
   pub asked : IfSome old.pages.cache (λ cache. new.pages.fetches
       ≡ raised_by (misses (play keys).asked cache) old.pages.fetches)

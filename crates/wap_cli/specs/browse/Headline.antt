@@ -1,8 +1,8 @@
 -- What it comes to that keys are read and played: what is written, what is asked for, and how it
 -- ends. This project's own.
 use Rattle.std.specs.Prelude.{◌≡◌, ◌≢◌, ℕ, ◌+◌, ◌≤◌, Bool, List, [], ◌++◌, length}
-use Rattle.std.specs.Prelude.{Some, IfSome}
 use Rattle.wap_base.specs.Count.{Rose}
+use Rattle.wap_devices.specs.Sources.{MayGive}
 use Rattle.wap_devices.specs.Transfer.{AppendsPrefix}
 use Rattle.wap_base.specs.declared.key.Key.{Key}
 use Rattle.wap_keys.specs.declared.limits.TheConstants.{KEYS_LIMIT}
@@ -12,7 +12,7 @@ use Rattle.wap_keys.specs.declared.ending.Ending.{Ending}
 use Rattle.wap_keys.specs.declared.ending.Ending.TheVariants as ending
 use Rattle.wap_keys.specs.Lines.{keys_of, keys_at}
 use Rattle.wap_keys.specs.Read.{AreFirst, keys_among, rose, IsPrompt, IsAtLast, TakesAtMost}
-use Rattle.wap_keys.specs.Read.{AtMostOnce}
+use Rattle.wap_keys.specs.Read.{EndsAtMostOnce}
 use Rattle.wap_pages.specs.declared.fault.PageFault.{PageFault}
 use Rattle.wap_world.specs.site.Asking.{Stays}
 use Rattle.wap_world.specs.Steps.{Step}
@@ -37,7 +37,7 @@ pub record NothingFails (old new : Outside) : Type 0 where
 pub record Shows (play : List Key → Step) (bytes : List ℕ) (given : List Key) (old new : Outside)
     (status : Status) : Type 0 where
   -- with any status no more than a prefix of the lines of all keys
-  pub prefix : AppendsPrefix old.sink.written new.sink.written
+  pub prefix : AppendsPrefix old.sink.taken new.sink.taken
       (bytes_of (play (keys_of bytes).keys))
   -- the lines of the keys that were given, where the keys came to an end
   pub played : (is_open : Bool) (ending : Ending) → status ≡ ended is_open ending
@@ -54,14 +54,14 @@ pub record Shows (play : List Key → Step) (bytes : List ℕ) (given : List Key
   pub complete : NothingFails old new → IsOrWants
       (ended (play (keys_of bytes).keys).is_open (keys_of bytes).ending) status
 
--- what a source with these bytes gave, and how it ended by them
+-- what a source gave that may have these bytes, and how it ended by them
 pub record Reads {P : Type 0} (Are : P → Type 0) (play : P → List Key → Step) (bytes : List ℕ)
     (old new : Outside) (status : Status) : Type 0 where
   -- of the bytes these were taken, and these are left
   pub taken : List ℕ
   pub rest : List ℕ
   pub split : bytes ≡ taken ++ rest
-  pub left_is : new.source.left ≡ Some rest
+  pub given_is : new.source.given ≡ old.source.given ++ taken
   -- one after the other these keys were given, the first that the whole lines among them say
   pub given : List Key
   pub first : AreFirst given (keys_among (rose old.source.ends new.source.ends) taken)
@@ -94,8 +94,9 @@ pub record Reads {P : Type 0} (Are : P → Type 0) (play : P → List Key → St
 -- outside after, and the status
 pub record Browses {P : Type 0} (Are : P → Type 0) (play : P → List Key → Step)
     (old new : Outside) (status : Status) : Type 0 where
-  -- what was read and written, where the bytes of keys are known
-  pub known : IfSome old.source.left (λ bytes. Reads Are play bytes old new status)
+  -- what was read and written, for all bytes of keys that may be those of the source
+  pub reads : (bytes : List ℕ) → MayGive old.source new.source bytes
+      → Reads Are play bytes old new status
   -- these statuses come only where a count of faults rose
   pub store_fault : status ≡ StoreFault → Rose old.pages.faults new.pages.faults
   pub read_fault : status ≡ KeyReadFault → Rose old.source.faults new.source.faults
@@ -116,8 +117,8 @@ pub record Browses {P : Type 0} (Are : P → Type 0) (play : P → List Key → 
   pub write_counts : old.sink.faults ≤ new.sink.faults
   -- no more bytes of keys are taken than one too many, and the source gives its end once at most
   pub few : TakesAtMost (KEYS_LIMIT + 1) old.source new.source
-  pub end_once : AtMostOnce old.source.ends new.source.ends
+  pub end_once : EndsAtMostOnce old.source new.source
 
--- the same over the pages that are seen
+-- the same over any pages that those that are seen may be afterwards
 abbrev pub BrowsesSeen : Play → Outside → Outside → Status → Type 0
-BrowsesSeen play old new status = Browses (AreUnitPages old.pages) play old new status
+BrowsesSeen play old new status = Browses (AreUnitPages new.pages) play old new status

@@ -1,10 +1,10 @@
 -- What keys come to over pages. This project's own.
-use Rattle.std.specs.Prelude.{◌≡◌, ◌≢◌, ℕ, List, Some}
+use Rattle.std.specs.Prelude.{◌≡◌, ◌≢◌, ℕ, List}
 use Rattle.std.specs.List.{AllByRecursion}
 use Rattle.wap_base.specs.declared.key.Key.{Key}
 use Rattle.wap_base.specs.declared.key.Key.TheVariants.{Push}
 use Rattle.wap_world.specs.site.Pages.{Pages as JudgedPages}
-use Rattle.wap_world.specs.site.Asking.{Seen}
+use Rattle.wap_world.specs.site.Asking.{Seen, MayBe}
 use Rattle.wap_world.specs.Steps.{Step}
 use Rattle.wap_world.specs.Sessions.{Begun}
 use Rattle.wap_world.specs.scripting.UnitSites.{Pages, unit_pages}
@@ -16,10 +16,10 @@ use Rattle.wap_context.specs.Sites.{site_of}
 abbrev pub Play : Type 0
 Play = Pages → List Key → Step
 
--- the pages are those that are seen, where these are known
+-- these may be the pages that are seen
 abbrev pub AreUnitPages : Seen → Pages → Type 0
 AreUnitPages seen pages =
-    (judged : JudgedPages) × (seen.contents ≡ Some judged) × (pages ≡ unit_pages judged)
+    (judged : JudgedPages) × MayBe seen judged × (pages ≡ unit_pages judged)
 
 -- where a session with an inbox begins so: its URL is opened before they are played
 abbrev pub opened : Begun → Play

@@ -1,7 +1,10 @@
 -- Where a handset stands whose keys were played to their end. This project's own.
-use Rattle.std.specs.Prelude.{◌≡◌, false, List, [], ◌++◌, None, IfSome}
+use Rattle.std.specs.Prelude.{◌≡◌, false, ℕ, List, [], ◌++◌, None}
+use Rattle.wap_devices.specs.Sources.{MayGive}
 use Rattle.wap_base.specs.declared.key.Key.{Key}
 use Rattle.wap_keys.specs.Lines.{keys_of}
+use Rattle.wap_world.specs.site.Pages.{Pages as JudgedPages}
+use Rattle.wap_world.specs.site.Asking.{MayBe}
 use Rattle.wap_world.specs.Steps.{Step, then_step}
 use Rattle.wap_world.specs.scripting.UnitSites.{Pages, shelf_of, unit_pages}
 use Rattle.wap_context.specs.Browsers.{IsOver}
@@ -21,10 +24,11 @@ pub record StandsAfter (pages : Pages) (play : List Key → Step) (keys : List K
   -- where none of the keys is a push, its inbox is as in the beginning
   pub unpushed : HaveNoPush keys → handset.winners ≡ []
 
--- no script waits and no key failed, and the handset stands where all keys lead, where their bytes
--- and the pages are known
-pub record Rests (play : Play) (old : Outside) (handset : State) : Type 0 where
+-- no script waits and no key failed, and the handset stands where all keys lead, for all bytes of
+-- keys that may be those of the source, over any pages that there may be
+pub record Rests (play : Play) (old new : Outside) (handset : State) : Type 0 where
   pub waiting : handset.waiting ≡ None
   pub ready : handset.is_over ≡ false
-  pub stands : IfSome old.source.left (λ bytes. IfSome old.pages.contents (λ judged.
-      StandsAfter (unit_pages judged) (play (unit_pages judged)) (keys_of bytes).keys handset))
+  pub stands : (bytes : List ℕ) → MayGive old.source new.source bytes
+      → (judged : JudgedPages) → MayBe new.pages judged
+      → StandsAfter (unit_pages judged) (play (unit_pages judged)) (keys_of bytes).keys handset

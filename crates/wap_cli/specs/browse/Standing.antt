@@ -1,10 +1,11 @@
 -- A session on its way, key by key. This project's own.
-use Rattle.std.specs.Prelude.{◌≡◌, false, List, [], ◌++◌, IfSome}
+use Rattle.std.specs.Prelude.{◌≡◌, false, List, [], ◌++◌}
 use Rattle.wap_devices.specs.Transfer.{Appends}
 use Rattle.wap_devices.specs.Sources.{SourceSeen}
 use Rattle.wap_devices.specs.Sinks.{SinkSeen}
 use Rattle.wap_base.specs.declared.key.Key.{Key}
-use Rattle.wap_world.specs.site.Asking.{Seen, Stays, Asks}
+use Rattle.wap_world.specs.site.Pages.{Pages as JudgedPages}
+use Rattle.wap_world.specs.site.Asking.{Seen, MayBe, Stays, Asks}
 use Rattle.wap_world.specs.Steps.{Step, then_step}
 use Rattle.wap_world.specs.scripting.UnitSites.{Pages, shelf_of, unit_pages}
 use Rattle.wap_context.specs.Browsers.{IsOver}
@@ -26,7 +27,7 @@ moved_of outside = record { pages = outside.pages; sink = outside.sink }
 abbrev pub outside_of : Moved → SourceSeen → Outside
 outside_of moved source = record { pages = moved.pages; source = source; sink = moved.sink }
 
--- where the pages are known: the handset and the outside stand where these keys lead
+-- over these pages: the handset and the outside stand where these keys lead
 pub record Stands (pages : Pages) (play : List Key → Step) (given : List Key) (old now : Moved)
     (state : State) : Type 0 where
   pub over : IsOver (shelf_of pages) state.browser
@@ -34,14 +35,14 @@ pub record Stands (pages : Pages) (play : List Key → Step) (given : List Key) 
   pub on : (others : List Key) → play (given ++ others)
       ≡ then_step (left_open (play given)) (step_of pages others state)
   pub asks : Asks (play given).asked old.pages now.pages
-  pub wrote : Appends old.sink.written now.sink.written (bytes_of (play given))
+  pub wrote : Appends old.sink.taken now.sink.taken (bytes_of (play given))
   -- and where none of these is a push, the inbox is as in the beginning
   pub unpushed : HaveNoPush given → state.winners ≡ []
 
 -- so far nothing failed, and the handset stands where these keys lead
 pub record Browsed (play : Play) (given : List Key) (old now : Moved) (state : State) : Type 0 where
-  pub stands : IfSome old.pages.contents
-      (λ judged. Stands (unit_pages judged) (play (unit_pages judged)) given old now state)
+  pub stands : (judged : JudgedPages) → MayBe now.pages judged
+      → Stands (unit_pages judged) (play (unit_pages judged)) given old now state
   pub ready : state.is_over ≡ false
   pub stays : Stays old.pages now.pages
   pub steady : now.pages.faults ≡ old.pages.faults

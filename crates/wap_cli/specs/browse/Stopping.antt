@@ -1,6 +1,6 @@
 -- Where a session stops before its end. Of the keys that were given all but the last were handled
 -- whole by then, and what is done before the first of them counts as a key. This project's own.
-use Rattle.std.specs.Prelude.{◌≡◌, ℕ, ◌+◌, ◌<◌, ◌≤◌, List, ◌++◌, length, Option, IfSome}
+use Rattle.std.specs.Prelude.{◌≡◌, ℕ, ◌+◌, ◌<◌, ◌≤◌, List, ◌++◌, length, IfSome}
 use Rattle.wap_devices.specs.Transfer.{Appends}
 use Rattle.wap_base.specs.declared.key.Key.{Key}
 use Rattle.wap_base.specs.Count.{greatest_count}
@@ -17,7 +17,7 @@ pub record RoseWithin (least most before after : ℕ) : Type 0 where
   pub count : after ≡ raised_by more before
 
 -- all of the first bytes were written, and a prefix of what the others have after them
-pub record WritesPart (before after : Option (List ℕ)) (first others : List ℕ) : Type 0 where
+pub record WritesPart (before after first others : List ℕ) : Type 0 where
   pub part : List ℕ
   pub rest : List ℕ
   pub split : others ≡ first ++ (part ++ rest)
@@ -27,7 +27,7 @@ pub record WritesPart (before after : Option (List ℕ)) (first others : List �
 pub record StopsAtStore (play : List Key → Step) (given : List Key) (old new : Outside)
     : Type 0 where
   -- nothing of it was written
-  pub wrote : Appends old.sink.written new.sink.written
+  pub wrote : Appends old.sink.taken new.sink.taken
       (first_lines play given (length given))
   -- the store was asked for a page of it, which is seen while its count is below the greatest
   pub asked : IfSome old.pages.cache (λ cache. new.pages.fetches < greatest_count → RoseWithin
@@ -39,7 +39,7 @@ pub record StopsAtStore (play : List Key → Step) (given : List Key) (old new :
 pub record StopsAtSink (play : List Key → Step) (given : List Key) (old new : Outside)
     : Type 0 where
   -- a prefix of them was written
-  pub wrote : WritesPart old.sink.written new.sink.written
+  pub wrote : WritesPart old.sink.taken new.sink.taken
       (first_lines play given (length given))
       (first_lines play given (length given + 1))
   -- the store was asked for all its pages
@@ -54,4 +54,4 @@ pub record StopsForMemory (play : List Key → Step) (given : List Key) (old new
   pub least : length given ≤ count
   pub most : count ≤ length given + 1
   -- nothing of the next was written
-  pub wrote : Appends old.sink.written new.sink.written (first_lines play given count)
+  pub wrote : Appends old.sink.taken new.sink.taken (first_lines play given count)

@@ -111,8 +111,8 @@ TellsMade n Wrote =
 -- the sink, before and after, and how it ended
 pub record Makes (n : ℕ) (sink sink_after : SinkSeen) (status : Status) : Type 0 where
   -- on Done the lines were written, and where the sink failed, a prefix of them
-  pub done : status ≡ Done → TellsMade n (Appends sink.written sink_after.written)
-  pub prefix : status ≡ WriteFault → TellsMade n (AppendsPrefix sink.written sink_after.written)
+  pub done : status ≡ Done → TellsMade n (Appends sink.taken sink_after.taken)
+  pub prefix : status ≡ WriteFault → TellsMade n (AppendsPrefix sink.taken sink_after.taken)
   -- and else nothing
   pub unwritten : status ≢ Done → status ≢ WriteFault → sink_after ≡ sink
   pub ends : (status ≡ Done) ⊎ (status ≡ WriteFault) ⊎ (status ≡ NoMemory)

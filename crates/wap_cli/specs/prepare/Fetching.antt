@@ -1,13 +1,12 @@
 -- A store that is asked for several pages, one after the other. This project's own.
-use Rattle.std.specs.Prelude.{◌≡◌, ℕ, ◌≤◌, List, Option, Some, None, IfSome, Result, OnOk, IsErrOf}
-use Rattle.wap_base.specs.Contents.{Contents, page_named}
+use Rattle.std.specs.Prelude.{◌≡◌, ℕ, ◌≤◌, List, Result, OnOk, IsErrOf}
 use Rattle.wap_base.specs.Count.{Rose}
-use Rattle.wap_devices.specs.Stores.{StoreSeen}
+use Rattle.wap_devices.specs.Stores.{StoreSeen, Known, Grew}
 use Rattle.wap_devices.specs.declared.store.Fetched.{Fetched}
-use Rattle.wap_devices.specs.declared.store.Fetched.TheVariants as fetched
 use Rattle.wap_devices.specs.declared.store.StoreErr.{StoreErr}
 use Rattle.wap_devices.specs.declared.store.StoreErr.TheVariants.{Failed}
 use Rattle.wap_world.specs.site.Asking.{raised_by}
+use Rattle.wap_cli.specs.Answers.{IsPageOf, page_of}
 
 -- for so many, up to a fault
 pub record AsksFor {A : Type 0} (count : ℕ) (before after : StoreSeen) (result : Result A StoreErr)
@@ -15,7 +14,7 @@ pub record AsksFor {A : Type 0} (count : ℕ) (before after : StoreSeen) (result
   pub whole : OnOk result (after.fetches ≡ raised_by count before.fetches)
   pub few : (more : ℕ) × (more ≤ count) × (after.fetches ≡ raised_by more before.fetches)
   pub listings : after.listings ≡ before.listings
-  pub contents : after.contents ≡ before.contents
+  pub known : Grew before.known after.known
   -- it fails only where the count of faults rose, which stays where it answers
   pub counts : before.faults ≤ after.faults
   pub failed : IsErrOf result Failed → Rose before.faults after.faults
@@ -23,15 +22,10 @@ pub record AsksFor {A : Type 0} (count : ℕ) (before after : StoreSeen) (result
 
 -- ---- what it answers
 
--- the bytes that the store answered
-abbrev pub page_of : Fetched → Option (List ℕ)
-page_of fetched.Missing = None
-page_of (fetched.Found bytes) = Some bytes
-
 -- a name, and what the store answered for it
 abbrev pub Job : Type 0
 Job = List ℕ × Fetched
 
--- the store answered the page of the name, where its pages are known
-abbrev pub IsAnswered : Option Contents → Job → Type 0
-IsAnswered contents job = IfSome contents (λ pages. page_of job.1 ≡ page_named job.0 pages)
+-- the store answered the page of the name, whatever its pages may be
+abbrev pub IsAnswered : Known → Job → Type 0
+IsAnswered known job = IsPageOf known job.0 (page_of job.1)

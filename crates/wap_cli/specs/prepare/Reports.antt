@@ -1,13 +1,14 @@
 -- The report on the pages of a folder: the name of each with its kind and whether it is refused, in
 -- order, and how many there are. This project's own.
 use Rattle.std.specs.Prelude.{◌≡◌, ℕ, Bool, false, List, ◌++◌, Option, Some, None, is_none}
-use Rattle.std.specs.Prelude.{All, IfSome, length, filter, codes, decimal, encode_utf8_all}
+use Rattle.std.specs.Prelude.{All, length, filter, codes, decimal, encode_utf8_all}
 use Rattle.std.specs.List.{flat_map}
 use Rattle.std.specs.List.Sorted.{IsPermutation}
 use Rattle.std.specs.Map.{keys_of}
 use Rattle.wap_base.specs.Contents.{Contents, names_of}
 use Rattle.wap_base.specs.Controls.{shown_text}
 use Rattle.wap_base.specs.Texts.{AreAscending}
+use Rattle.wap_devices.specs.Stores.{Known, Agrees}
 use Rattle.wap_pages.specs.declared.fault.PageFault.{PageFault}
 use Rattle.wap_pages.specs.declared.fault.PageFault.TheVariants.{Missing}
 use Rattle.wap_pages.specs.declared.kind.Kind.{Kind}
@@ -29,19 +30,20 @@ IsVerdict name None verdict = verdict ≡ Some Missing
 abbrev pub Entry : Type 0
 Entry = List ℕ × Option PageFault
 
--- an entry is right for some page, which is that of the name where the pages are known; and out of
--- memory is no reason to refuse
-pub record IsEntry (contents : Option Contents) (entry : Entry) : Type 0 where
+-- an entry is right for some page, which is that of the name whatever the pages of the store may
+-- be; and out of memory is no reason to refuse
+pub record IsEntry (known : Known) (entry : Entry) : Type 0 where
   pub page : Option (List ℕ)
-  pub is : IsPageOf contents entry.0 page
+  pub is : IsPageOf known entry.0 page
   pub verdict : IsVerdict entry.0 page entry.1
   pub of_reason : (fault : PageFault) → entry.1 ≡ Some fault → is_of_memory fault ≡ false
 
 -- the entries of all pages, in the order of the UTF-8 bytes of their names
-pub record AreEntries (contents : Option Contents) (entries : List Entry) : Type 0 where
+pub record AreEntries (known : Known) (entries : List Entry) : Type 0 where
   pub ascending : AreAscending (keys_of entries)
-  pub all : IfSome contents (λ pages. IsPermutation (names_of pages) (keys_of entries))
-  pub right : All (IsEntry contents) entries
+  pub all : (pages : Contents) → Agrees known pages
+      → IsPermutation (names_of pages) (keys_of entries)
+  pub right : All (IsEntry known) entries
 
 -- ---- how it is written
 

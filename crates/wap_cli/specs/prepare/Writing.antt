@@ -10,12 +10,12 @@ use Rattle.wap_cli.specs.declared.status.Status.TheVariants.{BadKey, OpenDialog,
 
 -- the text was written whole
 pub record Whole (text : List ℕ) (before after : SinkSeen) : Type 0 where
-  pub wrote : Appends before.written after.written text
+  pub wrote : Appends before.taken after.taken text
   pub steady : after.faults ≡ before.faults
 
 -- a prefix of it was written
 pub record Part (text : List ℕ) (before after : SinkSeen) : Type 0 where
-  pub wrote : AppendsPrefix before.written after.written text
+  pub wrote : AppendsPrefix before.taken after.taken text
   pub counts : before.faults ≤ after.faults
   pub rose : Rose before.faults after.faults
 

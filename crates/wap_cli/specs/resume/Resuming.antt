@@ -5,6 +5,8 @@ use Rattle.std.specs.Prelude.{IfSome}
 use Rattle.std.specs.Option.{option_and_then, option_map_or}
 use Rattle.wap_base.specs.Count.{raised, Rose}
 use Rattle.wap_base.specs.Contents.{Contents, page_named}
+use Rattle.wap_devices.specs.Stores.{Known, told, Agrees}
+use Rattle.wap_devices.specs.declared.store.Fetched.TheVariants.{Found}
 use Rattle.wap_url.specs.Printing.{name_for}
 use Rattle.wap_tokens.specs.declared.markup.deck.Deck.{Deck}
 use Rattle.wap_image.specs.declared.context_parts.parts.ContextParts.{ContextParts}
@@ -70,46 +72,44 @@ abbrev pub HasDeck : Contents → ContextParts → Type 0
 HasDeck contents parts =
     IfSome (last_entry (saved_world parts)) (λ entry. IsDeckThere contents (name_for entry.url))
 
--- a page with these bytes is accepted, and it is no deck where the contents are known: else the
--- store may have answered another page before
-pub record IsNoDeck (contents : Option Contents) (name bytes : List ℕ) : Type 0 where
+-- a page with these bytes is accepted, and it is no deck where any pages may be the store's: else
+-- it answered another page before
+pub record IsNoDeck (known : Known) (name bytes : List ℕ) : Type 0 where
   pub accepted : (why : PageFault) → ¬ Refuses name bytes why
-  pub other : IfSome contents (λ pages. (deck : Deck) → ¬ IsDeckPage name bytes deck)
+  pub other : (pages : Contents) → Agrees known pages → (deck : Deck) → ¬ IsDeckPage name bytes deck
 
--- there is no deck under this name, for this cause, which some page has: that of the name where the
--- contents are known
-pub data IsDeckless (contents : Option Contents) (name : List ℕ) : PageFault → Type 0 where
-  missing : IsPageOf contents name None → IsDeckless contents name Missing
-  refused : (bytes : List ℕ) (why : PageFault) → IsPageOf contents name (Some bytes)
-      → Refuses name bytes why → IsDeckless contents name why
-  other : (bytes : List ℕ) → IsPageOf contents name (Some bytes) → IsNoDeck contents name bytes
-      → IsDeckless contents name NotDeck
+-- there is no deck under this name, for this cause, which some page has: that of the name in any
+-- pages that may be the store's
+pub data IsDeckless (known : Known) (name : List ℕ) : PageFault → Type 0 where
+  missing : IsPageOf known name None → IsDeckless known name Missing
+  refused : (bytes : List ℕ) (why : PageFault) → IsPageOf known name (Some bytes)
+      → Refuses name bytes why → IsDeckless known name why
+  other : (bytes : List ℕ) → IsPageOf known name (Some bytes) → IsNoDeck known name bytes
+      → IsDeckless known name NotDeck
 
 -- the current card has no deck there, for this cause
-pub record LacksDeck (contents : Option Contents) (parts : ContextParts) (why : PageFault) : Type 0
-  where
-    pub name : List ℕ
-    pub asked : asked_for parts ≡ (name, false) ∷ []
-    pub deckless : IsDeckless contents name why
+pub record LacksDeck (known : Known) (parts : ContextParts) (why : PageFault) : Type 0 where
+  pub name : List ℕ
+  pub asked : asked_for parts ≡ (name, false) ∷ []
+  pub deckless : IsDeckless known name why
 
 -- ---- what is there under a name, and why nothing is
 
--- this was saved there, by the bytes of some page, which is that of the name where the contents are
--- known; then its current card has its deck
-pub record IsThere (contents : Option Contents) (name : List ℕ) (saved : Saved) : Type 0 where
+-- this was saved there, by the bytes of some page, which is that of the name in any pages that may
+-- be the store's; and in these its current card has its deck
+pub record IsThere (known : Known) (name : List ℕ) (saved : Saved) : Type 0 where
   pub bytes : List ℕ
-  pub page : IsPageOf contents name (Some bytes)
+  pub page : IsPageOf known name (Some bytes)
   pub image : IsImage bytes saved
-  pub deck : IfSome contents (λ pages. HasDeck pages saved.0)
+  pub deck : (pages : Contents) → Agrees known pages → HasDeck pages saved.0
 
 -- nothing is begun with what is there, for this cause, which some page has in the same way
-pub data Hinders (contents : Option Contents) (name : List ℕ) : PageFault → Type 0 where
-  missing : IsPageOf contents name None → Hinders contents name Missing
-  refused : (bytes : List ℕ) (why : ImageFault) → IsPageOf contents name (Some bytes)
-      → IsRefused bytes why → Hinders contents name (Image why)
-  deckless : (bytes : List ℕ) (saved : Saved) (why : PageFault)
-      → IsPageOf contents name (Some bytes) → IsImage bytes saved
-      → LacksDeck contents saved.0 why → Hinders contents name why
+pub data Hinders (known : Known) (name : List ℕ) : PageFault → Type 0 where
+  missing : IsPageOf known name None → Hinders known name Missing
+  refused : (bytes : List ℕ) (why : ImageFault) → IsPageOf known name (Some bytes)
+      → IsRefused bytes why → Hinders known name (Image why)
+  deckless : (bytes : List ℕ) (saved : Saved) (why : PageFault) → IsPageOf known name (Some bytes)
+      → IsImage bytes saved → LacksDeck known saved.0 why → Hinders known name why
 
 -- ---- where nothing is begun
 
@@ -140,26 +140,35 @@ pub record Unbegun (Cause : PageFault → Type 0) (old new : Outside) (status : 
 
 -- ---- the command
 
--- the store was asked for one page more
-abbrev pub asked_once : Outside → Outside
-asked_once outside =
-    record outside { pages = record outside.pages { fetches = raised outside.pages.fetches } }
+-- the store was asked for one page more, and gave these bytes
+abbrev pub asked_once : List ℕ → List ℕ → Outside → Outside
+asked_once name bytes outside = record outside {
+  pages = record outside.pages {
+    known = told outside.pages.known ((name, Found bytes) ∷ []) [];
+    fetches = raised outside.pages.fetches;
+  };
+}
+
+-- a session goes on over these pages, which have this site, with what is there under a name, once
+-- its image was fetched: from the outside before to the outside after, and the status
+pub record GoesOn {P : Type 0} (Are : P → Type 0) (site : P → Site) (name : List ℕ)
+    (old new : Outside) (status : Status) (saved : Saved) : Type 0 where
+  pub there : IsThere new.pages.known name saved
+  pub browses : Browses Are (λ pages. resumed_at saved.0 saved.1 (site pages))
+      (asked_once name there.bytes old) new status
 
 -- a session goes on over these pages, which have this site, with what was saved under a name: from
 -- the outside before to the outside after, and the status
 pub record Resumes {P : Type 0} (Are : P → Type 0) (site : P → Site) (name : List ℕ)
     (old new : Outside) (status : Status) : Type 0 where
-  -- with this it goes on, if it does: with what is there under the name
+  -- with this it goes on, if it does
   pub saved : Option Saved
-  pub is : IfSome saved (IsThere old.pages.behind name)
-  -- then its keys are read and played, once the image was fetched
-  pub goes_on : IfSome saved (λ one. Browses Are
-      (λ pages. resumed_at one.0 one.1 (site pages)) (asked_once old) new status)
+  pub goes_on : IfSome saved (GoesOn Are site name old new status)
   -- else nothing is begun
-  pub stops : saved ≡ None → Unbegun (Hinders old.pages.behind name) old new status
+  pub stops : saved ≡ None → Unbegun (Hinders new.pages.known name) old new status
   -- out of memory is no reason to refuse
   pub of_reason : (fault : PageFault) → status ≡ Refused fault → is_of_memory fault ≡ false
 
 -- the same over the pages that are seen
 abbrev pub ResumesSeen : List ℕ → Outside → Outside → Status → Type 0
-ResumesSeen name old new status = Resumes (AreUnitPages old.pages) site_of name old new status
+ResumesSeen name old new status = Resumes (AreUnitPages new.pages) site_of name old new status

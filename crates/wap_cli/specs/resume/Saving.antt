@@ -1,9 +1,9 @@
 -- The command that saves a context where its keys end: what it writes, and how it ends. This
 -- project's own.
-use Rattle.std.specs.Prelude.{◌≡◌, ◌≢◌, ◌⊎◌, ℕ, ◌≤◌, false, List, [], ◌++◌, None, IfSome}
-use Rattle.std.specs.Prelude.{Result, Ok, Err}
+use Rattle.std.specs.Prelude.{◌≡◌, ◌≢◌, ◌⊎◌, ℕ, ◌≤◌, false, List, [], ◌++◌, Result, Ok, Err}
 use Rattle.wap_base.specs.Count.{greatest_count, Rose}
 use Rattle.wap_devices.specs.Sinks.{SinkSeen}
+use Rattle.wap_devices.specs.Sources.{MayGive}
 use Rattle.wap_devices.specs.Transfer.{Appends, AppendsPrefix}
 use Rattle.wap_base.specs.declared.key.Key.{Key}
 use Rattle.wap_push.specs.Pushes.{push_at}
@@ -43,9 +43,9 @@ pub record WritesImage (image : Result (List ℕ) SaveFault) (before after : Sin
   pub ends : EndsBy image status
   -- on Done it was written whole, and where the sink failed a prefix of it
   pub done : status ≡ Done
-      → (bytes : List ℕ) × (image ≡ Ok bytes) × Appends before.written after.written bytes
+      → (bytes : List ℕ) × (image ≡ Ok bytes) × Appends before.taken after.taken bytes
   pub write_fault : status ≡ WriteFault
-      → (bytes : List ℕ) × (image ≡ Ok bytes) × AppendsPrefix before.written after.written bytes
+      → (bytes : List ℕ) × (image ≡ Ok bytes) × AppendsPrefix before.taken after.taken bytes
   -- and else nothing was
   pub unwritten : status ≢ Done → status ≢ WriteFault → after ≡ before
   -- WriteFault comes only where the count of faults rose, and no fault is passed over
@@ -88,35 +88,37 @@ EndsIn begun pages keys parts = EndsAt begun (site_of pages) keys parts
 
 -- ---- the command
 
--- a sink of which nothing is seen, and which never fails
-abbrev pub nowhere : SinkSeen
-nowhere = record { written = None; writes = greatest_count; faults = 0 }
+-- a sink that drops what it took, and never fails
+abbrev pub nowhere : List ℕ → SinkSeen
+nowhere dropped = record { taken = dropped; writes = greatest_count; faults = 0 }
 
--- the outside, where what is shown is dropped
-abbrev pub unshown : Outside → Outside
-unshown outside = record outside { sink = nowhere }
+-- the outside, where what is shown is dropped: so far these bytes
+abbrev pub unshown : List ℕ → Outside → Outside
+unshown dropped outside = record outside { sink = nowhere dropped }
 
 -- a session that begins so is played over these pages, which have this site, and saved where its
 -- keys end
 pub record Images {P : Type 0} (Are : P → Type 0) (site : P → Site) (begun : Begun)
     (old new : Outside) (status : Status) : Type 0 where
   -- its keys are played as in browsing, but what they show is dropped; they come to this end
+  pub dropped : List ℕ
   pub end : Status
-  pub plays : Browses Are (λ pages. opened_at begun (site pages)) (unshown old) (unshown new) end
+  pub plays : Browses Are (λ pages. opened_at begun (site pages)) (unshown [] old)
+      (unshown dropped new) end
   -- where that isn't Done the command ends so too, and nothing is written
   pub stops : end ≢ Done → (status ≡ end) × (new.sink ≡ old.sink)
-  -- where it is, the context in which they end is saved: its parts are those of their world, where
-  -- bytes and pages are known
+  -- where it is, the context in which they end is saved: its parts are those of their world, over
+  -- any bytes and pages that may be theirs
   pub parts : ContextParts
-  pub ends_in : end ≡ Done → IfSome old.source.left (λ bytes. (pages : P) → Are pages
-      → EndsAt begun (site pages) (keys_of bytes).keys parts)
+  pub ends_in : end ≡ Done → (bytes : List ℕ) → MayGive old.source new.source bytes → (pages : P)
+      → Are pages → EndsAt begun (site pages) (keys_of bytes).keys parts
   pub saves : end ≡ Done → WritesImage (image_of parts begun.budget) old.sink new.sink status
   -- out of memory is no reason to refuse
   pub of_reason : (fault : PageFault) → status ≡ Refused fault → is_of_memory fault ≡ false
   -- and once they are written, these are all of that world
-  pub whole : status ≡ Done → IfSome old.source.left (λ bytes. (pages : P) → Are pages
-      → IsWhole parts (opened_at begun (site pages) (keys_of bytes).keys).world)
+  pub whole : status ≡ Done → (bytes : List ℕ) → MayGive old.source new.source bytes → (pages : P)
+      → Are pages → IsWhole parts (opened_at begun (site pages) (keys_of bytes).keys).world
 
 -- the same over the pages that are seen
 abbrev pub ImagesSeen : Begun → Outside → Outside → Status → Type 0
-ImagesSeen begun old new status = Images (AreUnitPages old.pages) site_of begun old new status
+ImagesSeen begun old new status = Images (AreUnitPages new.pages) site_of begun old new status

@@ -36,6 +36,7 @@ pub fn browse_session<P: Pages, I: Source, O: Sink>(
         result.0 }
     ensures rests { result.0 ≡ Status.Done → Rests (opened (begun_with begun))
         (record { pages = P.seen pages.old; source = I.seen keys.old; sink = O.seen out.old })
+        (record { pages = P.seen pages.new; source = I.seen keys.new; sink = O.seen out.new })
         result.1 }
 {
     let mut handset = Handset::new(alloc, begun.seed, begun.budget, begun.limits);

@@ -35,7 +35,9 @@ pub fn play_keys<P: Pages, I: Source, O: Sink>(
     ensures rests { (play : Play) (from : Moved) → Browsed play [] from
         (record { pages = P.seen pages.old; sink = O.seen out.old }) handset.old
         → result ≡ Status.Done
-        → Rests play (outside_of from (I.seen keys.old)) handset.new }
+        → Rests play (outside_of from (I.seen keys.old))
+        (record { pages = P.seen pages.new; source = I.seen keys.new; sink = O.seen out.new })
+        handset.new }
 {
     let mut reader = Reader::new(alloc);
     let Ok(ignored) = refusal_lines(alloc, Refusal::Ignored) else {

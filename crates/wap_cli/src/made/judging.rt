@@ -1,7 +1,9 @@
 //! How many pages are accepted.
 ghost use Rattle.std.specs.Prelude.{◌≡◌, ◌≤◌, ◌∷◌, [], if◌then◌else◌};
-ghost use Rattle.std.specs.Prelude.{IfOk, IfSome, OnOk, length};
+ghost use Rattle.std.specs.Prelude.{IfOk, OnOk, length};
 ghost use Rattle.wap_base.specs.Contents.{names_of};
+ghost use Rattle.wap_world.specs.site.Asking.{MayBe, Stays};
+ghost use Rattle.wap_world.specs.site.Pages.{Pages as JudgedPages};
 ghost use Rattle.wap_cli.specs.made.inside.Counting.{is_accepted, accepted_in};
 
 use std::alloc::Global;
@@ -39,10 +41,10 @@ fn as_count(accepted: bool) -> usize
 
 /// 1 where the page of a name is accepted, and else 0.
 fn count_one<P: Pages>(alloc: Global, pages: &mut P, name: &Text) -> Result<usize, RunErr>
-    ensures count { IfOk result (λ count. IfSome (P.seen pages.old).contents
-        (λ known. count ≡ length (accepted_in known (name.now ∷ [])))) }
+    ensures count { IfOk result (λ count. (known : JudgedPages) → MayBe (P.seen pages.new) known
+        → count ≡ length (accepted_in known (name.now ∷ []))) }
     ensures few { IfOk result (λ count. count ≤ 1) }
-    ensures stays { (P.seen pages.new).contents ≡ (P.seen pages.old).contents }
+    ensures stays { Stays (P.seen pages.old) (P.seen pages.new) }
 {
     let page = pages.page(alloc, name, false)?;
     Ok(as_count(is_accepted(&page)))
@@ -54,9 +56,9 @@ pub(crate) fn count_accepted<P: Pages>(
     pages: &mut P,
     names: &[Text],
 ) -> Result<usize, RunErr>
-    ensures count { IfOk result (λ count. IfSome (P.seen pages.old).contents
-        (λ known. count ≡ length (accepted_in known names.now))) }
-    ensures stays { OnOk result ((P.seen pages.new).contents ≡ (P.seen pages.old).contents) }
+    ensures count { IfOk result (λ count. (known : JudgedPages) → MayBe (P.seen pages.new) known
+        → count ≡ length (accepted_in known names.now)) }
+    ensures stays { OnOk result (Stays (P.seen pages.old) (P.seen pages.new)) }
 {
     let mut count = 0usize;
     for name in names {

@@ -1,8 +1,7 @@
 //! Making a folder, and browsing it.
-ghost use Rattle.std.specs.Prelude.{◌≡◌, IfOk, Some};
-ghost use Rattle.wap_pages.specs.Judged.{judged};
+ghost use Rattle.std.specs.Prelude.{IfOk};
 ghost use Rattle.wap_cli.specs.made.Making.{Makes};
-ghost use Rattle.wap_cli.specs.made.inside.Tours.{IsTour};
+ghost use Rattle.wap_cli.specs.made.inside.Tours.{IsMade, IsTour};
 
 use crate::Status;
 use crate::made::judging::{count_accepted, names_in};
@@ -29,8 +28,8 @@ pub(crate) struct Tour {
 
 /// These pages in memory, as a browser asks for them.
 fn pages_over(alloc: Global, folder: Vec<(Text, Bytes)>) -> Result<Cached<MemStore>, NoMemory>
-    ensures { IfOk result (λ pages. (⟦<Cached<MemStore> as Pages>⟧.seen pages).contents
-        ≡ Some (judged folder.items)) }
+    ensures { IfOk result (λ pages. IsMade folder.items
+        (⟦<Cached<MemStore> as Pages>⟧.seen pages)) }
 {
     // A made folder's names are distinct and its pages small, as a store wants them.
     if !are_pages(alloc, &folder)? {

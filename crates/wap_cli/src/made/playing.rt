@@ -1,5 +1,7 @@
 //! A session over a made folder.
-ghost use Rattle.std.specs.Prelude.{◌≡◌, IfOk, IfSome};
+ghost use Rattle.std.specs.Prelude.{◌≡◌, IfOk, OnOk};
+ghost use Rattle.wap_world.specs.site.Asking.{MayBe, Stays};
+ghost use Rattle.wap_world.specs.site.Pages.{Pages as JudgedPages};
 ghost use Rattle.wap_world.specs.scripting.UnitSites.{unit_pages};
 ghost use Rattle.wap_context.specs.Sites.{site_of};
 ghost use Rattle.wap_cli.specs.made.Making.{value_in};
@@ -52,8 +54,9 @@ fn fault_of(fault: SessionFault) -> RunErr {
 
 /// Plays keys from the beginning of a session, and then looks at the variables.
 pub(crate) fn play<P: Pages>(alloc: Global, pages: &mut P, keys: &[Key]) -> Result<Played, RunErr>
-    ensures { IfOk result (λ played. IfSome (P.seen pages.old).contents
-        (λ known. IsPlayed (site_of (unit_pages known)) keys.now played)) }
+    ensures played { IfOk result (λ played. (known : JudgedPages) → MayBe (P.seen pages.new) known
+        → IsPlayed (site_of (unit_pages known)) keys.now played) }
+    ensures stays { OnOk result (Stays (P.seen pages.old) (P.seen pages.new)) }
 {
     let mut session = Session::new(alloc, DEFAULT_SEED, DEFAULT_BUDGET, Limits::default());
     let lines = match session.play(alloc, keys, pages) {

@@ -1,5 +1,5 @@
 //! A text in memory that is written like any other, and grows.
-ghost use Rattle.std.specs.Prelude.{◌≡◌, Some, []};
+ghost use Rattle.std.specs.Prelude.{◌≡◌, []};
 
 use std::alloc::Global;
 use wap_devices::{Failed, Sink};
@@ -15,7 +15,7 @@ pub(crate) struct Draft {
 impl Draft {
     /// A draft in which nothing stands.
     pub(crate) fn new(alloc: Global) -> Draft
-        ensures { (⟦<Draft as Sink>⟧.seen result).written ≡ Some [] }
+        ensures { (⟦<Draft as Sink>⟧.seen result).taken ≡ [] }
     {
         Draft {
             bytes: Vec::new(alloc),
@@ -26,17 +26,15 @@ impl Draft {
 
     /// What stands in it.
     pub(crate) fn as_bytes(&self) -> &[u8]
-        ensures { (⟦<Draft as Sink>⟧.seen self.now).written ≡ Some result.now }
+        ensures { (⟦<Draft as Sink>⟧.seen self.now).taken ≡ result.now }
     {
         self.bytes.as_slice()
     }
 }
 
 impl Sink for Draft {
-    ghost use Rattle.std.specs.Prelude.{Some};
-
     ghost seen = { λ draft. record {
-      written = Some draft.bytes.items;
+      taken = draft.bytes.items;
       writes = draft.writes;
       faults = draft.faults;
     } };

@@ -12,7 +12,7 @@ use wap_devices::{Store, StoreErr};
 /// What the store answers for a name, beside the name.
 fn fetch_one<S: Store>(alloc: Global, store: &mut S, name: &Text) -> Result<Job, StoreErr>
     ensures name { IfOk result (λ job. job.0 ≡ name.now) }
-    ensures answered { IfOk result (IsAnswered (S.seen store.old).contents) }
+    ensures answered { IfOk result (IsAnswered (S.seen store.new).known) }
     ensures asks { AsksFor 1 (S.seen store.old) (S.seen store.new) result }
 {
     let copy = match name.copy(alloc) {
@@ -32,7 +32,7 @@ pub fn fetch_all<S: Store>(
     names: &[Text],
 ) -> Result<Vec<Job>, StoreErr>
     ensures names { IfOk result (λ jobs. keys_of jobs.items ≡ names.now) }
-    ensures answered { IfOk result (λ jobs. All (IsAnswered (S.seen store.old).contents)
+    ensures answered { IfOk result (λ jobs. All (IsAnswered (S.seen store.new).known)
         jobs.items) }
     ensures asks { AsksFor (length names.now) (S.seen store.old) (S.seen store.new) result }
 {

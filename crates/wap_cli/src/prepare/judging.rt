@@ -2,7 +2,7 @@
 ghost use Rattle.std.specs.Prelude.{◌≡◌, ◌<◌, ◌^◌, Some, Ok, map, length, IfOk};
 ghost use Rattle.wap_devices.specs.Pages.{IsSmall};
 ghost use Rattle.wap_cli.specs.prepare.Reports.{IsVerdict};
-ghost use Rattle.wap_cli.specs.prepare.Fetching.{page_of};
+ghost use Rattle.wap_cli.specs.Answers.{page_of};
 ghost use Rattle.wap_cli.specs.prepare.inside.Jobs.{IsRight};
 
 use crate::prepare::job::Job;

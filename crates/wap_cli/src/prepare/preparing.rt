@@ -51,7 +51,7 @@ fn judge_some<R: Threads + Sync, S: Store, G: Gate + Sync>(
 ) -> Result<Vec<(Text, Option<PageFault>)>, StoreErr>
     requires { 0 < workers }
     ensures names { IfOk result (λ entries. keys_of entries.items ≡ names.now) }
-    ensures right { IfOk result (λ entries. All (IsEntry (S.seen store.old).contents)
+    ensures right { IfOk result (λ entries. All (IsEntry (S.seen store.new).known)
         entries.items) }
     ensures asks { AsksFor (length names.now) (S.seen store.old) (S.seen store.new) result }
 {
@@ -77,7 +77,7 @@ fn judge_all<R: Threads + Sync, S: Store, G: Gate + Sync>(
 ) -> Result<Vec<(Text, Option<PageFault>)>, StoreErr>
     requires { 0 < workers }
     ensures names { IfOk result (λ entries. keys_of entries.items ≡ names.now) }
-    ensures right { IfOk result (λ entries. All (IsEntry (S.seen store.old).contents)
+    ensures right { IfOk result (λ entries. All (IsEntry (S.seen store.new).known)
         entries.items) }
     ensures asks { AsksFor (length names.now) (S.seen store.old) (S.seen store.new) result }
 {

@@ -1,7 +1,7 @@
 //! Pages that a session shares with others.
 ghost use Rattle.std.specs.Prelude.{◌≡◌, [], ◌∷◌, IfOk, OnOk, IfErr, IsErrOf};
-ghost use Rattle.wap_world.specs.site.Pages.{page_of, AreSitePages};
-ghost use Rattle.wap_world.specs.site.Asking.{Stays, Asks, Fails};
+ghost use Rattle.wap_world.specs.site.Pages.{Pages as JudgedPages, page_of, AreSitePages};
+ghost use Rattle.wap_world.specs.site.Asking.{MayBe, Stays, Asks, Fails};
 ghost use Rattle.wap_cli.specs.prepared.Prepared.{shared_seen};
 
 use crate::prepared::Prepared;
@@ -41,8 +41,10 @@ impl<'a> Pages for Shared<'a> {
     ghost seen = { shared_seen };
 
     fn page(&mut self, _alloc: Global, name: &Text, fresh: bool) -> Result<Page, RunErr>
-        ensures found { IfOk result (λ page. page ≡ page_of name.now self.old) }
-        ensures site { AreSitePages self.old }
+        ensures found { IfOk result (λ page. (pages : JudgedPages)
+            → MayBe (shared_seen self.new) pages → page ≡ page_of name.now pages) }
+        ensures site { (pages : JudgedPages) → MayBe (shared_seen self.new) pages
+            → AreSitePages pages }
         ensures same { self.new ≡ self.old }
         ensures never { IfErr result (λ fault. fault ≡ RunErr.NoMemory) }
         ensures asks { OnOk result

@@ -2,7 +2,7 @@
 ghost use Rattle.std.specs.Prelude.{◌≡◌, ◌<◌, ◌^◌, length, IfOk};
 ghost use Rattle.wap_devices.specs.Pages.{IsSmall};
 ghost use Rattle.wap_pages.specs.Judged.{page_of_bytes, page_where};
-ghost use Rattle.wap_cli.specs.prepare.Fetching.{page_of};
+ghost use Rattle.wap_cli.specs.Answers.{page_of};
 ghost use Rattle.wap_cli.specs.replay.inside.Jobs.{IsJudged};
 
 use crate::prepare::Job;

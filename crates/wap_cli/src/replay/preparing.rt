@@ -1,7 +1,9 @@
 //! The pages of a folder, made ready for sessions.
-ghost use Rattle.std.specs.Prelude.{◌<◌, ◌≡◌, IfOk, IfSome, length};
+ghost use Rattle.std.specs.Prelude.{◌<◌, ◌≡◌, IfOk, length};
 ghost use Rattle.std.specs.List.{AllZip};
+ghost use Rattle.wap_base.specs.Contents.{Contents};
 ghost use Rattle.wap_base.specs.Texts.{AreAscending};
+ghost use Rattle.wap_devices.specs.Stores.{Agrees};
 ghost use Rattle.wap_cli.specs.prepare.Fetching.{AsksFor};
 ghost use Rattle.wap_cli.specs.replay.inside.Jobs.{IsJudged, is_there, present, pages_named};
 
@@ -61,8 +63,8 @@ pub(crate) fn prepare_pages<R: Threads + Sync, S: Store, G: Gate + Sync>(
 ) -> Result<Prepared, StoreErr>
     requires some { 0 < workers }
     requires ascending { AreAscending names.now }
-    ensures pages { IfOk result (λ pages. IfSome (S.seen store.old).contents
-        (λ contents. pages ≡ pages_named contents names.now)) }
+    ensures pages { IfOk result (λ pages. (contents : Contents)
+        → Agrees (S.seen store.new).known contents → pages ≡ pages_named contents names.now) }
     ensures asks { AsksFor (length names.now) (S.seen store.old) (S.seen store.new) result }
 {
     let jobs = match fetch_all(alloc, store, names) {

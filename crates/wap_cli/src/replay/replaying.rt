@@ -63,7 +63,7 @@ fn replay_lists<R: Threads + Sync, S: Store, O: Sink, G: Gate + Sync>(
 ) -> Status
     requires some { 0 < workers }
     requires limits { AreInRange begun.limits }
-    ensures { WorksOnAll (TellsOf (begun_with begun) lists.items (S.seen store.old).contents)
+    ensures { WorksOnAll (TellsOf (begun_with begun) lists.items (S.seen store.new).known)
         (S.seen store.old) (S.seen store.new) (O.seen out.old) (O.seen out.new) result }
 {
     pages_are_judged();

@@ -4,7 +4,7 @@ ghost use Rattle.wap_image.specs.Rules.{MayBeSaved};
 ghost use Rattle.wap_pages.specs.Caches.{seen_over};
 ghost use Rattle.wap_pages.specs.declared.cached.TheConstants.{LEAST_CAPACITY, MOST_CAPACITY};
 ghost use Rattle.wap_cli.specs.resume.Resuming.{ResumesSeen};
-ghost use Rattle.wap_cli.specs.resume.inside.Loading.{HasDistinctNames, Continues};
+ghost use Rattle.wap_cli.specs.resume.inside.Loading.{Continues};
 
 use crate::Status;
 use crate::browse::play_keys;
@@ -30,7 +30,6 @@ fn go_on<S: Store, I: Source, O: Sink>(
     requires saved { MayBeSaved saved.0 saved.1 }
     requires some { LEAST_CAPACITY ≤ cache }
     requires few { cache ≤ MOST_CAPACITY }
-    requires distinct { HasDistinctNames (S.seen store) }
     ensures { Continues saved
         (record {
           pages = seen_over (S.seen store) (record { names = []; capacity = cache });

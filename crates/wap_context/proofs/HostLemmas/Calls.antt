@@ -1,7 +1,8 @@
 -- Calls of libraries: functions that no library has, and results within the limit of Strings.
 use Rattle.std.proofs.Common.{◌≡◌, ◌∙◌, ◌≤◌, ℕ, List, [], ◌∷◌, Bool, true, false, Option, Some}
 use Rattle.std.proofs.Common.{None, zero, suc, length, refl, sym, ap, ap₂, subst, arith}
-use Rattle.std.specs.Prelude.{slice_get, Ok, Err, if◌then◌else◌, nat_lt}
+use Rattle.std.specs.Prelude.{◌≢◌, slice_get, Ok, Err, if◌then◌else◌, nat_lt}
+use Rattle.std.proofs.lemmas.Bool.{ne_eqb}
 use Rattle.wap_base.specs.Utf8.{utf8_len}
 use Rattle.wap_value.specs.declared.value.Value.{Value}
 use Rattle.wap_value.specs.declared.value.Value.TheVariants.{Int, Bool as Boolean, Str, Invalid}
@@ -18,9 +19,11 @@ use Rattle.std.specs.Option.{option_map, option_map_or}
 use Rattle.wap_execution.specs.declared.library.HostOut.{HostOut}
 use Rattle.wap_execution.specs.declared.library.HostOut.TheVariants as out
 use Rattle.wap_machine.specs.Hosts.{IsNoBudget}
-use Rattle.wap_world.specs.World.{World}
+use Rattle.wap_url.specs.declared.url.Url.{Url}
+use Rattle.wap_world.specs.Shelves.{Shelf}
+use Rattle.wap_world.specs.World.{World, Place}
 use Rattle.wap_world.specs.Steps.{Step}
-use Rattle.wap_world.specs.scripting.Hosting.{kept_by, kept, within}
+use Rattle.wap_world.specs.scripting.Hosting.{kept_by, kept, within, pure_call, library_call}
 use Rattle.wap_context.specs.host.Stages.{Sight}
 use Rattle.wap_context.specs.host.Serving.{Gave}
 
@@ -96,3 +99,13 @@ pub is_pure : (library own count taken : ℕ) (given : Option ℕ)
     → given ≡ Some taken → IsPure library own count
 is_pure library own count taken given handed_over is some =
     pure_by library own count taken (function_at library own) handed_over refl (sym some ∙ is)
+
+-- ---- libraries that need no browser
+
+pub other_call : (shelf : Shelf) (now : World → Option Place) (step : Step) (base : Url)
+    (referer : Option Url) (library function : ℕ) (args : List Value)
+    → library ≢ 5 → library ≢ 4 → library ≢ 3
+    → library_call shelf now step base referer library function args
+    ≡ pure_call library function args step
+other_call shelf now step base referer library function args five four three =
+    rw (ne_eqb library 5 five) (rw (ne_eqb library 4 four) (rw (ne_eqb library 3 three) refl))

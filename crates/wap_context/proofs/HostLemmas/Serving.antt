@@ -26,12 +26,13 @@ use Rattle.wap_world.specs.site.Misses.{misses}
 use Rattle.wap_world.specs.site.Asking.{Seen, raised_by, RaisedWithin, Stays}
 use Rattle.wap_world.proofs.SiteLemmas.Asking.{Stays-same}
 use Rattle.wap_world.specs.Requests.{plain_get, request_line}
+use Rattle.wap_world.specs.Shelves.{Shelf}
 use Rattle.wap_world.specs.World.{World}
 use Rattle.wap_world.specs.Steps.{Step}
-use Rattle.wap_world.specs.scripting.UnitSites.{Pages, unit_pages}
+use Rattle.wap_world.specs.scripting.UnitSites.{Pages, shelf_of, unit_pages}
 use Rattle.wap_world.specs.scripting.Views.{Counted, View, counted_all, added}
-use Rattle.wap_context.specs.host.Stages.{Sight, counted_in, view_in, count_of, fetched_in}
-use Rattle.wap_context.specs.host.Serving.{begun, Gave, Serves, question, AsksFor}
+use Rattle.wap_context.specs.host.Stages.{Sight, counted_in, view_in, count_of}
+use Rattle.wap_context.specs.host.Serving.{begun, Gave, done_by, Serves, question, AsksFor}
 use Rattle.wap_context.specs.host.inside.Counting.{count_in}
 
 -- ---- views
@@ -46,19 +47,13 @@ view_with sight pages counted = record {
   counted = counted;
 }
 
-abbrev view_by : Sight → Option Counted → Option JudgedPages → Option View
-view_by sight counted contents =
-    option_map (λ judged. view_with sight (unit_pages judged) counted) contents
-
 abbrev counted_of : Option Cache → ℕ → Option Counted
 counted_of cache fetches = option_map (λ one. record { cache = one; fetches = fetches }) cache
 
 -- ---- a call that asks for no page
 
 module _ (rule : View → HostOut × Step) (row : Step → HostOut × Step) (old new : Sight)
-    (out : HostOut) (gave : Gave row old new out)
-    (is : (pages : Pages) (counted : Option Counted)
-    → rule (view_with old pages counted) ≡ row (begun old)) where
+    (out : HostOut) (gave : Gave row old new out) where
   new_is : new ≡ record old {
     world = (row (begun old)).1.world;
     lines = old.lines ++ (row (begun old)).1.lines;
@@ -73,33 +68,47 @@ module _ (rule : View → HostOut × Step) (row : Step → HostOut × Step) (old
         lines = old.lines ++ (row (begun old)).1.lines;
       }) gave.deck
 
-  gives_in : (counted : Option Counted) (contents : Option JudgedPages)
-      → IfSome (view_by old counted contents)
-      (λ view. Gives (added view (rule view)) out (view_by new counted contents))
-  gives_in counted None = tt
-  gives_in counted (Some judged) =
-      let view = view_with old (unit_pages judged) counted in
-      let same = is (unit_pages judged) counted in
+  gives_in : (pages : Pages) (counted : Option Counted)
+      → rule (view_with old pages counted) ≡ row (begun old)
+      → Gives (done_by rule (view_with old pages counted)) out (view_with new pages counted)
+  gives_in pages counted same =
+      let view = view_with old pages counted in
       record {
         answers = gave.answers ∙ sym (ap (λ (g : HostOut × Step). g.0) same);
         stays =
-            ap (λ (s : Sight). Some (view_with s (unit_pages judged) counted)) new_is
-            ∙ ap (λ (c : Option Counted). Some (record view {
+            ap (λ (s : Sight). view_with s pages counted) new_is
+            ∙ ap (λ (c : Option Counted). record view {
               world = (row (begun old)).1.world;
               lines = old.lines ++ (row (begun old)).1.lines;
               counted = c;
-            })) (sym (ap (λ (a : List Question). counted_all a counted) gave.unasked))
-            ∙ ap (λ (g : HostOut × Step). Some (added view g).1) (sym same);
+            }) (sym (ap (λ (a : List Question). counted_all a counted) gave.unasked))
+            ∙ ap (λ (g : HostOut × Step). (added view g).1) (sym same);
       }
 
-  pub gave_serves : (seen : Seen) → Serves rule old new seen seen (Ok out)
-  gave_serves seen = record {
-    told = gives_in (counted_in seen) seen.contents;
-    steady = refl;
-    failed = λ failed. absurd (cc);
-    fetched = λ failed. absurd (cc);
-    stays = Stays-same seen;
-  }
+-- a row over each shelf gave it
+pub each_serves : (rule : View → HostOut × Step) (row : Shelf → Step → HostOut × Step)
+    (old new : Sight) (out : HostOut) → ((shelf : Shelf) → Gave (row shelf) old new out)
+    → ((pages : Pages) (counted : Option Counted)
+    → rule (view_with old pages counted) ≡ row (shelf_of pages) (begun old))
+    → (seen : Seen) → Serves rule old new seen seen (Ok out)
+each_serves rule row old new out gave is seen = record {
+  told = λ judged may.
+      let pages = unit_pages judged in
+      gives_in rule (row (shelf_of pages)) old new out (gave (shelf_of pages)) pages
+      (counted_in seen) (is pages (counted_in seen));
+  steady = refl;
+  failed = λ failed. absurd (cc);
+  fetched = λ failed. absurd (cc);
+  stays = Stays-same seen;
+}
+
+pub gave_serves : (rule : View → HostOut × Step) (row : Step → HostOut × Step) (old new : Sight)
+    (out : HostOut) → Gave row old new out
+    → ((pages : Pages) (counted : Option Counted)
+    → rule (view_with old pages counted) ≡ row (begun old))
+    → (seen : Seen) → Serves rule old new seen seen (Ok out)
+gave_serves rule row old new out gave is seen =
+    each_serves rule (λ shelf. row) old new out (λ shelf. gave) is seen
 
 -- a call that ran out of memory before it asked
 pub lacks_memory : {A : Type 0} (rule : View → A × Step) (old new : Sight) (before after : Seen)
@@ -185,62 +194,46 @@ module _ {A : Type 0} (url : Url) (rule : View → A × Step) (answer : Page →
   abbrev line : List ℕ
   line = request_line (plain_get url)
 
-  told_in : (page : Page) (contents : Option JudgedPages) (counted later : Option Counted)
+  told_in : (judged : JudgedPages) (counted later : Option Counted) → AreSitePages judged
       → later ≡ counted_all (question url ∷ []) counted
-      → IfSome contents (λ judged. page ≡ page_of (name_for url) judged)
-      → IfSome contents AreSitePages
-      → IfSome (view_by old counted contents) (λ view. Gives (added view (rule view)) (answer page)
-      (view_by (record old { lines = old.lines ++ line ∷ [] }) later contents))
-  told_in page None counted later is found are = tt
-  told_in page (Some judged) counted later is found are =
+      → Gives (done_by rule (view_with old (unit_pages judged) counted))
+      (answer (page_of (name_for url) judged))
+      (view_with (record old { lines = old.lines ++ line ∷ [] }) (unit_pages judged) later)
+  told_in judged counted later are is =
       let view = view_with old (unit_pages judged) counted in
       let come = comes judged counted are in
       record {
-        answers = ap answer found ∙ sym come.answers;
+        answers = sym come.answers;
         stays =
-            ap (λ (c : Option Counted). Some (record view {
+            ap (λ (c : Option Counted). record view {
               lines = old.lines ++ line ∷ [];
               counted = c;
-            })) (is ∙ ap (λ (a : List Question). counted_all a counted) (sym come.asked))
-            ∙ ap (λ (l : List (List ℕ)). Some (record view {
+            }) (is ∙ ap (λ (a : List Question). counted_all a counted) (sym come.asked))
+            ∙ ap (λ (l : List (List ℕ)). record view {
               lines = old.lines ++ l;
               counted = counted_all (rule view).1.asked counted;
-            })) (sym come.lines)
-            ∙ ap (λ (w : World). Some (record view {
+            }) (sym come.lines)
+            ∙ ap (λ (w : World). record view {
               world = w;
               lines = old.lines ++ (rule view).1.lines;
               counted = counted_all (rule view).1.asked counted;
-            })) (sym come.world_is);
+            }) (sym come.world_is);
       }
-
-  fetched_in_all : (contents : Option JudgedPages) (counted : Option Counted) (most : ℕ)
-      → Fetches (count_in counted) most (count_in (counted_all (question url ∷ []) counted))
-      → IfSome contents AreSitePages
-      → IfSome (view_by old counted contents)
-      (λ view. Fetches (fetched_in view) most (fetched_in (added view (rule view)).1))
-  fetched_in_all None counted most is are = tt
-  fetched_in_all (Some judged) counted most is are =
-      let come = comes judged counted are in
-      subst (λ (a : List Question).
-      Fetches (count_in counted) most (count_in (counted_all a counted))) (sym come.asked) is
 
   -- the page was there
   pub asked_serves : (new : Sight) (before after : Seen) (page : Page) (given : A)
       → AsksFor url old new before after (Ok page) → given ≡ answer page
       → Serves rule old new before after (Ok given)
   asked_serves new before after page given asks is = record {
-    told =
-        subst (λ (g : A). IfSome (view_in old before)
-        (λ view. Gives (added view (rule view)) g (view_in new after))) (sym is)
-        (subst (λ (s : Sight). IfSome (view_in old before)
-        (λ view. Gives (added view (rule view)) (answer page) (view_in s after))) (sym asks.line)
-        (subst (λ (c : Option JudgedPages). IfSome (view_in old before)
-        (λ view. Gives (added view (rule view)) (answer page)
-        (view_by (record old { lines = old.lines ++ line ∷ [] }) (counted_in after) c)))
-        (sym asks.stays.contents)
-        (told_in page before.contents (counted_in before) (counted_in after)
+    told = λ judged may.
+        let done = done_by rule (view_in old before judged) in
+        subst (λ (g : A). Gives done g (view_in new after judged))
+        (ap answer (sym (asks.page judged may)) ∙ sym is)
+        (subst (λ (s : Sight). Gives done (answer (page_of (name_for url) judged))
+        (view_in s after judged)) (sym asks.line)
+        (told_in judged (counted_in before) (counted_in after) (asks.site judged may)
         (counted_after (question url) before.cache after.cache before.fetches after.fetches
-        asks.asks.cache asks.asks.fetches) asks.page asks.site)));
+        asks.asks.cache asks.asks.fetches)));
     steady = asks.asks.steady;
     failed = λ failed. absurd (cc);
     fetched = λ failed. absurd (cc);
@@ -254,9 +247,13 @@ module _ {A : Type 0} (url : Url) (rule : View → A × Step) (answer : Page →
     told = tt;
     steady = tt;
     failed = λ failed. (asks.failed (store failed)).rose;
-    fetched = λ failed. fetched_in_all before.contents (counted_in before) (count_of after.fetches)
-        (fetches_by (question url) before.cache before.fetches after.fetches
-        (asks.failed (store failed)).fetches) (asks.failed_site (store failed));
+    fetched = λ failed judged may.
+        let counted = counted_in before in
+        let come = comes judged counted (asks.failed_site (store failed) judged may) in
+        subst (λ (a : List Question).
+        Fetches (count_in counted) (count_of after.fetches) (count_in (counted_all a counted)))
+        (sym come.asked) (fetches_by (question url) before.cache before.fetches after.fetches
+        (asks.failed (store failed)).fetches);
     stays = asks.stays;
   }
     where
@@ -277,6 +274,19 @@ asks_nothing url old new seen (Err err) is so = record {
   failed_site = λ failed. absurd (cc);
   asks = tt;
   failed = λ failed. absurd (cc);
+  stays = Stays-same seen;
+}
+
+-- memory ran out before anything was asked
+pub lacks_serves : {A : Type 0} (rule : View → A × Step) (old new : Sight) (seen : Seen)
+    (result : Result A RunErr) → IsErr result → IsErrAnd result (λ err. err ≡ NoMemory)
+    → Serves rule old new seen seen result
+lacks_serves rule old new seen (Ok answer) is so = absurd (false≢true is)
+lacks_serves rule old new seen (Err err) is so = record {
+  told = tt;
+  steady = tt;
+  failed = λ failed. absurd (cc);
+  fetched = λ failed. absurd (cc);
   stays = Stays-same seen;
 }
 

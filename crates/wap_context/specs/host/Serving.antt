@@ -1,7 +1,7 @@
 -- What a call of a script comes to for the stage on which it plays: a row of the definitions, done
 -- to a step in which nothing was done yet, and added. This project's own.
 use Rattle.std.specs.Prelude.{◌≡◌, false, [], ◌∷◌, ◌++◌}
-use Rattle.std.specs.Prelude.{Result, Err, IfOk, OnOk, IfSome}
+use Rattle.std.specs.Prelude.{Result, Err, IfOk, OnOk}
 use Rattle.wap_base.specs.Count.{Rose}
 use Rattle.wap_base.specs.declared.fault.RunErr.{RunErr}
 use Rattle.wap_base.specs.declared.fault.RunErr.TheVariants.{Store}
@@ -10,9 +10,9 @@ use Rattle.wap_url.specs.Printing.{name_for}
 use Rattle.wap_execution.specs.declared.library.HostOut.{HostOut}
 use Rattle.wap_machine.specs.Hosts.{Gives, Fetches, IsNoBudget}
 use Rattle.wap_world.specs.declared.site.page.Page.{Page}
-use Rattle.wap_world.specs.site.Pages.{page_of, AreSitePages}
+use Rattle.wap_world.specs.site.Pages.{Pages as JudgedPages, page_of, AreSitePages}
 use Rattle.wap_world.specs.site.Misses.{Asked as Question}
-use Rattle.wap_world.specs.site.Asking.{Seen, Stays, Asks, Fails}
+use Rattle.wap_world.specs.site.Asking.{Seen, MayBe, Stays, Asks, Fails}
 use Rattle.wap_world.specs.Requests.{plain_get, request_line}
 use Rattle.wap_world.specs.Steps.{Step, still, quiet}
 use Rattle.wap_world.specs.scripting.Views.{View, added}
@@ -36,17 +36,21 @@ pub record Gave (row : Step → HostOut × Step) (old new : Sight) (out : HostOu
 
 -- ---- with pages
 
--- a row gave this, and what it adds to a view was added; where the store failed nothing is said but
--- how often it was asked
+-- what a row gives from a view, and the view with what it adds
+abbrev pub done_by : {A : Type 0} → (View → A × Step) → View → A × View
+done_by row view = added view (row view)
+
+-- a row gave this, and what it adds to the view with any pages that these may be then was added;
+-- where the store failed nothing is said but how often it was asked
 pub record Serves {A : Type 0} (row : View → A × Step) (old new : Sight) (before after : Seen)
     (result : Result A RunErr) : Type 0 where
-  pub told : IfOk result (λ answer. IfSome (view_in old before)
-      (λ view. Gives (added view (row view)) answer (view_in new after)))
+  pub told : IfOk result (λ answer. (judged : JudgedPages) → MayBe after judged
+      → Gives (done_by row (view_in old before judged)) answer (view_in new after judged))
   pub steady : OnOk result (after.faults ≡ before.faults)
   pub failed : result ≡ Err Store → Rose before.faults after.faults
-  pub fetched : result ≡ Err Store → IfSome (view_in old before)
-      (λ view. Fetches (fetched_in view) (count_of after.fetches)
-      (fetched_in (added view (row view)).1))
+  pub fetched : result ≡ Err Store → (judged : JudgedPages) → MayBe after judged
+      → Fetches (fetched_in (view_in old before judged)) (count_of after.fetches)
+      (fetched_in (done_by row (view_in old before judged)).1)
   pub stays : Stays before after
 
 -- ---- a page is asked for
@@ -58,12 +62,13 @@ question url = (name_for url, false)
 -- the line of a plain request for a page was added, and the page was asked for
 pub record AsksFor (url : Url) (old new : Sight) (before after : Seen) (result : Result Page RunErr)
     : Type 0 where
-  pub page : IfOk result (λ page. IfSome before.contents
-      (λ judged. page ≡ page_of (name_for url) judged))
+  pub page : IfOk result (λ page. (judged : JudgedPages) → MayBe after judged
+      → page ≡ page_of (name_for url) judged)
   pub line : OnOk result
       (new ≡ record old { lines = old.lines ++ request_line (plain_get url) ∷ [] })
-  pub site : OnOk result (IfSome before.contents AreSitePages)
-  pub failed_site : result ≡ Err Store → IfSome before.contents AreSitePages
+  pub site : OnOk result ((judged : JudgedPages) → MayBe after judged → AreSitePages judged)
+  pub failed_site : result ≡ Err Store
+      → (judged : JudgedPages) → MayBe after judged → AreSitePages judged
   pub asks : OnOk result (Asks (question url ∷ []) before after)
   pub failed : result ≡ Err Store → Fails (question url ∷ []) before after
   pub stays : Stays before after

@@ -1,9 +1,10 @@
 -- The stage on which a script plays: what it sees of a browser and may change, and the view that it
--- makes with pages that are known. This project's own.
+-- makes with pages. This project's own.
 use Rattle.std.specs.Prelude.{ℕ, List, Option, min}
 use Rattle.std.specs.Option.{option_map}
 use Rattle.wap_base.specs.Count.{greatest_count}
 use Rattle.wap_tokens.specs.declared.markup.deck.Deck.{Deck}
+use Rattle.wap_world.specs.site.Pages.{Pages as JudgedPages}
 use Rattle.wap_world.specs.site.Asking.{Seen}
 use Rattle.wap_world.specs.World.{World}
 use Rattle.wap_world.specs.scripting.UnitSites.{unit_pages}
@@ -32,18 +33,18 @@ sight_of stage =
 abbrev pub counted_in : Seen → Option Counted
 counted_in seen = option_map (λ cache. record { cache = cache; fetches = seen.fetches }) seen.cache
 
--- the view, where the pages are known
-abbrev pub view_in : Sight → Seen → Option View
-view_in sight seen = option_map (λ judged. record {
+-- the view, where these are the pages
+abbrev pub view_in : Sight → Seen → JudgedPages → View
+view_in sight seen judged = record {
   world = sight.world;
   deck = sight.deck;
   lines = sight.lines;
   pages = unit_pages judged;
   counted = counted_in seen;
-}) seen.contents
+}
 
-abbrev pub told : Stage → Seen → Option View
-told stage seen = view_in (sight_of stage) seen
+abbrev pub told : Stage → Seen → JudgedPages → View
+told stage seen judged = view_in (sight_of stage) seen judged
 
 -- ---- fetches
 

@@ -12,8 +12,8 @@ use Rattle.wap_unit.specs.declared.unit.Unit.{Unit}
 use Rattle.wap_base.specs.declared.key.Key.{Key}
 use Rattle.wap_world.specs.declared.site.page.Page.{Page}
 use Rattle.wap_world.specs.declared.site.page.Page.TheVariants as page
-use Rattle.wap_world.specs.site.Pages.{page_of, AreSitePages}
-use Rattle.wap_world.specs.site.Asking.{Seen, Stays, Asks}
+use Rattle.wap_world.specs.site.Pages.{Pages as JudgedPages, page_of, AreSitePages}
+use Rattle.wap_world.specs.site.Asking.{Seen, MayBe, Stays, Asks}
 use Rattle.wap_world.specs.declared.refusal.Refusal.{Refusal}
 use Rattle.wap_world.specs.declared.refusal.Refusal.TheVariants as refusals
 use Rattle.wap_world.specs.Shelves.{Shelf}
@@ -84,9 +84,9 @@ Answers url answer browser shelf =
 -- a page that was asked for: the answer, and the line
 pub record Asked (request : Request) (seen after : Seen) (before shown : List Line)
     (result : Result Page RunErr) : Type 0 where
-  pub answer : IfOk result
-      (λ answer. IfSome seen.contents (λ pages. answer ≡ page_of (name_for request.url) pages))
-  pub site : OnOk result (IfSome seen.contents AreSitePages)
+  pub answer : IfOk result (λ answer. (pages : JudgedPages) → MayBe after pages
+      → answer ≡ page_of (name_for request.url) pages)
+  pub site : OnOk result ((pages : JudgedPages) → MayBe after pages → AreSitePages pages)
   pub lines : OnOk result (shown ≡ before ++ request_line request ∷ [])
   pub asks : OnOk result (Asks ((name_for request.url, request.fresh) ∷ []) seen after)
   pub missed : result ≡ Err Store → Missed ((name_for request.url, request.fresh) ∷ []) seen after
@@ -122,10 +122,10 @@ pub record Goes (pages : Pages) (rule : List Key → Once) (seen now : Seen) (ne
 -- a call that follows a rule for one navigation
 pub record Takes (rule : Pages → List Key → World → Once) (seen after : Seen) (old new : Browser)
     (before shown : List Line) (result : Result Went RunErr) : Type 0 where
-  pub follows : IfOk result (λ went. IfOver seen.contents old
+  pub follows : IfOk result (λ went. IfOver after old
       (λ pages. Goes pages (λ keys. rule pages keys old.world) seen after new before shown went))
   pub steady : OnOk result (after.faults ≡ seen.faults)
-  pub missed : result ≡ Err Store → IfOver seen.contents old
+  pub missed : result ≡ Err Store → IfOver after old
       (λ pages. Missed (rule pages [] old.world).step.asked seen after)
   pub rose : result ≡ Err Store → Rose seen.faults after.faults
   pub stays : Stays seen after
@@ -174,10 +174,10 @@ pub record Ends (pages : Pages) (rule : List Key → Step) (seen now : Seen) (ne
 -- a call that follows a rule to its end, with the lines that were there before
 pub record Pursues (rule : Pages → List Key → World → Step) (seen after : Seen) (old new : Browser)
     (before : List Line) (result : Result Did RunErr) : Type 0 where
-  pub follows : IfOk result (λ did. IfOver seen.contents old
+  pub follows : IfOk result (λ did. IfOver after old
       (λ pages. Ends pages (λ keys. rule pages keys old.world) seen after new before did))
   pub steady : OnOk result (after.faults ≡ seen.faults)
-  pub missed : result ≡ Err Store → IfOver seen.contents old
+  pub missed : result ≡ Err Store → IfOver after old
       (λ pages. Missed (rule pages [] old.world).asked seen after)
   pub rose : result ≡ Err Store → Rose seen.faults after.faults
   pub stays : Stays seen after

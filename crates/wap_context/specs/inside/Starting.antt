@@ -143,10 +143,10 @@ pub record CameTo (pages : Pages) (end : Ended Step) (seen after : Seen) (new : 
 -- these pages before and after, the browser before and after, and the lines of the run before it
 pub record RunsTo (machine : Stack) (first : List Line) (seen after : Seen) (old new : Browser)
     (result : Result (Outcome × List Line) RunErr) : Type 0 where
-  pub came : IfOk result (λ did. IfOver seen.contents old
+  pub came : IfOk result (λ did. IfOver after old
       (λ pages. CameTo pages (run_of machine first pages old.world) seen after new did.0 did.1))
   pub steady : OnOk result (after.faults ≡ seen.faults)
-  pub missed : result ≡ Err Store → IfOver seen.contents old
+  pub missed : result ≡ Err Store → IfOver after old
       (λ pages. Missed (run_of machine first pages old.world).state.asked seen after)
   pub rose : result ≡ Err Store → Rose seen.faults after.faults
   pub stays : Stays seen after

@@ -88,17 +88,22 @@ impl Running {
 }
 
 impl<P: Pages> Host<P> for Running {
-    ghost use Rattle.wap_world.specs.site.Asking.{Stays};
-    ghost use Rattle.wap_world.proofs.SiteLemmas.Asking.{Stays-same, Stays-then};
+    ghost use Rattle.wap_world.specs.site.Pages.{Pages as JudgedPages};
+    ghost use Rattle.wap_world.specs.site.Asking.{MayBe, Stays};
+    ghost use Rattle.wap_world.proofs.SiteLemmas.Asking.{Stays-same, Stays-then, Stays-may};
     ghost use Rattle.wap_world.specs.scripting.Views.{View, viewing, host_at, fresh};
     ghost use Rattle.wap_context.specs.host.Stages.{told, count_of, fetched_in};
     ghost use Rattle.wap_context.specs.host.inside.Counting.{counts, added_grows};
+
+    ghost Under = { JudgedPages };
+
+    ghost may_have = { λ pages judged. MayBe (P.seen pages) judged };
 
     ghost State = { View };
 
     ghost turns = { λ host. host.turns };
 
-    ghost state = { λ host pages. told host (P.seen pages) };
+    ghost state = { λ host pages judged. told host (P.seen pages) judged };
 
     ghost meaning = { viewing };
 
@@ -144,12 +149,15 @@ impl<P: Pages> Host<P> for Running {
             .call(pages, base, referer, library, function, arguments)
     }
 
-    ghost counted = { λ host pages. counts host (P.seen pages) };
+    ghost counted = { λ host pages judged. counts host (P.seen pages) judged };
 
     ghost kept_still = { λ pages. Stays-same (P.seen pages) };
 
     ghost kept_then = { λ one two three.
         Stays-then (P.seen one) (P.seen two) (P.seen three) };
+
+    ghost kept_may = { λ before after judged kept may.
+        Stays-may (P.seen before) (P.seen after) kept judged may };
 
     ghost external_grows = { λ before caller target name count depth.
         added_grows before

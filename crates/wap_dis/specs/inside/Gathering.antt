@@ -11,7 +11,7 @@ pub record State : Type 0 where
 -- what was gathered and is put now was written, but for what is gathered still
 pub record Moves (before after : SinkSeen) (gathered left text : List ℕ) : Type 0 where
   pub moved : List ℕ
-  pub written : Appends before.written after.written moved
+  pub written : Appends before.taken after.taken moved
   pub same : gathered ++ text ≡ moved ++ left
 
 -- the sink and what is gathered, before and after a text is put
@@ -21,6 +21,6 @@ pub record Gathers (before after : SinkSeen) (old new : State) (text : List ℕ)
   pub whole : new.failed ≡ false
       → (old.failed ≡ false) × Moves before after old.bytes new.bytes text
   pub broken : new.failed ≡ true → old.failed ≡ false
-      → AppendsPrefix before.written after.written (old.bytes ++ text)
+      → AppendsPrefix before.taken after.taken (old.bytes ++ text)
       × Rose before.faults after.faults
   pub stays : old.failed ≡ true → (new.failed ≡ true) × (after ≡ before)

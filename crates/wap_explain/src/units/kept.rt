@@ -22,10 +22,8 @@ pub(crate) fn nothing_kept(alloc: Global) -> Kept {
 }
 
 impl Sink for Kept {
-    ghost use Rattle.std.specs.Prelude.{None};
-
     ghost seen = { λ kept.
-        record { written = None; writes = kept.writes; faults = kept.faults } };
+        record { taken = kept.bytes; writes = kept.writes; faults = kept.faults } };
 
     fn write(&mut self, piece: &[u8]) -> Result<usize, Failed> {
         self.writes = self.writes.saturating_add(1);

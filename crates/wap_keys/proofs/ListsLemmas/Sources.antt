@@ -1,25 +1,23 @@
 -- Lists of keys whose bytes are taken from a source.
 use Rattle.std.proofs.Common.{◌≡◌, ℕ, ◌+◌, ◌-◌, ◌<◌, ◌≤◌, Bool, true, List, [], ◌++◌}
-use Rattle.std.proofs.Common.{length, take, cond, Option, Some, None, Result, Ok, Err, refl, sym}
+use Rattle.std.proofs.Common.{length, take, cond, Some, Result, Ok, Err, refl, sym}
 use Rattle.std.proofs.Common.{ap, inl, inr, subst, ◌∙◌, append_assoc, append-nil, arith}
-use Rattle.std.specs.Prelude.{IfSome, IfOk, IsErr}
+use Rattle.std.specs.Prelude.{IfOk, IsErr}
 use Rattle.std.proofs.lemmas.Bool.{lt-ltb}
 use Rattle.std.proofs.lemmas.List.{length-append}
-use Rattle.wap_base.proofs.Choices.{some_same}
 use Rattle.wap_base.specs.Count.{raised, Rose}
 use Rattle.wap_base.specs.declared.fault.NoMemory.{NoMemory}
-use Rattle.wap_devices.specs.Transfer.{TakesFrom}
-use Rattle.wap_devices.specs.Sources.{SourceSeen}
+use Rattle.wap_devices.specs.Sources.{SourceSeen, Gives, MayGive}
 use Rattle.wap_base.specs.declared.key.Key.{Key}
 use Rattle.wap_keys.specs.declared.limits.TheConstants.{KEYS_LIMIT, LINE_LIMIT}
 use Rattle.wap_keys.specs.declared.fault.KeyFault.{KeyFault}
 use Rattle.wap_keys.specs.declared.ending.Ending.{Ending}
 use Rattle.wap_keys.specs.declared.ending.Ending.TheVariants.{End, BadKey, TooManyKeys, ReadFault}
 use Rattle.wap_keys.specs.Lines.{lines_of}
-use Rattle.wap_keys.specs.Read.{Takes, TakesSome, TakesAtOnce, AtMostOnce}
+use Rattle.wap_keys.specs.Read.{TakesSome, TakesAtOnce, GivesEnd, EndsAtMostOnce}
 use Rattle.wap_keys.specs.Prefixes.{is_unended}
-use Rattle.wap_keys.proofs.ReaderLaws.{takes_both, some_none, some_both, ending_past, take_past}
-use Rattle.wap_keys.proofs.ReaderLaws.{no_bytes, none_follows}
+use Rattle.wap_keys.proofs.GivingLaws.{gives_both, may_split, none_to_come}
+use Rattle.wap_keys.proofs.ReaderLaws.{some_none, some_both, ending_past, take_past, none_follows}
 use Rattle.wap_keys.specs.declared.lists.begun.Begun.{Begun}
 use Rattle.wap_keys.specs.lists.Lists.{Lists, all_of, lists_from, lists_at, lists_of}
 use Rattle.wap_keys.specs.lists.Read.{IsJustOver, AreRead, ReadsLists}
@@ -79,22 +77,18 @@ unfolding lists_of
 of_all taken rest few = ap (lists_at (ending_past (taken ++ rest))) (take_past taken rest few)
 
 -- what holds of the lists of all bytes, by those that were taken
-by_taken : (P : Lists → Type 0) (taken : List ℕ) → length taken ≤ KEYS_LIMIT
-    → (before left : Option (List ℕ)) → TakesFrom before left taken
-    → ((rest : List ℕ) → left ≡ Some rest → P (lists_at (ending_past (taken ++ rest))
-    (taken ++ take (KEYS_LIMIT - length taken) rest)))
-    → IfSome before (λ bytes. P (lists_of bytes))
-by_taken P taken few None left takes so = tt
-by_taken P taken few (Some bytes) None takes so = absurd (no_bytes bytes takes)
-by_taken P taken few (Some bytes) (Some rest) takes so =
-    subst (λ (l : List ℕ). P (lists_of l)) (sym (some_same bytes (taken ++ rest) takes))
-    (subst P (sym (of_all taken rest few)) (so rest refl))
+by_taken : (P : Lists → Type 0) (taken bytes rest : List ℕ) → length taken ≤ KEYS_LIMIT
+    → bytes ≡ taken ++ rest
+    → P (lists_at (ending_past (taken ++ rest)) (taken ++ take (KEYS_LIMIT - length taken) rest))
+    → P (lists_of bytes)
+by_taken P taken bytes rest few is so =
+    subst (λ (l : List ℕ). P (lists_of l)) (sym is) (subst P (sym (of_all taken rest few)) so)
 
 -- ---- how a call ends
 
 module _ {A : Type 0} (lists_in : A → List (List Key)) (start last : SourceSeen) (taken : List ℕ)
-    (takes : Takes taken start last) (few : length taken ≤ KEYS_LIMIT + 1)
-    (once : AtMostOnce start.ends last.ends) where
+    (takes : Gives taken start last) (few : length taken ≤ KEYS_LIMIT + 1)
+    (once : EndsAtMostOnce start last) where
   -- memory ran out
   pub gives_up : (fault : NoMemory) → last.faults ≡ start.faults
       → ReadsLists {A = A} lists_in start last (Err fault)
@@ -153,23 +147,23 @@ module _ (start now : SourceSeen) (taken : List ℕ) (lists : Begun) (count : �
   }
 
   takes_on : (last : SourceSeen) (piece : List ℕ) → TakesAtOnce piece now last
-      → Takes (taken ++ piece) start last
+      → Gives (taken ++ piece) start last
   takes_on last piece once =
-      takes_both start now last taken piece reading.some.takes once.takes
+      gives_both start now last taken piece reading.some.takes once.takes
 
   -- ---- a piece more
 
   module _ (last : SourceSeen) (piece : List ℕ) (more : ℕ) (many : length piece ≡ more)
       (some : 0 < more) (within : more ≤ KEYS_LIMIT - count) (at_once : TakesAtOnce piece now last)
       (ends : last.ends ≡ now.ends) (steady : last.faults ≡ now.faults) where
-    pub piece_takes : Takes (taken ++ piece) start last
+    pub piece_takes : Gives (taken ++ piece) start last
     piece_takes = takes_on last piece at_once
 
     pub piece_few : length (taken ++ piece) ≤ KEYS_LIMIT
     piece_few =
         omega (arith, length-append taken piece, many, within, reading.counted, reading.few)
 
-    pub piece_once : AtMostOnce start.ends last.ends
+    pub piece_once : EndsAtMostOnce start last
     piece_once = inl (ends ∙ reading.some.ends)
 
     pub piece_steady : last.faults ≡ start.faults
@@ -196,13 +190,12 @@ module _ (start now : SourceSeen) (taken : List ℕ) (lists : Begun) (count : �
         → (found : List (List Key)) → found ≡ []
         → AreRead start last found (BadKey new.number fault)
     piece_bad new fault (want, ends) found empty = record {
-      ending_is = λ differs.
-          by_taken (λ all. all.ending ≡ BadKey new.number fault) (taken ++ piece) piece_few
-          start.left last.left piece_takes.left
-          (λ rest is.
-          let ending = ending_past ((taken ++ piece) ++ rest) in
-          let others = take (KEYS_LIMIT - length (taken ++ piece)) rest in
-          ap (λ (l : List ℕ). (lists_at ending l).ending) (append_assoc taken piece others)
+      ending_is = λ differs bytes may.
+          let ending = ending_past ((taken ++ piece) ++ may.rest) in
+          let others = take (KEYS_LIMIT - length (taken ++ piece)) may.rest in
+          by_taken (λ all. all.ending ≡ BadKey new.number fault) (taken ++ piece) bytes may.rest
+          piece_few (may_split start last (taken ++ piece) bytes piece_takes may)
+          (ap (λ (l : List ℕ). (lists_at ending l).ending) (append_assoc taken piece others)
           ∙ ap (λ (t : Told). t.1) (reading.tells ending (piece ++ others))
           ∙ ends ending others);
       all = λ e. absurd cc;
@@ -219,46 +212,49 @@ module _ (start now : SourceSeen) (taken : List ℕ) (lists : Begun) (count : �
   -- ---- the end
 
   module _ (last : SourceSeen) (ends : ReadsEnd now last) where
-    pub end_takes : Takes (taken ++ []) start last
+    pub end_takes : Gives (taken ++ []) start last
     end_takes = takes_on last [] ends.takes
 
     pub end_few : length (taken ++ []) ≤ KEYS_LIMIT + 1
     end_few = omega (arith, length-append taken [], taken_few)
 
-    pub end_once : AtMostOnce start.ends last.ends
-    end_once = inr (ends.ends ∙ ap raised reading.some.ends)
+    gives_end : GivesEnd start last
+    gives_end =
+        record { none = ends.none; ends = ends.ends ∙ ap raised reading.some.ends }
+
+    pub end_once : EndsAtMostOnce start last
+    end_once = inr gives_end
 
     pub end_steady : last.faults ≡ start.faults
     end_steady = ends.steady ∙ reading.some.faults
 
-    none_more : (rest : List ℕ) → last.left ≡ Some rest → rest ≡ []
-    none_more rest is = subst (λ (left : Option (List ℕ)). IfSome left (λ bytes. bytes ≡ [])) is
-        ends.none
+    end_split : (bytes : List ℕ) (may : MayGive start last bytes) → bytes ≡ taken ++ may.rest
+    end_split bytes =
+        may_split start last taken bytes
+        (subst (λ (l : List ℕ). Gives l start last) (append-nil taken) end_takes)
 
-    short_takes : TakesFrom start.left last.left taken
-    short_takes =
-        subst (λ (l : List ℕ). TakesFrom start.left last.left l) (append-nil taken) end_takes.left
-
-    at_end : (rest : List ℕ) → last.left ≡ Some rest
-        → told (lists_at (ending_past (taken ++ rest))
-        (taken ++ take (KEYS_LIMIT - length taken) rest)) ≡ told_yet lists End []
-    at_end rest is =
-        let none = none_follows taken rest taken_few (none_more rest is) in
+    at_end : (bytes : List ℕ) (may : MayGive start last bytes)
+        → told (lists_at (ending_past (taken ++ may.rest))
+        (taken ++ take (KEYS_LIMIT - length taken) may.rest)) ≡ told_yet lists End []
+    at_end bytes may =
+        let none =
+        none_follows taken may.rest taken_few
+        (none_to_come start last bytes may gives_end.ends) in
         ap (λ (e : Ending).
-        told (lists_at e (taken ++ take (KEYS_LIMIT - length taken) rest))) none.0
+        told (lists_at e (taken ++ take (KEYS_LIMIT - length taken) may.rest))) none.0
         ∙ ap (λ (l : List ℕ). told (lists_at End (taken ++ l))) none.1
         ∙ reading.tells End []
 
     pub all_read : (found : List (List Key)) (by : Ending) → IsFinished lists found by
         → AreRead start last found by
     all_read found by finished = record {
-      ending_is = λ differs.
-          by_taken (λ all. all.ending ≡ by) taken taken_few start.left last.left short_takes
-          (λ rest is. ap (λ (t : Told). t.1) (at_end rest is) ∙ finished.ending_is);
-      all = λ e.
-          by_taken (λ all. all_of all ≡ found) taken taken_few start.left last.left short_takes
-          (λ rest is. ap (λ (t : Told). t.0) (at_end rest is ∙ finished.all e));
-      none_left = λ e. ends.none;
+      ending_is = λ differs bytes may.
+          by_taken (λ all. all.ending ≡ by) taken bytes may.rest taken_few (end_split bytes may)
+          (ap (λ (t : Told). t.1) (at_end bytes may) ∙ finished.ending_is);
+      all = λ e bytes may.
+          by_taken (λ all. all_of all ≡ found) taken bytes may.rest taken_few
+          (end_split bytes may) (ap (λ (t : Told). t.0) (at_end bytes may ∙ finished.all e));
+      none_left = λ e. gives_end;
       none = finished.none;
       too_many = λ e. absurd (finished.not_past e);
       prompt = just_over last [] ends.takes;
@@ -282,7 +278,7 @@ module _ (start now : SourceSeen) (taken : List ℕ) (lists : Begun) (count : �
   -- ---- a byte too many
 
   module _ (last : SourceSeen) (past : ReadsPast (KEYS_LIMIT - count) now last) where
-    pub past_takes : Takes (taken ++ past.byte) start last
+    pub past_takes : Gives (taken ++ past.byte) start last
     past_takes = takes_on last past.byte past.takes
 
     full : count ≡ KEYS_LIMIT
@@ -291,30 +287,16 @@ module _ (start now : SourceSeen) (taken : List ℕ) (lists : Begun) (count : �
     pub past_many : length (taken ++ past.byte) ≡ KEYS_LIMIT + 1
     past_many = omega (arith, length-append taken past.byte, past.one, full, reading.counted)
 
-    pub past_once : AtMostOnce start.ends last.ends
+    pub past_once : EndsAtMostOnce start last
     past_once = inl (past.ends ∙ reading.some.ends)
 
     pub past_steady : last.faults ≡ start.faults
     past_steady = past.steady ∙ reading.some.faults
 
-    some_more : (rest : List ℕ) (left : Option (List ℕ)) → TakesFrom (Some rest) left past.byte
-        → 0 < length rest
-    some_more rest None takes = absurd (no_bytes rest takes)
-    some_more rest (Some others) takes =
-        omega (
-          arith,
-          ap length (some_same rest (past.byte ++ others) takes),
-          length-append past.byte others,
-          past.one,
-        )
-
-    at_limit : (rest : List ℕ) → now.left ≡ Some rest
+    at_limit : (rest : List ℕ) → 0 < length rest
         → told (lists_at (ending_past (taken ++ rest))
         (taken ++ take (KEYS_LIMIT - length taken) rest)) ≡ told_yet lists TooManyKeys []
-    at_limit rest is =
-        let some = some_more rest last.left
-        (subst (λ (left : Option (List ℕ)). TakesFrom left last.left past.byte) is
-        past.takes.takes.left) in
+    at_limit rest some =
         let over : ending_past (taken ++ rest) ≡ TooManyKeys =
         ap (λ (b : Bool). cond b TooManyKeys End) (lt-ltb KEYS_LIMIT (length (taken ++ rest))
         (omega (arith, length-append taken rest, some, full, reading.counted))) in
@@ -327,10 +309,13 @@ module _ (start now : SourceSeen) (taken : List ℕ) (lists : Begun) (count : �
     pub past_read : (found : List (List Key)) → found ≡ []
         → AreRead start last found TooManyKeys
     past_read found empty = record {
-      ending_is = λ differs.
-          by_taken (λ all. all.ending ≡ TooManyKeys) taken taken_few start.left now.left
-          reading.some.takes.left
-          (λ rest is. ap (λ (t : Told). t.1) (at_limit rest is)
+      ending_is = λ differs bytes may.
+          let rest = past.byte ++ may.rest in
+          by_taken (λ all. all.ending ≡ TooManyKeys) taken bytes rest taken_few
+          (may_split start last (taken ++ past.byte) bytes past_takes may
+          ∙ append_assoc taken past.byte may.rest)
+          (ap (λ (t : Told). t.1)
+          (at_limit rest (omega (arith, length-append past.byte may.rest, past.one)))
           ∙ ap (λ (l : List ℕ). (lists_from TooManyKeys lists.number (lines_of l)).ending)
           (append-nil lists.line.items)
           ∙ ap (λ (all : Lists). all.ending)
@@ -349,13 +334,13 @@ module _ (start now : SourceSeen) (taken : List ℕ) (lists : Begun) (count : �
   -- ---- a fault
 
   module _ (last : SourceSeen) (fails : FailsToRead now last) where
-    pub fault_takes : Takes (taken ++ []) start last
+    pub fault_takes : Gives (taken ++ []) start last
     fault_takes = takes_on last [] fails.takes
 
     pub fault_few : length (taken ++ []) ≤ KEYS_LIMIT + 1
     fault_few = omega (arith, length-append taken [], taken_few)
 
-    pub fault_once : AtMostOnce start.ends last.ends
+    pub fault_once : EndsAtMostOnce start last
     fault_once = inl (fails.ends ∙ reading.some.ends)
 
     pub fault_counts : start.faults ≤ last.faults

@@ -2,8 +2,7 @@
 use Rattle.std.specs.Prelude.{◌≡◌, ◌≢◌, ℕ, ◌+◌, ◌<◌, ◌≤◌, true, List, [], ◌++◌, length, take, drop}
 use Rattle.std.specs.Prelude.{Option, Some, None, Result, Ok, Err}
 use Rattle.wap_base.specs.Count.{raised, Rose}
-use Rattle.wap_devices.specs.Transfer.{IsAtEnd}
-use Rattle.wap_devices.specs.Sources.{SourceSeen, Reads}
+use Rattle.wap_devices.specs.Sources.{SourceSeen, MayCome, Gives, Reads}
 use Rattle.wap_devices.specs.declared.fault.Failed.{Failed}
 use Rattle.wap_base.specs.declared.key.Key.{Key}
 use Rattle.wap_keys.specs.declared.limits.TheConstants.{KEYS_LIMIT, LINE_LIMIT, PIECE_LIMIT}
@@ -21,7 +20,6 @@ use Rattle.wap_keys.specs.declared.reader.More.{More}
 use Rattle.wap_keys.specs.declared.reader.More.TheVariants as more
 use Rattle.wap_keys.specs.Lines.{key_before}
 use Rattle.wap_keys.specs.Prefixes.{is_unended}
-use Rattle.wap_keys.specs.Read.{Takes}
 use Rattle.wap_keys.specs.KeyReaders.{Reading, said_yet}
 
 -- ---- lines
@@ -75,7 +73,7 @@ pub record ReadsPrefix (room : ℕ) (old new : List ℕ) (before after : SourceS
 -- a piece is read
 pub record ReadsPiece (before after : SourceSeen) (old new : Reading) : Type 0 where
   pub piece : List ℕ
-  pub takes : Takes piece before after
+  pub takes : Gives piece before after
   pub some : 0 < length piece
   pub small : length piece ≤ PIECE_LIMIT
   pub few : old.count + length piece ≤ KEYS_LIMIT
@@ -87,8 +85,8 @@ pub record ReadsPiece (before after : SourceSeen) (old new : Reading) : Type 0 w
 
 -- or the source gives its end
 pub record ReadsEnd (before after : SourceSeen) (old new : Reading) : Type 0 where
-  pub none : IsAtEnd before.left
-  pub takes : Takes [] before after
+  pub none : MayCome after.coming []
+  pub takes : Gives [] before after
   pub reader : new ≡ record old { over = true }
   pub reads : after.reads ≡ raised before.reads
   pub ends : after.ends ≡ raised before.ends
@@ -97,7 +95,7 @@ pub record ReadsEnd (before after : SourceSeen) (old new : Reading) : Type 0 whe
 -- or a byte past the limit is read
 pub record ReadsPast (before after : SourceSeen) (old new : Reading) : Type 0 where
   pub piece : List ℕ
-  pub takes : Takes piece before after
+  pub takes : Gives piece before after
   pub one : length piece ≡ 1
   pub full : old.count ≡ KEYS_LIMIT
   pub reader : new ≡ old
@@ -107,7 +105,7 @@ pub record ReadsPast (before after : SourceSeen) (old new : Reading) : Type 0 wh
 
 -- or the source fails
 pub record FailsToRead (before after : SourceSeen) (old new : Reading) : Type 0 where
-  pub takes : Takes [] before after
+  pub takes : Gives [] before after
   pub reader : new ≡ old
   pub reads : after.reads ≡ raised before.reads
   pub ends : after.ends ≡ before.ends
@@ -124,7 +122,7 @@ ReadsMore before after old new more.Failed = FailsToRead before after old new
 -- out of memory: some bytes were taken, and are lost
 pub record LosesPiece (before after : SourceSeen) (old : Reading) : Type 0 where
   pub piece : List ℕ
-  pub takes : Takes piece before after
+  pub takes : Gives piece before after
   pub small : length piece ≤ PIECE_LIMIT
   pub few : old.count + length piece ≤ KEYS_LIMIT + 1
   pub reads : after.reads ≡ raised before.reads

@@ -1,16 +1,15 @@
 -- Lists of keys whose bytes are taken from a source. This project's own.
-use Rattle.std.specs.Prelude.{◌≡◌, ◌≢◌, ℕ, ◌+◌, ◌≤◌, List, [], length, Result, IfSome, IfOk}
+use Rattle.std.specs.Prelude.{◌≡◌, ◌≢◌, ℕ, ◌+◌, ◌≤◌, List, [], length, Result, IfOk}
 use Rattle.std.specs.Prelude.{OnErr}
 use Rattle.wap_base.specs.Count.{Rose}
 use Rattle.wap_base.specs.declared.fault.NoMemory.{NoMemory}
-use Rattle.wap_devices.specs.Sources.{SourceSeen}
-use Rattle.wap_devices.specs.Transfer.{IsAtEnd}
+use Rattle.wap_devices.specs.Sources.{SourceSeen, Gives, MayGive}
 use Rattle.wap_base.specs.declared.key.Key.{Key}
 use Rattle.wap_keys.specs.declared.limits.TheConstants.{KEYS_LIMIT}
 use Rattle.wap_keys.specs.declared.fault.KeyFault.TheVariants as key
 use Rattle.wap_keys.specs.declared.ending.Ending.{Ending}
 use Rattle.wap_keys.specs.declared.ending.Ending.TheVariants.{End, BadKey, TooManyKeys, ReadFault}
-use Rattle.wap_keys.specs.Read.{TakesAtMost, AtMostOnce, Takes, TakesSome, TakesAtOnce}
+use Rattle.wap_keys.specs.Read.{TakesAtMost, TakesSome, TakesAtOnce, GivesEnd, EndsAtMostOnce}
 use Rattle.wap_keys.specs.lists.Lists.{all_of, lists_at, lists_of}
 
 -- the last read began where no line of the bytes before it is refused: it gave what ends the lists,
@@ -28,23 +27,24 @@ pub record IsJustOver (before after : SourceSeen) : Type 0 where
 -- lists that were read, from a source before to the source after, and how they came to an end
 pub record AreRead (before after : SourceSeen) (lists : List (List Key)) (ending : Ending) : Type 0
   where
-    -- where the bytes are known, they end so, unless the source failed
+    -- all bytes that the source may give end so, unless it failed
     pub ending_is : ending ≢ ReadFault
-        → IfSome before.left (λ bytes. (lists_of bytes).ending ≡ ending)
-    -- at their end all are there, and no byte is left
-    pub all : ending ≡ End → IfSome before.left (λ bytes. all_of (lists_of bytes) ≡ lists)
-    pub none_left : ending ≡ End → IsAtEnd after.left
+        → (bytes : List ℕ) → MayGive before after bytes → (lists_of bytes).ending ≡ ending
+    -- at their end all are there, and the source gave its end
+    pub all : ending ≡ End
+        → (bytes : List ℕ) → MayGive before after bytes → all_of (lists_of bytes) ≡ lists
+    pub none_left : ending ≡ End → GivesEnd before after
     -- else none are given
     pub none : ending ≢ End → lists ≡ []
     -- of too many bytes one more is taken than counts
     pub too_many : ending ≡ TooManyKeys
-        → (bytes : List ℕ) × (length bytes ≡ KEYS_LIMIT + 1) × Takes bytes before after
+        → (bytes : List ℕ) × (length bytes ≡ KEYS_LIMIT + 1) × Gives bytes before after
     -- no read begins once a line is refused
     pub prompt : IsJustOver before after
     -- the source failed where the ending says so, and only there
     pub failed : ending ≡ ReadFault → Rose before.faults after.faults
     -- and no line of the bytes that it had given by then is refused
-    pub given : ending ≡ ReadFault → (taken : List ℕ) × Takes taken before after
+    pub given : ending ≡ ReadFault → (taken : List ℕ) × Gives taken before after
         × ((lists_at ReadFault taken).ending ≡ ReadFault)
     pub steady : ending ≢ ReadFault → after.faults ≡ before.faults
     -- out of memory is no fault of a line
@@ -58,4 +58,4 @@ pub record ReadsLists {A : Type 0} (lists_in : A → List (List Key)) (before af
   pub unread : OnErr result (after.faults ≡ before.faults)
   pub few : TakesAtMost (KEYS_LIMIT + 1) before after
   pub counts : before.faults ≤ after.faults
-  pub end_once : AtMostOnce before.ends after.ends
+  pub end_once : EndsAtMostOnce before after

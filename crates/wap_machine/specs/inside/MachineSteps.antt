@@ -1,6 +1,6 @@
 -- What steps of a machine come to. This carries proofs alone.
 use Rattle.std.specs.Prelude.{⊤, ◌≡◌, ◌≢◌, ℕ, ◌-◌, ◌<◌, ◌≤◌, List, []}
-use Rattle.std.specs.Prelude.{◌∷◌, length, Option, Some, None}
+use Rattle.std.specs.Prelude.{◌∷◌, length, Some}
 use Rattle.wap_base.specs.declared.limits.Limits.{Limits}
 use Rattle.wap_value.specs.declared.value.Value.{Value}
 use Rattle.wap_url.specs.declared.url.Url.{Url}
@@ -32,12 +32,6 @@ use Rattle.wap_machine.specs.Runs.{meant, KeepsLimits, WantsNoTurn}
 abbrev pub rest : {S : Type 0} → Setting S → Step → ℕ → S → Ended S
 rest setting (Goes machine) turns state = finished setting machine.frames turns state
 rest setting (Ends outcome) turns state = ended (meant outcome) turns state
-
--- where the state was known it still is, and what was to do before is what is to do after
-abbrev pub Same : {S E : Type 0} → (S → E) → Option S → (S → E) → Option S → Type 0
-Same before None after later = ⊤
-Same before (Some state) after None = ⊥
-Same before (Some state) after (Some later) = before state ≡ after later
 
 -- what frames make of a call from the innermost of them
 abbrev pub calls_from : {S : Type 0}

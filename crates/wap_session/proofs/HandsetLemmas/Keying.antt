@@ -25,14 +25,14 @@ use Rattle.wap_world.specs.inboxes.Winners.{winners_of}
 use Rattle.wap_world.specs.inboxes.Notices.{entry_lines}
 use Rattle.wap_world.specs.inboxes.Inboxes.{telling, take_push, url_at, is_of_inbox}
 use Rattle.wap_world.specs.inboxes.Inboxes.{react_with}
-use Rattle.wap_world.proofs.InboxesLemmas.Winning.{calculated, exactly}
+use Rattle.wap_world.proofs.InboxesLemmas.Winning.{exactly}
 use Rattle.wap_world.proofs.InboxesLemmas.Reacting.{reacts_alike, entry_opened, entry_ignored}
 use Rattle.wap_session.specs.notices.Taking.{push_lines, pushes_with, url_in}
 use Rattle.wap_session.specs.handset.Holding.{Held}
 use Rattle.wap_session.specs.handset.Feeding.{held_with, step_of, Plays}
 use Rattle.wap_session.specs.handset.inside.Turns.{state_of, turned_by, turned_with}
 use Rattle.wap_session.specs.handset.inside.Turns.{followed_url, inbox_lines, pushes_after}
-use Rattle.wap_session.proofs.HandsetLemmas.Turning.{asked_by, played_as, played_fails}
+use Rattle.wap_session.proofs.HandsetLemmas.Turning.{asked_by, played_as}
 use Rattle.wap_session.proofs.HandsetLemmas.Turning.{shown_asked, played_by_inbox}
 
 -- a key in a handset comes with any keys after it to what a key of the session comes to
@@ -66,23 +66,31 @@ module _ (sold : session.State) (winners : List Indication)
       -- by what the session gave
       pub plays_as : (snew : session.State) (result : Result (List (List ℕ)) SessionFault)
           → sold.is_over ≡ false → session.Plays (other ∷ []) before after sold snew result
-          → OnOk result
-          (IfOver before.contents sold.browser (λ pages. TurnsTo other pages sold snew))
+          → OnOk result (IfOver after sold.browser (λ pages. TurnsTo other pages sold snew))
           → Plays (one ∷ []) before after (state_of sold winners false)
           (state_of snew winners (is_err result)) result
       plays_as snew (Ok lines) going so turns =
-          played_as one other before after sold snew winners winners own same lines so turns
-      plays_as snew (Err fault) going so turns =
-          played_fails one other before after sold snew winners winners fault going so
+          played_as one other before after sold snew winners winners same lines own so turns
+      plays_as snew (Err fault) going so turns = record {
+        leads = tt;
+        asks = tt;
+        steady = tt;
+        failed = so.failed;
+        ended = λ was. absurd cc;
+        goes_on = λ is. so.goes_on going;
+        ready = tt;
+        over = refl;
+        stays = so.stays;
+      }
 
       -- it asks for the same
-      pub misses_as : IfOver before.contents sold.browser (λ pages.
+      pub misses_as : IfOver after sold.browser (λ pages.
           Missed (session.step_of pages (other ∷ []) sold).asked before after)
-          → IfOver before.contents sold.browser (λ pages.
+          → IfOver after sold.browser (λ pages.
           Missed (step_of pages (one ∷ []) (state_of sold winners false)).asked before after)
       misses_as =
-          asked_by one other before after sold sold winners winners own same
-          (λ asked. Missed asked before after) before.contents
+          asked_by one other before after sold sold winners winners same
+          (λ asked. Missed asked before after)
 
   -- ---- in a dialog
 
@@ -200,56 +208,72 @@ module _ (sold : session.State) (winners : List Indication)
       shown_of None = lines
       shown_of (Some shown) = shown
 
-      abbrev PlaysKey : Key → Type 0
-      PlaysKey one = Plays (one ∷ []) before after (state_of sold winners false)
-          (state_of snew winners' false)
-          (Ok (shown_of (option_map (map shown_text) (inbox_lines winners one))))
-
-      plays_other : (one : Key) → is_of_inbox one ≡ false → HaveWinners winners winners'
-          → session.Plays (one ∷ []) before after sold snew (Ok lines)
-          → IfOver before.contents sold.browser (λ pages. TurnsTo one pages sold snew)
+      -- by what the session did with it, it is played, and asks for pages
+      abbrev Does : Key → List Indication → List (List ℕ) → Type 0
+      Does one taken told =
+          (HaveWinners taken winners' → session.Plays (one ∷ []) before after sold snew (Ok lines)
+          → IfOver after sold.browser (λ pages. TurnsTo one pages sold snew)
           → Plays (one ∷ []) before after (state_of sold winners false)
-          (state_of snew winners' false) (Ok lines)
-      plays_other one other have so turns =
-          played_as one one before after sold snew winners winners' have (other_key one other)
-          lines so turns
+          (state_of snew winners' false) (Ok told))
+          × (IfOver after sold.browser (λ pages.
+          Missed (session.step_of pages (one ∷ []) sold).asked before after)
+          → IfOver after sold.browser (λ pages.
+          Missed (step_of pages (one ∷ []) (state_of sold winners false)).asked before after))
 
-      plays_key : (one : Key) → None ≡ followed_url winners one
-          → HaveWinners (pushes_after winners one) winners'
-          → session.Plays (one ∷ []) before after sold snew (Ok lines)
-          → IfOver before.contents sold.browser (λ pages. TurnsTo one pages sold snew)
-          → PlaysKey one
-      plays_key (key.Push bytes) is have so turns =
-          played_by_inbox (key.Push bytes) before after sold snew winners
-          (pushes_with winners (push_at bytes)) winners' (push_lines winners (push_at bytes)) have
-          rests (push_ignored bytes) (λ pages keys. pushed_so (push_at bytes) keys) lines so
-      plays_key key.Inbox is have so turns =
-          played_by_inbox key.Inbox before after sold snew winners winners winners'
-          (entry_lines 1 (inbox_of winners)) have rests inbox_ignored entries_told lines so
-      plays_key (key.Follow n) is have so turns =
-          played_as (key.Follow n) (key.Follow n) before after sold snew winners winners' have
-          (none_followed n is) lines so turns
-      plays_key (key.Open url) is have so turns = plays_other (key.Open url) refl have so turns
-      plays_key (key.Do name) is have so turns = plays_other (key.Do name) refl have so turns
-      plays_key (key.Pick n) is have so turns = plays_other (key.Pick n) refl have so turns
-      plays_key (key.Enter n text) is have so turns =
-          plays_other (key.Enter n text) refl have so turns
-      plays_key (key.Choose n m) is have so turns =
-          plays_other (key.Choose n m) refl have so turns
-      plays_key key.Back is have so turns = plays_other key.Back refl have so turns
-      plays_key (key.Tick n) is have so turns = plays_other (key.Tick n) refl have so turns
-      plays_key key.Ok is have so turns = plays_other key.Ok refl have so turns
-      plays_key key.Cancel is have so turns = plays_other key.Cancel refl have so turns
-      plays_key (key.Answer text) is have so turns =
-          plays_other (key.Answer text) refl have so turns
-      plays_key key.Stop is have so turns = plays_other key.Stop refl have so turns
-      plays_key key.Vars is have so turns = plays_other key.Vars refl have so turns
+      -- as the session's
+      does_as : (one : Key) → IsPlayedAs one one sold winners → Does one winners lines
+      does_as one same = (
+        λ have so turns. played_as one one before after sold snew winners winners' same lines have
+            so turns,
+        misses_as one one same before after,
+      )
+
+      does_other : (one : Key) → is_of_inbox one ≡ false → Does one winners lines
+      does_other one other = does_as one (other_key one other)
+
+      -- by the inbox
+      does_here : (one : Key) (taken : List Indication) (shown : List (List ℕ))
+          → ((pages : Pages) → react (site_of pages) one [] sold.browser.world
+          ≡ quiet [] (ignored (renewed sold.browser.world)))
+          → ((pages : Pages) (keys : List Key) → react_with push_at (site_of pages) one keys
+          (record { world = sold.browser.world; pushes = winners })
+          ≡ record { step = telling keys (renewed sold.browser.world) shown; pushes = taken })
+          → Does one taken (map shown_text shown)
+      does_here one taken shown passes tells = (
+        λ have so turns. played_by_inbox one before after sold snew winners taken winners' shown
+            rests passes tells lines have so,
+        shown_asked one before after sold snew winners taken winners' shown rests passes tells
+            (λ asked. Missed asked before after),
+      )
+
+      pub does_key : (one : Key) → None ≡ followed_url winners one
+          → Does one (pushes_after winners one)
+          (shown_of (option_map (map shown_text) (inbox_lines winners one)))
+      does_key (key.Push bytes) is =
+          does_here (key.Push bytes) (pushes_with winners (push_at bytes))
+          (push_lines winners (push_at bytes)) (push_ignored bytes)
+          (λ pages keys. pushed_so (push_at bytes) keys)
+      does_key key.Inbox is =
+          does_here key.Inbox winners (entry_lines 1 (inbox_of winners)) inbox_ignored entries_told
+      does_key (key.Follow n) is = does_as (key.Follow n) (none_followed n is)
+      does_key (key.Open url) is = does_other (key.Open url) refl
+      does_key (key.Do name) is = does_other (key.Do name) refl
+      does_key (key.Pick n) is = does_other (key.Pick n) refl
+      does_key (key.Enter n text) is = does_other (key.Enter n text) refl
+      does_key (key.Choose n m) is = does_other (key.Choose n m) refl
+      does_key key.Back is = does_other key.Back refl
+      does_key (key.Tick n) is = does_other (key.Tick n) refl
+      does_key key.Ok is = does_other key.Ok refl
+      does_key key.Cancel is = does_other key.Cancel refl
+      does_key (key.Answer text) is = does_other (key.Answer text) refl
+      does_key key.Stop is = does_other key.Stop refl
+      does_key key.Vars is = does_other key.Vars refl
 
       -- by what the inbox shows in place of the session, if it does
       pub plays_inbox : (one : Key) → None ≡ followed_url winners one
           → HaveWinners (pushes_after winners one) winners'
           → session.Plays (one ∷ []) before after sold snew (Ok lines)
-          → IfOver before.contents sold.browser (λ pages. TurnsTo one pages sold snew)
+          → IfOver after sold.browser (λ pages. TurnsTo one pages sold snew)
           → (found : Option (List (List ℕ)))
           → found ≡ option_map (map shown_text) (inbox_lines winners one)
           → Plays (one ∷ []) before after (state_of sold winners false)
@@ -258,46 +282,7 @@ module _ (sold : session.State) (winners : List Indication)
           subst (λ (o : Option (List (List ℕ))).
           Plays (one ∷ []) before after (state_of sold winners false)
           (state_of snew winners' false) (Ok (shown_of o))) (sym same)
-          (plays_key one is have so turns)
-
-    -- ---- what it asks for
-
-    module _ (before after : Seen) where
-      abbrev MissesKey : Key → Type 0
-      MissesKey one = IfOver before.contents sold.browser (λ pages.
-          Missed (session.step_of pages (one ∷ []) sold).asked before after)
-          → IfOver before.contents sold.browser (λ pages.
-          Missed (step_of pages (one ∷ []) (state_of sold winners false)).asked before after)
-
-      misses_other : (one : Key) → is_of_inbox one ≡ false → MissesKey one
-      misses_other one other = misses_as one one (other_key one other) before after
-
-      pub misses_key : (one : Key) → None ≡ followed_url winners one → MissesKey one
-      misses_key (key.Push bytes) is =
-          shown_asked (key.Push bytes) before after sold sold winners
-          (pushes_with winners (push_at bytes))
-          (winners_of (pushes_with winners (push_at bytes))) (push_lines winners (push_at bytes))
-          (calculated (pushes_with winners (push_at bytes))) rests
-          (push_ignored bytes) (λ pages keys. pushed_so (push_at bytes) keys)
-          (λ asked. Missed asked before after) before.contents
-      misses_key key.Inbox is =
-          shown_asked key.Inbox before after sold sold winners winners winners
-          (entry_lines 1 (inbox_of winners)) own rests inbox_ignored entries_told
-          (λ asked. Missed asked before after) before.contents
-      misses_key (key.Follow n) is =
-          misses_as (key.Follow n) (key.Follow n) (none_followed n is) before after
-      misses_key (key.Open url) is = misses_other (key.Open url) refl
-      misses_key (key.Do name) is = misses_other (key.Do name) refl
-      misses_key (key.Pick n) is = misses_other (key.Pick n) refl
-      misses_key (key.Enter n text) is = misses_other (key.Enter n text) refl
-      misses_key (key.Choose n m) is = misses_other (key.Choose n m) refl
-      misses_key key.Back is = misses_other key.Back refl
-      misses_key (key.Tick n) is = misses_other (key.Tick n) refl
-      misses_key key.Ok is = misses_other key.Ok refl
-      misses_key key.Cancel is = misses_other key.Cancel refl
-      misses_key (key.Answer text) is = misses_other (key.Answer text) refl
-      misses_key key.Stop is = misses_other key.Stop refl
-      misses_key key.Vars is = misses_other key.Vars refl
+          ((does_key one is).0 have so turns)
 
 -- ---- a key that the session ignores
 
@@ -305,11 +290,11 @@ pub ignores_key : (sold snew : session.State) (winners : List Indication)
     (own : HaveWinners winners winners) (one : Key) (seen : Seen) (lines : List (List ℕ))
     (over : Bool) → is_of_inbox one ≡ false → sold.waiting ≡ None → over ≡ false
     → session.Plays (one ∷ []) seen seen sold snew (Ok lines)
-    → IfOver seen.contents sold.browser (λ pages. TurnsTo one pages sold snew)
+    → IfOver seen sold.browser (λ pages. TurnsTo one pages sold snew)
     → Plays (one ∷ []) seen seen (state_of sold winners over) (state_of snew winners over)
     (Ok lines)
 ignores_key sold snew winners own one seen lines over other rests going so turns =
     subst (λ (b : Bool). Plays (one ∷ []) seen seen (state_of sold winners b)
     (state_of snew winners b) (Ok lines)) (sym going)
-    (played_as one one seen seen sold snew winners winners own
-    (other_key sold winners own rests one other) lines so turns)
+    (played_as one one seen seen sold snew winners winners
+    (other_key sold winners own rests one other) lines own so turns)

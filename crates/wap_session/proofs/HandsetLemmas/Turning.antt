@@ -1,13 +1,12 @@
 -- Where a key leads in a handset.
-use Rattle.std.proofs.Common.{◌≡◌, ℕ, List, [], ◌∷◌, true, false, Option, Some, None}
-use Rattle.std.proofs.Common.{Ok, Err, map, refl, sym, ap, subst, ◌∙◌}
+use Rattle.std.proofs.Common.{◌≡◌, ℕ, List, [], ◌∷◌, false, Option, Some, None}
+use Rattle.std.proofs.Common.{Ok, map, refl, sym, ap, subst, ◌∙◌}
 use Rattle.std.specs.Prelude.{is_some}
 use Rattle.wap_base.specs.Controls.{shown_text}
 use Rattle.wap_base.specs.declared.key.Key.{Key}
 use Rattle.wap_push.specs.declared.indication.Indication.{Indication}
-use Rattle.wap_world.specs.site.Pages.{Pages as JudgedPages}
 use Rattle.wap_world.specs.site.Misses.{Asked}
-use Rattle.wap_world.specs.site.Asking.{Seen, Stays, Asks}
+use Rattle.wap_world.specs.site.Asking.{Seen, Asks}
 use Rattle.wap_world.specs.Steps.{Step, then_step, quiet}
 use Rattle.wap_world.specs.Sessions.{shown_by}
 use Rattle.wap_world.specs.Keys.{renewed, ignored, react}
@@ -17,8 +16,6 @@ use Rattle.wap_world.specs.scripting.Feeding.{Fed, meaning, turned, after_fed}
 use Rattle.wap_world.proofs.ScriptingLawsLemmas.Feeding.{quiet_means}
 use Rattle.wap_context.specs.Browsers.{IsOver}
 use Rattle.wap_context.specs.Sites.{fragment_call, site_of, IfOver}
-use Rattle.wap_session.specs.declared.fault.SessionFault.{SessionFault}
-use Rattle.wap_session.specs.declared.fault.SessionFault.TheVariants.{NoMemory}
 use Rattle.wap_session.specs.Feeding as session
 use Rattle.wap_session.specs.Feeding.{left_open, TurnsTo}
 use Rattle.wap_session.proofs.Alone.{alone, turned_none, none_of}
@@ -112,8 +109,7 @@ module _ (pages : Pages) (one : Key) (old new : State) (s : Step) (taken : List 
 -- ---- a key that the session plays, as itself or as another
 
 module _ (one other : Key) (before after : Seen) (sold snew : session.State)
-    (winners winners' : List Indication) (have : HaveWinners winners winners')
-    (same : (pages : Pages) (keys : List Key)
+    (winners winners' : List Indication) (same : (pages : Pages) (keys : List Key)
     → turned_with pages (held_with winners (state_of sold winners false)) one keys
     ≡ record {
       step = turned fragment_call pages sold.waiting sold.browser.world other keys;
@@ -146,38 +142,28 @@ module _ (one other : Key) (before after : Seen) (sold snew : session.State)
       (alone_with pages sold.browser.world winners one (session.step_of pages (other ∷ []) sold)
       winners (none_left pages) sold.waiting (first_is pages))
 
-  leads_by : (lines : List (List ℕ)) (contents : Option JudgedPages)
-      → IfOver contents sold.browser
-      (λ pages. session.Leads (other ∷ []) pages sold snew lines)
-      → IfOver contents sold.browser (λ pages. TurnsTo other pages sold snew)
-      → IfOver contents sold.browser (λ pages. Leads (one ∷ []) pages old new lines)
-  leads_by lines None leads turns = tt
-  leads_by lines (Some judged) leads turns = λ is.
-      let pages = unit_pages judged in
-      let led = leads is in
-      leads_with pages one old new (session.step_of pages (other ∷ []) sold) winners
-      (none_left pages)
-      (λ keys. same pages keys
-      ∙ ap (λ (s : Step). record { step = s; pushes = winners }) (turns is keys))
-      (first_is pages) led.world have led.over led.asks_user lines led.tells
-
   -- a fact of what it asks for
-  pub asked_by : (Fact : List Asked → Type 0) (contents : Option JudgedPages)
-      → IfOver contents sold.browser
-      (λ pages. Fact (session.step_of pages (other ∷ []) sold).asked)
-      → IfOver contents sold.browser (λ pages. Fact (step_of pages (one ∷ []) old).asked)
-  asked_by Fact None so = tt
-  asked_by Fact (Some judged) so = λ is.
-      subst Fact (sym (ap (λ (s : Step). s.asked) (single (unit_pages judged)))) (so is)
+  pub asked_by : (Fact : List Asked → Type 0)
+      → IfOver after sold.browser (λ pages. Fact (session.step_of pages (other ∷ []) sold).asked)
+      → IfOver after sold.browser (λ pages. Fact (step_of pages (one ∷ []) old).asked)
+  asked_by Fact so judged may is =
+      subst Fact (sym (ap (λ (s : Step). s.asked) (single (unit_pages judged)))) (so judged may is)
 
   -- it is played
-  pub played_as : (lines : List (List ℕ))
+  pub played_as : (lines : List (List ℕ)) → HaveWinners winners winners'
       → session.Plays (other ∷ []) before after sold snew (Ok lines)
-      → IfOver before.contents sold.browser (λ pages. TurnsTo other pages sold snew)
+      → IfOver after sold.browser (λ pages. TurnsTo other pages sold snew)
       → Plays (one ∷ []) before after old new (Ok lines)
-  played_as lines so turns = record {
-    leads = leads_by lines before.contents so.leads turns;
-    asks = asked_by (λ asked. Asks asked before after) before.contents so.asks;
+  played_as lines have so turns = record {
+    leads = λ judged may is.
+        let pages = unit_pages judged in
+        let led = so.leads judged may is in
+        leads_with pages one old new (session.step_of pages (other ∷ []) sold) winners
+        (none_left pages)
+        (λ keys. same pages keys
+        ∙ ap (λ (s : Step). record { step = s; pushes = winners }) (turns judged may is keys))
+        (first_is pages) led.world have led.over led.asks_user lines led.tells;
+    asks = asked_by (λ asked. Asks asked before after) so.asks;
     steady = so.steady;
     failed = λ is. absurd cc;
     ended = λ over. absurd cc;
@@ -196,7 +182,7 @@ no_script (Some waits) none = absurd cc
 
 module _ (one : Key) (before after : Seen) (sold snew : session.State)
     (winners taken winners' : List Indication) (shown : List (List ℕ))
-    (have : HaveWinners taken winners') (rests : sold.waiting ≡ None)
+    (rests : sold.waiting ≡ None)
     (passes : (pages : Pages) → react (site_of pages) one [] sold.browser.world
     ≡ quiet [] (ignored (renewed sold.browser.world)))
     (tells : (pages : Pages) (keys : List Key) → react_with push_at (site_of pages) one keys
@@ -232,50 +218,40 @@ module _ (one : Key) (before after : Seen) (sold snew : session.State)
       (alone_with pages sold.browser.world winners one step taken refl sold.waiting
       (turned_so pages []))
 
-  shown_by_inbox : (lines : List (List ℕ)) (contents : Option JudgedPages)
-      → IfOver contents sold.browser
-      (λ pages. session.Leads (one ∷ []) pages sold snew lines)
-      → IfOver contents sold.browser
-      (λ pages. Leads (one ∷ []) pages rested told (map shown_text shown))
-  shown_by_inbox lines None leads = tt
-  shown_by_inbox lines (Some judged) leads = λ is.
-      let pages = unit_pages judged in
-      let led = leads is in
-      let passed = passes_by pages in
-      let none : snew.waiting ≡ None =
-      no_script snew.waiting (led.asks_user ∙ ap (λ (s : Step). s.is_open) passed) in
-      leads_with pages one rested told step taken refl
-      (λ keys. turned_so pages keys
-      ∙ ap (λ (s : Step). record { step = s; pushes = taken })
-      (quiet_means fragment_call pages
-      (record { world = renewed sold.browser.world; lines = shown }) keys)
-      ∙ ap (λ (o : Option Waits). record {
-        step = meaning fragment_call pages (record { step = step; waiting = o }) keys;
-        pushes = taken;
-      }) (sym none))
-      (turned_so pages [])
-      (led.world ∙ ap (λ (s : Step). s.world) passed) have led.over
-      (ap is_some none) (map shown_text shown) refl
-
   -- a fact of what it asks for
-  pub shown_asked : (Fact : List Asked → Type 0) (contents : Option JudgedPages)
-      → IfOver contents sold.browser
-      (λ pages. Fact (session.step_of pages (one ∷ []) sold).asked)
-      → IfOver contents sold.browser (λ pages. Fact (step_of pages (one ∷ []) rested).asked)
-  shown_asked Fact None so = tt
-  shown_asked Fact (Some judged) so = λ is.
+  pub shown_asked : (Fact : List Asked → Type 0)
+      → IfOver after sold.browser (λ pages. Fact (session.step_of pages (one ∷ []) sold).asked)
+      → IfOver after sold.browser (λ pages. Fact (step_of pages (one ∷ []) rested).asked)
+  shown_asked Fact so judged may is =
       let pages = unit_pages judged in
       subst Fact
       (ap (λ (s : Step). s.asked) (passes_by pages)
-      ∙ sym (ap (λ (s : Step). s.asked) (shown_alone pages))) (so is)
+      ∙ sym (ap (λ (s : Step). s.asked) (shown_alone pages))) (so judged may is)
 
   -- it is played
-  pub played_by_inbox : (lines : List (List ℕ))
+  pub played_by_inbox : (lines : List (List ℕ)) → HaveWinners taken winners'
       → session.Plays (one ∷ []) before after sold snew (Ok lines)
       → Plays (one ∷ []) before after rested told (Ok (map shown_text shown))
-  played_by_inbox lines so = record {
-    leads = shown_by_inbox lines before.contents so.leads;
-    asks = shown_asked (λ asked. Asks asked before after) before.contents so.asks;
+  played_by_inbox lines have so = record {
+    leads = λ judged may is.
+        let pages = unit_pages judged in
+        let led = so.leads judged may is in
+        let passed = passes_by pages in
+        let none : snew.waiting ≡ None =
+        no_script snew.waiting (led.asks_user ∙ ap (λ (s : Step). s.is_open) passed) in
+        leads_with pages one rested told step taken refl
+        (λ keys. turned_so pages keys
+        ∙ ap (λ (s : Step). record { step = s; pushes = taken })
+        (quiet_means fragment_call pages
+        (record { world = renewed sold.browser.world; lines = shown }) keys)
+        ∙ ap (λ (o : Option Waits). record {
+          step = meaning fragment_call pages (record { step = step; waiting = o }) keys;
+          pushes = taken;
+        }) (sym none))
+        (turned_so pages [])
+        (led.world ∙ ap (λ (s : Step). s.world) passed) have led.over
+        (ap is_some none) (map shown_text shown) refl;
+    asks = shown_asked (λ asked. Asks asked before after) so.asks;
     steady = so.steady;
     failed = λ is. absurd cc;
     ended = λ over. absurd cc;
@@ -283,41 +259,4 @@ module _ (one : Key) (before after : Seen) (sold snew : session.State)
     ready = refl;
     over = tt;
     stays = so.stays;
-  }
-
--- ---- a key that fails
-
-module _ (one other : Key) (before after : Seen) (sold snew : session.State)
-    (winners winners' : List Indication) where
-  -- in the session
-  pub played_fails : (fault : SessionFault) → sold.is_over ≡ false
-      → session.Plays (other ∷ []) before after sold snew (Err fault)
-      → Plays (one ∷ []) before after (state_of sold winners false) (state_of snew winners' true)
-      (Err fault)
-  played_fails fault going so = record {
-    leads = tt;
-    asks = tt;
-    steady = tt;
-    failed = so.failed;
-    ended = λ was. absurd cc;
-    goes_on = λ is. so.goes_on going;
-    ready = tt;
-    over = refl;
-    stays = so.stays;
-  }
-
-  -- for want of memory
-  pub played_wants : Stays before after
-      → Plays (one ∷ []) before after (state_of sold winners false) (state_of snew winners' true)
-      (Err NoMemory)
-  played_wants stays = record {
-    leads = tt;
-    asks = tt;
-    steady = tt;
-    failed = λ is. absurd cc;
-    ended = λ was. absurd cc;
-    goes_on = λ is no. absurd cc;
-    ready = tt;
-    over = refl;
-    stays = stays;
   }

@@ -1,20 +1,16 @@
 -- What a handset is seen as, and what keys come to. This project's own.
 use Rattle.std.specs.Prelude.{◌≡◌, Bool, false, if◌then◌else◌, List, [], ◌++◌, Option, Some, None}
-use Rattle.std.specs.Prelude.{is_some, IfOk, IfErr, OnOk, OnErr, ◌≢◌, ℕ, Result, Err, true}
-use Rattle.wap_base.specs.Count.{Rose}
+use Rattle.std.specs.Prelude.{is_some, ℕ, Result}
 use Rattle.wap_base.specs.declared.key.Key.{Key}
 use Rattle.wap_push.specs.declared.indication.Indication.{Indication}
-use Rattle.wap_world.specs.site.Asking.{Seen, Stays, Asks}
-use Rattle.wap_world.specs.Steps.{Step, then_step}
+use Rattle.wap_world.specs.site.Asking.{Seen}
+use Rattle.wap_world.specs.Steps.{Step}
 use Rattle.wap_world.specs.Sessions.{shown_by, Begun, world_of}
 use Rattle.wap_world.specs.scripting.UnitSites.{Pages, shelf_of}
 use Rattle.wap_world.specs.scripting.Waiting.{Waits}
 use Rattle.wap_context.specs.Browsers.{Browser, IsOver}
-use Rattle.wap_context.specs.Missing.{Missed}
-use Rattle.wap_context.specs.Sites.{IfOver}
 use Rattle.wap_session.specs.declared.fault.SessionFault.{SessionFault}
-use Rattle.wap_session.specs.declared.fault.SessionFault.TheVariants.{Store, Ended}
-use Rattle.wap_session.specs.Feeding.{State as Session, left_open}
+use Rattle.wap_session.specs.Feeding.{State as Session, GoesOn, TellsOn, MissesAt, Played}
 use Rattle.wap_push.specs.Inbox.{HaveWinners}
 use Rattle.wap_world.specs.inboxes.Winners.{Alike}
 use Rattle.wap_world.specs.inboxes.Inboxes.{Stepped}
@@ -69,8 +65,11 @@ abbrev pub stepped_of : Pages → List Key → State → Stepped
 stepped_of pages keys state = played_with_from pages (held_with state.winners state) keys
 
 -- what keys come to in a handset over these pages
+abbrev pub steps_in : State → Pages → List Key → Step
+steps_in state pages keys = (stepped_of pages keys state).step
+
 abbrev pub step_of : Pages → List Key → State → Step
-step_of pages keys state = (stepped_of pages keys state).step
+step_of pages keys state = steps_in state pages keys
 
 -- the lines that they show
 abbrev pub shown_of : Pages → List Key → State → List (List ℕ)
@@ -80,8 +79,7 @@ shown_of pages keys state = shown_by (step_of pages keys state)
 
 -- what further keys come to after these keys is what they come to in the new handset
 abbrev pub PlaysOn : List Key → Pages → State → State → Type 0
-PlaysOn keys pages old new = (others : List Key) → step_of pages (keys ++ others) old
-    ≡ then_step (left_open (step_of pages keys old)) (step_of pages others new)
+PlaysOn keys pages old new = GoesOn keys (steps_in old pages) (steps_in new pages)
 
 -- and they leave pushes with the same winners
 abbrev pub TakesOn : List Key → Pages → State → State → Type 0
@@ -104,34 +102,16 @@ pub record Leads (keys : List Key) (pages : Pages) (old new : State) (lines : Li
     pub takes_on : TakesOn keys pages old new
 
 -- keys that are played: pages before and after, the handset before and after, and the answer
-pub record Plays (keys : List Key) (before after : Seen) (old new : State)
-    (result : Result (List (List ℕ)) SessionFault) : Type 0 where
-  -- the lines and the new handset are those of the keys' step
-  pub leads : IfOk result (λ lines. IfOver before.contents old.browser
-      (λ pages. Leads keys pages old new lines))
-  -- the step's pages were asked for, in order
-  pub asks : OnOk result (IfOver before.contents old.browser
-      (λ pages. Asks (step_of pages keys old).asked before after))
-  pub steady : OnOk result (after.faults ≡ before.faults)
-  -- the store failed
-  pub failed : result ≡ Err Store → Rose before.faults after.faults
-  -- exactly a handset that is over gives no more lines, and it asks for nothing
-  pub ended : old.is_over ≡ true → (result ≡ Err Ended) × (after ≡ before)
-  pub goes_on : old.is_over ≡ false → IfErr result (λ fault. fault ≢ Ended)
-  pub ready : OnOk result (new.is_over ≡ false)
-  pub over : OnErr result (new.is_over ≡ true)
-  -- however it ends
-  pub stays : Stays before after
+abbrev pub Plays : List Key → (before after : Seen) → (old new : State)
+    → Result (List (List ℕ)) SessionFault → Type 0
+Plays keys before after old new =
+    Played (λ pages lines. Leads keys pages old new lines) (λ pages. step_of pages keys old) before
+    after old.browser old.is_over new.is_over
 
--- the store failed at a page of the last of these first keys, and those before it were played
-pub record MissedAt (keys : List Key) (pages : Pages) (old : State) (before after : Seen) : Type 0
-  where
-    pub first : List Key
-    pub others : List Key
-    pub split : keys ≡ first ++ others
-    pub missed : Missed (step_of pages first old).asked before after
+-- the store failed at a page of one of the keys
+abbrev pub MissedAt : List Key → Pages → State → (before after : Seen) → Type 0
+MissedAt keys pages old = MissesAt keys (steps_in old pages)
 
 -- the lines of keys, and then what any further keys show, are what the keys and these show
 abbrev pub ShowsOn : List Key → Pages → State → State → List (List ℕ) → Type 0
-ShowsOn keys pages old new lines = (others : List Key)
-    → lines ++ shown_of pages others new ≡ shown_of pages (keys ++ others) old
+ShowsOn keys pages old new = TellsOn keys (steps_in old pages) (steps_in new pages)

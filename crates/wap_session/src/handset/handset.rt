@@ -119,11 +119,11 @@ impl Handset {
         ensures plays { Plays (key.now ∷ []) (P.seen pages.old) (P.seen pages.new)
             self.old self.new result }
         ensures missed { IsErrOf result SessionFault.Store
-            → IfOver (P.seen pages.old).contents self.old.browser (λ of.
+            → IfOver (P.seen pages.new) self.old.browser (λ of.
             Missed (step_of of (key.now ∷ []) self.old).asked
             (P.seen pages.old) (P.seen pages.new)) }
         ensures shown { IfOk result (λ lines.
-            IfOver (P.seen pages.old).contents self.old.browser (λ of.
+            IfOver (P.seen pages.new) self.old.browser (λ of.
             ShowsOn (key.now ∷ []) of self.old self.new lines)) }
     {
         if self.is_over {
@@ -165,10 +165,10 @@ impl Handset {
         ensures plays { Plays keys.now (P.seen pages.old) (P.seen pages.new)
             self.old self.new result }
         ensures missed { IsErrOf result SessionFault.Store
-            → IfOver (P.seen pages.old).contents self.old.browser (λ of.
+            → IfOver (P.seen pages.new) self.old.browser (λ of.
             MissedAt keys.now of self.old (P.seen pages.old) (P.seen pages.new)) }
         ensures shown { IfOk result (λ lines.
-            IfOver (P.seen pages.old).contents self.old.browser (λ of.
+            IfOver (P.seen pages.new) self.old.browser (λ of.
             ShowsOn keys.now of self.old self.new lines)) }
     {
         if self.is_over() {

@@ -119,7 +119,7 @@ pub(crate) fn turn<P: Pages>(
         (state_of session.old inbox.old false) (state_of session.new inbox.new (is_err result))
         result }
     ensures missed { IsErrOf result SessionFault.Store
-        → IfOver (P.seen pages.old).contents session.old.browser (λ of.
+        → IfOver (P.seen pages.new) session.old.browser (λ of.
         Missed (step_of of (key.now ∷ []) (state_of session.old inbox.old false)).asked
         (P.seen pages.old) (P.seen pages.new)) }
     ensures ready { OnOk result (session.new.is_over ≡ false) }

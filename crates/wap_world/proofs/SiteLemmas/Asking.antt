@@ -3,8 +3,11 @@ use Rattle.std.proofs.Common.{◌≡◌, ℕ, ◌+◌, List, [], ◌++◌, Optio
 use Rattle.std.proofs.Common.{refl, sym, ap, subst, ◌∙◌, arith}
 use Rattle.std.specs.Prelude.{IfSome, option_map}
 use Rattle.wap_base.specs.Count.{Rose}
+use Rattle.wap_base.specs.Contents.{Contents}
 use Rattle.wap_world.specs.site.Misses.{Cache, Asked, after_all, misses}
-use Rattle.wap_world.specs.site.Asking.{Seen, raised_by, RaisedWithin, Stays, Asks, Fails}
+use Rattle.wap_devices.proofs.Telling.{grew_nothing, grew_then, agrees_before}
+use Rattle.wap_world.specs.site.Pages.{Pages}
+use Rattle.wap_world.specs.site.Asking.{Seen, MayBe, raised_by, RaisedWithin, Stays, Asks, Fails}
 use Rattle.wap_world.proofs.SiteLemmas.Counts.{after_all-then, misses-then, raised_by-then}
 
 -- ---- what a cache keeps
@@ -119,8 +122,8 @@ Fails-more asked others x y so = record {
 
 pub Stays-same : (x : Seen) → Stays x x
 Stays-same x = record {
-  contents = refl;
-  behind = refl;
+  known = grew_nothing x.known x.known refl;
+  judge = refl;
   capacity = refl;
   listings = refl;
   faults = omega arith;
@@ -129,8 +132,8 @@ Stays-same x = record {
 
 pub Stays-then : (x y z : Seen) → Stays x y → Stays y z → Stays x z
 Stays-then x y z first second = record {
-  contents = second.contents ∙ first.contents;
-  behind = second.behind ∙ first.behind;
+  known = grew_then x.known y.known z.known first.known second.known;
+  judge = second.judge ∙ first.judge;
   capacity = second.capacity ∙ first.capacity;
   listings = second.listings ∙ first.listings;
   faults = let one = first.faults in let two = second.faults in omega arith;
@@ -139,4 +142,12 @@ Stays-then x y z first second = record {
     second.fetches.1 ∙ ap (raised_by second.fetches.0) first.fetches.1
         ∙ sym (raised_by-then first.fetches.0 second.fetches.0 x.fetches),
   );
+}
+
+-- what pages may be after calls, they may have been before
+pub Stays-may : (x y : Seen) → Stays x y → (pages : Pages) → MayBe y pages → MayBe x pages
+Stays-may x y stays pages may = record {
+  contents = may.contents;
+  agrees = agrees_before x.known y.known stays.known may.contents may.agrees;
+  are = may.are ∙ ap (λ (judge : Contents → Pages). judge may.contents) stays.judge;
 }

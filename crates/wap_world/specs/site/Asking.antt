@@ -2,20 +2,26 @@
 use Rattle.std.specs.Prelude.{◌≡◌, ℕ, zero, suc, ◌≤◌, List, Option, IfSome, option_map}
 use Rattle.wap_base.specs.Count.{raised, Rose}
 use Rattle.wap_base.specs.Contents.{Contents}
+use Rattle.wap_devices.specs.Stores.{Known, Agrees, Grew}
 use Rattle.wap_world.specs.site.Pages.{Pages}
 use Rattle.wap_world.specs.site.Misses.{Cache, Asked, after_all, misses}
 
 pub record Seen : Type 0 where
-  -- the pages, where they are known
-  pub contents : Option Pages
-  -- the bytes from which they were judged, where those are known
-  pub behind : Option Contents
+  -- what is known of the bytes below the pages, and which pages such bytes are judged to be
+  pub known : Known
+  pub judge : Contents → Pages
   -- what a cache keeps, where it is known
   pub cache : Option Cache
   -- how often the store below them failed, was asked for a page, and was asked for its names
   pub faults : ℕ
   pub fetches : ℕ
   pub listings : ℕ
+
+-- these may be the pages: bytes that may be those below them are judged so
+pub record MayBe (seen : Seen) (pages : Pages) : Type 0 where
+  pub contents : Contents
+  pub agrees : Agrees seen.known contents
+  pub are : pages ≡ seen.judge contents
 
 -- a count after so many more
 abbrev pub raised_by : ℕ → ℕ → ℕ
@@ -29,10 +35,10 @@ pub record RaisedWithin (most before after : ℕ) : Type 0 where
   pub few : more ≤ most
   pub count : after ≡ raised_by more before
 
--- what no call changes
+-- what no call changes, and what only grows
 pub record Stays (before after : Seen) : Type 0 where
-  pub contents : after.contents ≡ before.contents
-  pub behind : after.behind ≡ before.behind
+  pub known : Grew before.known after.known
+  pub judge : after.judge ≡ before.judge
   pub capacity : option_map (λ cache. cache.capacity) after.cache
       ≡ option_map (λ cache. cache.capacity) before.cache
   pub listings : after.listings ≡ before.listings

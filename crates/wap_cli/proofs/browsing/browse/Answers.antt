@@ -1,14 +1,13 @@
 use Rattle.std.proofs.Common.{sym, subst}
 use Rattle.wap_cli.specs.declared.status.Status.TheVariants.{NoMemory}
-use Rattle.wap_cli.specs.browse.Plays.{AreUnitPages, opened}
+use Rattle.wap_cli.specs.browse.Plays.{opened}
 use Rattle.wap_cli.proofs.BrowseLemmas.Exits.{nothing_browses}
 use Rattle.wap_cli.proofs.BrowseLemmas.Summary.{browses_by}
-use Rattle.wap_cli.proofs.BrowseLemmas.Forgetting.{browsed_over, outside_over}
+use Rattle.wap_cli.proofs.BrowseLemmas.Forgetting.{browsed_over}
 use Rattle.wap_cli.specs.Browsing.{BrowsesOver}
-use Rattle.wap_cli.specs.Devices.{Devices}
+use Rattle.wap_cli.specs.Devices.{Devices, uncached}
 use Rattle.wap_cli.specs.Headline.{begun_by}
-use Rattle.wap_cli.proofs.Seeing.{browsed}
-use Rattle.wap_cli.proofs.Sourcing.{browses_over, fresh_pages}
+use Rattle.wap_cli.proofs.Sourcing.{browses_over}
 use Rattle.wap_cli.proofs.browsing.browse.Goals as goal
 
 pub returns-in-Err : goal.returns-in-Err
@@ -23,8 +22,8 @@ returns-in-Err g c =
     (record { store = g.S.Store.seen store; source = source; sink = sink }) NoMemory)
     (sym c.in-Err.ensures.back)
     (browses_over begun capacity devices devices NoMemory
-    (browses_by (opened begun) (browsed capacity devices) (browsed capacity devices) NoMemory
-    (nothing_browses (opened begun) (browsed capacity devices))))
+    (browses_by (opened begun) (uncached capacity devices) (uncached capacity devices) NoMemory
+    (nothing_browses (opened begun) (uncached capacity devices))))
 
 pub returns : goal.returns
 returns g c =
@@ -43,11 +42,7 @@ returns g c =
       sink = sink_after;
     } in
     browses_over (begun_by begun) begun.cache old new status
-    (browsed_over g.S.Store.seen (AreUnitPages (browsed begun.cache old).pages)
-    (opened (begun_by begun)) c.in-Ok.pages played.pages c.args.store c.into_store.result begun.cache
-    source source_after sink sink_after status c.in-Ok.ensures.store c.in-Ok.ensures.kept
-    c.in-Ok.ensures.capacity c.into_store.ensures
-    (fresh_pages g.S.Store.seen (opened (begun_by begun)) c.in-Ok.pages c.args.store begun.cache
-    (outside_over g.S.Store.seen c.in-Ok.pages source sink)
-    (outside_over g.S.Store.seen played.pages source_after sink_after) status
-    c.in-Ok.ensures.store c.in-Ok.ensures.kept c.in-Ok.ensures.capacity c.browse-status.ensures))
+    (browsed_over g.S.Store.seen (opened (begun_by begun)) c.in-Ok.pages played.pages c.args.store
+    c.into_store.result begun.cache source source_after sink sink_after status
+    c.in-Ok.ensures.store c.in-Ok.ensures.kept c.in-Ok.ensures.capacity c.into_store.ensures
+    c.browse-status.ensures)

@@ -1,6 +1,5 @@
 -- What browsing comes to, status by status. This project's own.
 use Rattle.std.specs.Prelude.{◌≡◌, ◌≢◌, ℕ, ◌+◌, ◌≤◌, Bool, true, false, List, [], ◌++◌, length}
-use Rattle.std.specs.Prelude.{Some, IfSome}
 use Rattle.wap_base.specs.Count.{Rose}
 use Rattle.wap_devices.specs.Transfer.{AppendsPrefix}
 use Rattle.wap_base.specs.declared.key.Key.{Key}
@@ -8,10 +7,11 @@ use Rattle.wap_keys.specs.declared.limits.TheConstants.{KEYS_LIMIT}
 use Rattle.wap_keys.specs.declared.fault.KeyFault.TheVariants as key
 use Rattle.wap_keys.specs.declared.ending.Ending.TheVariants as ending
 use Rattle.wap_keys.specs.Lines.{keys_of, keys_at}
-use Rattle.wap_devices.specs.Sources.{SourceSeen}
+use Rattle.wap_devices.specs.Sources.{SourceSeen, MayGive}
 use Rattle.wap_keys.specs.Read.{AreFirst, keys_among, rose, IsPrompt, IsAtLast, TakesAtMost}
-use Rattle.wap_keys.specs.Read.{AtMostOnce}
-use Rattle.wap_world.specs.site.Asking.{Stays}
+use Rattle.wap_keys.specs.Read.{EndsAtMostOnce}
+use Rattle.wap_world.specs.site.Pages.{Pages as JudgedPages}
+use Rattle.wap_world.specs.site.Asking.{MayBe, Stays}
 use Rattle.wap_world.specs.Steps.{Step}
 use Rattle.wap_world.specs.scripting.UnitSites.{unit_pages}
 use Rattle.wap_cli.specs.declared.status.Status.{Status}
@@ -71,24 +71,24 @@ EndsAt TooManyKeys is_open = Unit {0}
 -- what was written where keys come to this
 pub record Written (status : Status) (play : List Key → Step) (bytes : List ℕ) (given : List Key)
     (old new : Outside) : Type 0 where
-  pub prefix : AppendsPrefix old.sink.written new.sink.written
+  pub prefix : AppendsPrefix old.sink.taken new.sink.taken
       (bytes_of (play (keys_of bytes).keys))
   pub shows : ShowsTo status play given old new
   pub opens : EndsAt status (play given).is_open
 
--- what a source with these bytes gave
+-- what a source gave that may have these bytes
 pub record Gives (play : Play) (bytes : List ℕ) (old new : Outside) (status : Status) : Type 0
   where
     pub taken : List ℕ
     pub rest : List ℕ
     pub split : bytes ≡ taken ++ rest
-    pub left_is : new.source.left ≡ Some rest
+    pub given_is : new.source.given ≡ old.source.given ++ taken
     pub given : List Key
     pub first : AreFirst given (keys_among (rose old.source.ends new.source.ends) taken)
     pub prompt : IsPrompt old.source new.source taken given
     pub ends : EndsSo status old.source new.source bytes taken rest given
-    pub written : IfSome old.pages.contents
-        (λ judged. Written status (play (unit_pages judged)) bytes given old new)
+    pub written : (judged : JudgedPages) → MayBe new.pages judged
+        → Written status (play (unit_pages judged)) bytes given old new
 
 -- out of memory is no fault of a line
 abbrev pub IsOfLine : Status → Type 0
@@ -147,7 +147,8 @@ WriteMoves TooManyKeys before after = after ≡ before
 -- ---- all together
 
 pub record BrowsesTo (play : Play) (old new : Outside) (status : Status) : Type 0 where
-  pub known : IfSome old.source.left (λ bytes. Gives play bytes old new status)
+  pub reads : (bytes : List ℕ) → MayGive old.source new.source bytes
+      → Gives play bytes old new status
   pub store : StoreMoves status old.pages.faults new.pages.faults
   pub read : ReadMoves status old.source.faults new.source.faults
   pub write : WriteMoves status old.sink.faults new.sink.faults
@@ -156,4 +157,4 @@ pub record BrowsesTo (play : Play) (old new : Outside) (status : Status) : Type 
   pub read_counts : old.source.faults ≤ new.source.faults
   pub write_counts : old.sink.faults ≤ new.sink.faults
   pub few : TakesAtMost (KEYS_LIMIT + 1) old.source new.source
-  pub end_once : AtMostOnce old.source.ends new.source.ends
+  pub end_once : EndsAtMostOnce old.source new.source

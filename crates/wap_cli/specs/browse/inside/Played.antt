@@ -29,9 +29,9 @@ pub record Moment : Type 0 where
 abbrev pub step_at : Pages → Key → Moment → Step
 step_at pages key old = step_of pages (key ∷ []) old.state
 
--- a fact of a key, where the pages are known and have the deck
-abbrev pub IfKnown : Moment → (Pages → Type 0) → Type 0
-IfKnown old Fact = IfOver old.pages.contents old.state.browser Fact
+-- a fact of a key, over any pages that there may be afterwards and that have the deck
+abbrev pub IfMayBe : Moment → Moment → (Pages → Type 0) → Type 0
+IfMayBe old new Fact = IfOver new.pages old.state.browser Fact
 
 -- a key that was played, and its lines written
 pub record Leads (pages : Pages) (key : Key) (old new : Moment) : Type 0 where
@@ -39,21 +39,21 @@ pub record Leads (pages : Pages) (key : Key) (old new : Moment) : Type 0 where
   pub on : PlaysOn (key ∷ []) pages old.state new.state
   pub unpushed : IsNoPush key → old.state.winners ≡ [] → new.state.winners ≡ []
   pub asks : Asks (step_at pages key old).asked old.pages new.pages
-  pub wrote : Appends old.sink.written new.sink.written
+  pub wrote : Appends old.sink.taken new.sink.taken
       (lines_bytes (shown_by (step_at pages key old)))
 
 -- a key that was played, and a prefix of its lines written
 pub record LeadsPart (pages : Pages) (key : Key) (old new : Moment) : Type 0 where
   pub on : PlaysOn (key ∷ []) pages old.state new.state
   pub asks : Asks (step_at pages key old).asked old.pages new.pages
-  pub wrote : AppendsPrefix old.sink.written new.sink.written
+  pub wrote : AppendsPrefix old.sink.taken new.sink.taken
       (lines_bytes (shown_by (step_at pages key old)))
 
 -- ---- what each answer says
 
 -- the key was played, and its lines were written
 pub record GoesOn (key : Key) (old new : Moment) : Type 0 where
-  pub leads : IfKnown old (λ pages. Leads pages key old new)
+  pub leads : IfMayBe old new (λ pages. Leads pages key old new)
   pub ready : new.state.is_over ≡ false
   pub stays : Stays old.pages new.pages
   pub steady : new.pages.faults ≡ old.pages.faults
@@ -62,14 +62,14 @@ pub record GoesOn (key : Key) (old new : Moment) : Type 0 where
 -- the store failed, and nothing was written
 pub record FailsAtStore (key : Key) (old new : Moment) : Type 0 where
   pub rose : Rose old.pages.faults new.pages.faults
-  pub missed : IfKnown old
+  pub missed : IfMayBe old new
       (λ pages. Missed (step_at pages key old).asked old.pages new.pages)
   pub unwritten : new.sink ≡ old.sink
   pub stays : Stays old.pages new.pages
 
 -- the sink failed
 pub record FailsAtSink (key : Key) (old new : Moment) : Type 0 where
-  pub leads : IfKnown old (λ pages. LeadsPart pages key old new)
+  pub leads : IfMayBe old new (λ pages. LeadsPart pages key old new)
   pub rose : Rose old.sink.faults new.sink.faults
   pub counts : old.sink.faults ≤ new.sink.faults
   pub stays : Stays old.pages new.pages

@@ -1,11 +1,14 @@
 -- What a session over a made folder came to. This project's own.
 use Rattle.std.specs.Prelude.{◌≡◌, ℕ, List, [], ◌∷◌, ◌++◌, length, drop, codes, decimal}
-use Rattle.wap_base.specs.Contents.{names_of}
+use Rattle.wap_base.specs.Contents.{Contents, names_of}
+use Rattle.wap_base.specs.Texts.{AreDistinct}
 use Rattle.wap_base.specs.declared.key.Key.{Key}
 use Rattle.wap_base.specs.declared.key.Key.TheVariants.{Vars}
+use Rattle.wap_devices.specs.Stores.{Held}
 use Rattle.wap_make.specs.Folders.{folder}
 use Rattle.wap_pages.specs.Judged.{judged}
 use Rattle.wap_world.specs.site.Pages.{Pages}
+use Rattle.wap_world.specs.site.Asking.{Seen}
 use Rattle.wap_world.specs.Sites.{Site}
 use Rattle.wap_world.specs.Sessions.{played, shown_by, world_of}
 use Rattle.wap_world.specs.scripting.UnitSites.{unit_pages}
@@ -22,6 +25,12 @@ made_pages n = judged (folder n)
 -- and their site
 abbrev pub made_site : ℕ → Site
 made_site n = site_of (unit_pages (made_pages n))
+
+-- the pages that are seen are those of a folder in memory, as a browser judges them
+pub record IsMade (folder : Contents) (seen : Seen) : Type 0 where
+  pub distinct : AreDistinct (names_of folder)
+  pub known : seen.known ≡ Held folder
+  pub judge : seen.judge ≡ judged
 
 -- the lines of keys from the beginning
 abbrev pub lines_by : Site → List Key → List (List ℕ)

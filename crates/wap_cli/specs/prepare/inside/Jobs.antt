@@ -1,7 +1,8 @@
 -- What each page is judged that a store answered. This project's own.
 use Rattle.std.specs.Prelude.{◌≡◌}
 use Rattle.wap_cli.specs.prepare.Reports.{Entry, IsVerdict}
-use Rattle.wap_cli.specs.prepare.Fetching.{Job, page_of}
+use Rattle.wap_cli.specs.Answers.{page_of}
+use Rattle.wap_cli.specs.prepare.Fetching.{Job}
 
 -- an entry is right for a job
 pub record IsRight (job : Job) (entry : Entry) : Type 0 where

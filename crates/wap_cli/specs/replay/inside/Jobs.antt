@@ -1,12 +1,14 @@
 -- Pages that are judged and lists that are played, each by itself. This project's own.
-use Rattle.std.specs.Prelude.{◌≡◌, ℕ, Bool, true, false, List, map, filter, Option, IfSome}
+use Rattle.std.specs.Prelude.{◌≡◌, ℕ, Bool, true, false, List, map, filter}
 use Rattle.wap_base.specs.Contents.{Contents, page_named}
 use Rattle.wap_base.specs.declared.key.Key.{Key}
+use Rattle.wap_devices.specs.Stores.{Known, Agrees}
 use Rattle.wap_world.specs.site.Pages.{Pages}
 use Rattle.wap_world.specs.declared.site.page.Page.{Page}
 use Rattle.wap_world.specs.declared.site.page.Page.TheVariants as page
 use Rattle.wap_pages.specs.Judged.{page_where}
-use Rattle.wap_cli.specs.prepare.Fetching.{Job, page_of}
+use Rattle.wap_cli.specs.Answers.{page_of}
+use Rattle.wap_cli.specs.prepare.Fetching.{Job}
 use Rattle.wap_world.specs.Sessions.{Begun}
 use Rattle.wap_world.specs.scripting.UnitSites.{unit_pages}
 use Rattle.wap_context.specs.Sites.{site_of}
@@ -49,7 +51,7 @@ pub record Stage : Type 0 where
 abbrev pub text_on : Stage → ℕ × List Key → List ℕ
 text_on stage one = list_text (site_of (unit_pages stage.pages)) stage.begun one
 
--- what there is to be written of lists, where the pages of the store are known
-abbrev pub TellsOf : Begun → List (List Key) → Option Contents → (List ℕ → Type 0) → Type 0
-TellsOf begun lists contents Wrote =
-    IfSome contents (λ pages. Wrote (replayed (site_of_store pages) begun lists))
+-- what there is to be written of lists, by whatever the pages of the store may be
+abbrev pub TellsOf : Begun → List (List Key) → Known → (List ℕ → Type 0) → Type 0
+TellsOf begun lists known Wrote =
+    (pages : Contents) → Agrees known pages → Wrote (replayed (site_of_store pages) begun lists)

@@ -1,10 +1,10 @@
 -- Fetching what was saved, and finding the deck of its current card. This project's own.
-use Rattle.std.specs.Prelude.{◌≡◌, ◌≢◌, ◌⊎◌, ◌≤◌, ℕ, List, Option, Some, None, IfSome, Result}
+use Rattle.std.specs.Prelude.{◌≡◌, ◌≢◌, ◌⊎◌, ◌≤◌, ℕ, List, [], ◌∷◌, Some, None, Result}
 use Rattle.std.specs.Prelude.{IfOk, IfErr, OnOk}
 use Rattle.wap_base.specs.Count.{raised, Rose}
-use Rattle.wap_base.specs.Contents.{Contents, names_of}
-use Rattle.wap_base.specs.Texts.{AreDistinct}
-use Rattle.wap_devices.specs.Stores.{StoreSeen}
+use Rattle.wap_base.specs.Contents.{Contents}
+use Rattle.wap_devices.specs.Stores.{Known, told, Agrees, StoreSeen, Grew}
+use Rattle.wap_devices.specs.declared.store.Fetched.TheVariants.{Found}
 use Rattle.wap_image.specs.declared.context_parts.fault.ImageFault.{ImageFault}
 use Rattle.wap_image.specs.Images.{Saved, IsImage}
 use Rattle.wap_image.specs.Rules.{MayBeSaved}
@@ -22,14 +22,9 @@ use Rattle.wap_cli.specs.resume.Resuming.{EndsUnbegun, Unbegun}
 
 -- ---- one page that is fetched
 
--- no name stands twice, where the contents are known
-abbrev pub HasDistinctNames : StoreSeen → Type 0
-HasDistinctNames store = IfSome store.contents (λ contents. AreDistinct (names_of contents))
-
 -- a store before and after it was asked for one page
 pub record IsFetched (before after : StoreSeen) : Type 0 where
-  pub contents : after.contents ≡ before.contents
-  pub distinct : HasDistinctNames before
+  pub known : Grew before.known after.known
   pub fetches : after.fetches ≡ raised before.fetches
   pub listings : after.listings ≡ before.listings
   pub counts : before.faults ≤ after.faults
@@ -53,10 +48,11 @@ IsUnread bytes status = (status ≡ NoMemory)
 pub record Loads (name : List ℕ) (before after : StoreSeen) (result : Result Saved Status) : Type 0
   where
     pub found : IfOk result (λ saved. (bytes : List ℕ)
-        × IsPageOf before.contents name (Some bytes) × IsImage bytes saved)
+        × (after.known ≡ told before.known ((name, Found bytes) ∷ []) [])
+        × IsPageOf after.known name (Some bytes) × IsImage bytes saved)
     pub rules : IfOk result (λ saved. MayBeSaved saved.0 saved.1)
     pub steady : OnOk result (after.faults ≡ before.faults)
-    pub none : IfErr result (GivesNone (Hinders before.contents name) before after)
+    pub none : IfErr result (GivesNone (Hinders after.known name) before after)
     pub fetched : IsFetched before after
 
 -- ---- the deck of the current card
@@ -68,16 +64,16 @@ IsDeckFault name bytes status = (status ≡ NoMemory)
     ⊎ ((status ≡ Refused NotDeck) × ((why : PageFault) → ¬ Refuses name bytes why))
 
 -- why the page of a name is refused where it is no deck: unlike for a deck, it may be accepted
-pub data IsCause (contents : Option Contents) (name : List ℕ) : PageFault → Type 0 where
-  missing : IsPageOf contents name None → IsCause contents name Missing
-  refused : (bytes : List ℕ) (why : PageFault) → IsPageOf contents name (Some bytes)
-      → Refuses name bytes why → IsCause contents name why
-  accepted : (bytes : List ℕ) → IsPageOf contents name (Some bytes)
-      → ((why : PageFault) → ¬ Refuses name bytes why) → IsCause contents name NotDeck
+pub data IsCause (known : Known) (name : List ℕ) : PageFault → Type 0 where
+  missing : IsPageOf known name None → IsCause known name Missing
+  refused : (bytes : List ℕ) (why : PageFault) → IsPageOf known name (Some bytes)
+      → Refuses name bytes why → IsCause known name why
+  accepted : (bytes : List ℕ) → IsPageOf known name (Some bytes)
+      → ((why : PageFault) → ¬ Refuses name bytes why) → IsCause known name NotDeck
 
 -- the page of a name is fetched anew, and judged for why it is no deck
 pub record RefusesDeck (name : List ℕ) (before after : StoreSeen) (status : Status) : Type 0 where
-  pub none : GivesNone (IsCause before.contents name) before after status
+  pub none : GivesNone (IsCause after.known name) before after status
   pub fetched : IsFetched before after
 
 -- ---- all of it
@@ -85,6 +81,6 @@ pub record RefusesDeck (name : List ℕ) (before after : StoreSeen) (status : St
 -- a session goes on with what was saved, or nothing is begun
 abbrev pub Continues : Saved → Outside → Outside → Status → Type 0
 Continues saved old new status =
-    (IfSome old.pages.behind (λ contents. HasDeck contents saved.0)
+    (((pages : Contents) → Agrees new.pages.known pages → HasDeck pages saved.0)
     × BrowsesSeen (resumed saved.0 saved.1) old new status)
-    ⊎ Unbegun (LacksDeck old.pages.behind saved.0) old new status
+    ⊎ Unbegun (LacksDeck new.pages.known saved.0) old new status

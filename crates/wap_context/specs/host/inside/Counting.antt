@@ -12,8 +12,7 @@ use Rattle.wap_world.specs.site.Misses.{Cache, Asked, is_miss}
 use Rattle.wap_world.specs.site.Asking.{Seen, Stays, raised_by}
 use Rattle.wap_world.specs.Steps.{Step}
 use Rattle.wap_world.specs.scripting.Views.{Counted, View, counted_once, counted_all, added}
-use Rattle.wap_context.specs.host.Stages.{Stage, Sight, sight_of, view_in, told, count_of}
-use Rattle.wap_context.specs.host.Stages.{fetched_in}
+use Rattle.wap_context.specs.host.Stages.{Stage, told, count_of, fetched_in}
 
 -- what is counted, as far as it is known
 abbrev pub count_in : Option Counted → Option ℕ
@@ -29,17 +28,9 @@ counts_by : (cache : Option Cache) (fetches : ℕ)
 counts_by None fetches = tt
 counts_by (Some cache) fetches = refl
 
-abbrev Counts : Seen → Option View → Type 0
-Counts seen view =
-    IfSome view (λ now. IfSome (fetched_in now) (λ count. count ≡ count_of seen.fetches))
-
-counts_in : (sight : Sight) (seen : Seen) (contents : Option JudgedPages)
-    → Counts seen (view_in sight (record seen { contents = contents }))
-counts_in sight seen None = tt
-counts_in sight seen (Some judged) = counts_by seen.cache seen.fetches
-
-pub counts : (stage : Stage) (seen : Seen) → Counts seen (told stage seen)
-counts stage seen = counts_in (sight_of stage) seen seen.contents
+pub counts : (stage : Stage) (seen : Seen) (judged : JudgedPages)
+    → IfSome (fetched_in (told stage seen judged)) (λ count. count ≡ count_of seen.fetches)
+counts stage seen judged = counts_by seen.cache seen.fetches
 
 -- ---- no row takes a fetch back
 

@@ -1,8 +1,7 @@
 -- The next bytes of a source. This project's own.
 use Rattle.std.specs.Prelude.{◌≡◌, ℕ, ◌<◌, ◌≤◌, List, [], length, take}
 use Rattle.wap_base.specs.Count.{raised, Rose}
-use Rattle.wap_devices.specs.Sources.{SourceSeen}
-use Rattle.wap_devices.specs.Transfer.{IsAtEnd}
+use Rattle.wap_devices.specs.Sources.{SourceSeen, MayCome}
 use Rattle.wap_keys.specs.declared.limits.TheConstants.{PIECE_LIMIT}
 use Rattle.wap_keys.specs.Read.{TakesAtOnce}
 use Rattle.wap_keys.specs.declared.lists.reading.More.{More}
@@ -20,7 +19,7 @@ pub record ReadsBytes (left count : ℕ) (buffer : List ℕ) (before after : Sou
 -- the source gave its end
 pub record ReadsEnd (before after : SourceSeen) : Type 0 where
   pub takes : TakesAtOnce [] before after
-  pub none : IsAtEnd after.left
+  pub none : MayCome after.coming []
   pub ends : after.ends ≡ raised before.ends
   pub steady : after.faults ≡ before.faults
 

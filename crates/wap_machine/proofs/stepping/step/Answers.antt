@@ -1,15 +1,15 @@
-use Rattle.std.proofs.Common.{◌≡◌, ◌-◌, Option, sym, subst, ◌∙◌, arith, IfSome}
+use Rattle.std.proofs.Common.{◌≡◌, ◌-◌, ℕ, Option, sym, ap, subst, ◌∙◌, arith}
 use Rattle.std.proofs.lemmas.Result.{IfOk-weaker}
 use Rattle.wap_base.specs.declared.limits.Limits.{Limits}
 use Rattle.wap_machine.specs.declared.machine.Step.TheVariants.{Goes}
-use Rattle.wap_machine.specs.Hosts.{Fetches, GrowsTold}
+use Rattle.wap_machine.specs.Hosts.{Grows, Fetches}
 use Rattle.wap_execution.specs.laws.Settings.{uncounted}
 use Rattle.wap_machine.specs.Runs.{run_of}
 use Rattle.wap_machine.specs.Seen.{called_of}
 use Rattle.wap_machine.specs.inside.Advances.{IsAdvanced}
 use Rattle.wap_machine.specs.inside.Efforts.{effort, GoesBelow}
-use Rattle.wap_machine.specs.inside.MachineSteps.{rest, Same, calls_from, LimitsStay, Wants, IsInOrderFor}
-use Rattle.wap_machine.proofs.HostLaws.{grows_still}
+use Rattle.wap_machine.specs.inside.MachineSteps.{rest, calls_from, LimitsStay, Wants, IsInOrderFor}
+use Rattle.wap_machine.proofs.CallLaws.{grows_same}
 use Rattle.wap_machine.proofs.StepLaws.{none_left, light_below, never_wants}
 use Rattle.wap_machine.proofs.GoingLaws.{nothing_told, turn_told, turn_wanted}
 use Rattle.wap_machine.proofs.GoingLaws.{call_wanted, call_told, call_fetches}
@@ -19,13 +19,13 @@ use Rattle.wap_machine.proofs.stepping.step.Goals as goal
 -- ---- nothing was wanted
 
 pub returns-in-Ok-Nothing-clause-told : goal.returns-in-Ok-Nothing-clause-told
-returns-in-Ok-Nothing-clause-told g c =
+returns-in-Ok-Nothing-clause-told g c = λ under may.
     let advanced =
     subst (IsAdvanced c.args.machine.limits c.args.machine.frames)
     c.in-Ok-Nothing.field-0-is c.in-Ok-Nothing.ensures in
     nothing_told c.args.machine.limits g.H.Host.meaning c.args.machine.frames
     (g.H.Host.turns c.args.host.now)
-    (g.H.Host.state c.args.host.now c.args.pages.now) c.in-Ok-Nothing.step advanced
+    (g.H.Host.state c.args.host.now c.args.pages.now under) c.in-Ok-Nothing.step advanced
 
 pub returns-in-Ok-Nothing-clause-limits : goal.returns-in-Ok-Nothing-clause-limits
 returns-in-Ok-Nothing-clause-limits g c =
@@ -51,23 +51,23 @@ returns-in-Ok-Nothing-clause-falls g c =
     (g.H.Host.turns c.args.host.now)
 
 pub returns-in-Ok-Nothing-clause-grown : goal.returns-in-Ok-Nothing-clause-grown
-returns-in-Ok-Nothing-clause-grown g c =
-    grows_still c.args.machine.limits g.H.Host.meaning g.H.Host.fetched
-    (g.H.Host.state c.args.host.now c.args.pages.now)
+returns-in-Ok-Nothing-clause-grown g c = λ under may.
+    grows_same (g.H.Host.fetched (g.H.Host.state c.args.host.now c.args.pages.now under))
 
 -- ---- a turn was wanted
 
 pub returns-then-turn-clause-told : goal.returns-then-turn-clause-told
-returns-then-turn-clause-told g c =
+returns-then-turn-clause-told g c = λ under may.
     let advanced =
     subst (IsAdvanced c.args.machine.limits c.args.machine.frames)
     c.in-Ok-Turn.field-0-is c.in-Ok-Turn.ensures in
     turn_told c.args.machine.limits g.H.Host.meaning c.args.machine.frames
-    (g.H.Host.turns c.args.host.now) (g.H.Host.state c.args.host.now c.args.pages.now)
+    (g.H.Host.turns c.args.host.now)
+    (g.H.Host.state c.args.host.now c.args.pages.now under)
     c.in-Ok-Turn.machine (g.H.Host.turns c.turn.new.self)
-    (g.H.Host.state c.turn.new.self c.args.pages.now) advanced
+    (g.H.Host.state c.turn.new.self c.args.pages.now under) advanced
     (c.turn.ensures.some.0 c.if-turn.true) c.turn.ensures.turns
-    (c.turn.ensures.state c.args.pages.now)
+    (c.turn.ensures.state c.args.pages.now under)
 
 pub returns-then-turn-clause-limits : goal.returns-then-turn-clause-limits
 returns-then-turn-clause-limits g c =
@@ -87,23 +87,23 @@ returns-then-turn-clause-falls g c =
     (turn_kept c.args.machine.limits c.args.machine.frames c.in-Ok-Turn.machine advanced).light
 
 pub returns-then-turn-clause-grown : goal.returns-then-turn-clause-grown
-returns-then-turn-clause-grown g c =
-    let old = g.H.Host.state c.args.host.now c.args.pages.now in
-    subst (λ (o : Option _). GrowsTold g.H.Host.fetched old o)
-    (sym (c.turn.ensures.state c.args.pages.now))
-    (grows_still c.args.machine.limits g.H.Host.meaning g.H.Host.fetched old)
+returns-then-turn-clause-grown g c = λ under may.
+    let count = g.H.Host.fetched (g.H.Host.state c.args.host.now c.args.pages.now under) in
+    subst (Grows count) (sym (ap g.H.Host.fetched (c.turn.ensures.state c.args.pages.now under)))
+    (grows_same count)
 
 pub returns-else-turn-clause-told : goal.returns-else-turn-clause-told
-returns-else-turn-clause-told g c =
+returns-else-turn-clause-told g c = λ under may.
     let advanced =
     subst (IsAdvanced c.args.machine.limits c.args.machine.frames)
     c.in-Ok-Turn.field-0-is c.in-Ok-Turn.ensures in
     turn_wanted c.args.machine.limits g.H.Host.meaning c.args.machine.frames
-    (g.H.Host.turns c.args.host.now) (g.H.Host.state c.args.host.now c.args.pages.now)
+    (g.H.Host.turns c.args.host.now)
+    (g.H.Host.state c.args.host.now c.args.pages.now under)
     c.in-Ok-Turn.machine (g.H.Host.turns c.turn.new.self)
-    (g.H.Host.state c.turn.new.self c.args.pages.now) advanced
+    (g.H.Host.state c.turn.new.self c.args.pages.now under) advanced
     (none_left c.turn.result (g.H.Host.turns c.args.host.now) c.turn.ensures.some.1 c.if-turn.false)
-    c.turn.ensures.turns (c.turn.ensures.state c.args.pages.now)
+    c.turn.ensures.turns (c.turn.ensures.state c.args.pages.now under)
 
 pub returns-else-turn-clause-wants : goal.returns-else-turn-clause-wants
 returns-else-turn-clause-wants g c = λ budget.
@@ -114,11 +114,10 @@ returns-else-turn-clause-wants g c = λ budget.
     omega arith
 
 pub returns-else-turn-clause-grown : goal.returns-else-turn-clause-grown
-returns-else-turn-clause-grown g c =
-    let old = g.H.Host.state c.args.host.now c.args.pages.now in
-    subst (λ (o : Option _). GrowsTold g.H.Host.fetched old o)
-    (sym (c.turn.ensures.state c.args.pages.now))
-    (grows_still c.args.machine.limits g.H.Host.meaning g.H.Host.fetched old)
+returns-else-turn-clause-grown g c = λ under may.
+    let count = g.H.Host.fetched (g.H.Host.state c.args.host.now c.args.pages.now under) in
+    subst (Grows count) (sym (ap g.H.Host.fetched (c.turn.ensures.state c.args.pages.now under)))
+    (grows_same count)
 
 -- ---- a call was wanted
 
@@ -147,28 +146,32 @@ returns-then-turn-2-clause-told g c =
     let waiting = c.in-Ok-Call.waiting in
     let items = c.in-Ok-Call.arguments.items in
     let callee = called_of c.in-Ok-Call.callee in
-    let old = g.H.Host.state c.args.host.now c.args.pages.now in
-    let asked = g.H.Host.state c.turn-in-Ok-Call.new.self c.args.pages.now in
-    let new = g.H.Host.state c.call.new.host c.call.new.pages in
     let left = g.H.Host.turns c.turn-in-Ok-Call.new.self in
     let fewer = g.H.Host.turns c.call.new.host in
     let stay =
     (call_kept c.args.machine.limits frames waiting c.in-Ok-Call.callee c.in-Ok-Call.arguments
     advanced).stay in
-    IfOk-weaker c.call.result (λ step.
-    Same (calls_from (uncounted waiting.limits g.H.Host.meaning) waiting.frames callee items left)
-    asked (rest (uncounted waiting.limits g.H.Host.meaning) step fewer) new)
-    (λ step.
-    Same (run_of c.args.machine g.H.Host.meaning (g.H.Host.turns c.args.host.now)) old
-    (rest (uncounted c.args.machine.limits g.H.Host.meaning) step fewer) new)
-    (λ step told.
+    IfOk-weaker c.call.result (λ step. (under : g.H.Host.Under)
+    → g.H.Host.may_have c.call.new.pages under
+    → calls_from (uncounted waiting.limits g.H.Host.meaning) waiting.frames callee items left
+    (g.H.Host.state c.turn-in-Ok-Call.new.self c.args.pages.now under)
+    ≡ rest (uncounted waiting.limits g.H.Host.meaning) step fewer
+    (g.H.Host.state c.call.new.host c.call.new.pages under))
+    (λ step. (under : g.H.Host.Under) → g.H.Host.may_have c.call.new.pages under
+    → run_of c.args.machine g.H.Host.meaning (g.H.Host.turns c.args.host.now)
+    (g.H.Host.state c.args.host.now c.args.pages.now under)
+    ≡ rest (uncounted c.args.machine.limits g.H.Host.meaning) step fewer
+    (g.H.Host.state c.call.new.host c.call.new.pages under))
+    (λ step told under may.
+    let asked = g.H.Host.state c.turn-in-Ok-Call.new.self c.args.pages.now under in
     call_told c.args.machine.limits g.H.Host.meaning frames (g.H.Host.turns c.args.host.now)
-    old waiting c.in-Ok-Call.callee c.in-Ok-Call.arguments left asked new
-    (rest (uncounted c.args.machine.limits g.H.Host.meaning) step fewer) advanced
+    (g.H.Host.state c.args.host.now c.args.pages.now under) waiting c.in-Ok-Call.callee
+    c.in-Ok-Call.arguments left asked advanced
     (c.turn-in-Ok-Call.ensures.some.0 c.if-turn-2.true) c.turn-in-Ok-Call.ensures.turns
-    (c.turn-in-Ok-Call.ensures.state c.args.pages.now)
-    (subst (λ (l : Limits). Same (calls_from (uncounted l g.H.Host.meaning) waiting.frames callee
-    items left) asked (rest (uncounted l g.H.Host.meaning) step fewer) new) stay told))
+    (c.turn-in-Ok-Call.ensures.state c.args.pages.now under)
+    ∙ subst (λ (l : Limits). calls_from (uncounted l g.H.Host.meaning) waiting.frames callee
+    items left asked ≡ rest (uncounted l g.H.Host.meaning) step fewer
+    (g.H.Host.state c.call.new.host c.call.new.pages under)) stay (told under may))
     c.call.ensures.told
 
 pub returns-then-turn-2-clause-limits : goal.returns-then-turn-2-clause-limits
@@ -201,52 +204,60 @@ returns-then-turn-2-clause-falls g c =
 
 pub returns-then-turn-2-clause-grown : goal.returns-then-turn-2-clause-grown
 returns-then-turn-2-clause-grown g c =
-    let old = g.H.Host.state c.args.host.now c.args.pages.now in
-    let asked = g.H.Host.state c.turn-in-Ok-Call.new.self c.args.pages.now in
-    let new = g.H.Host.state c.call.new.host c.call.new.pages in
-    IfOk-weaker c.call.result (λ _. GrowsTold g.H.Host.fetched asked new)
-    (λ _. GrowsTold g.H.Host.fetched old new)
-    (λ step grown. subst (λ (o : Option _). GrowsTold g.H.Host.fetched o new)
-    (c.turn-in-Ok-Call.ensures.state c.args.pages.now) grown) c.call.ensures.grown
+    IfOk-weaker c.call.result (λ _. (under : g.H.Host.Under)
+    → g.H.Host.may_have c.call.new.pages under
+    → Grows (g.H.Host.fetched (g.H.Host.state c.turn-in-Ok-Call.new.self c.args.pages.now under))
+    (g.H.Host.fetched (g.H.Host.state c.call.new.host c.call.new.pages under)))
+    (λ _. (under : g.H.Host.Under) → g.H.Host.may_have c.call.new.pages under
+    → Grows (g.H.Host.fetched (g.H.Host.state c.args.host.now c.args.pages.now under))
+    (g.H.Host.fetched (g.H.Host.state c.call.new.host c.call.new.pages under)))
+    (λ step grown under may. subst (λ (o : Option ℕ). Grows o
+    (g.H.Host.fetched (g.H.Host.state c.call.new.host c.call.new.pages under)))
+    (ap g.H.Host.fetched (c.turn-in-Ok-Call.ensures.state c.args.pages.now under))
+    (grown under may)) c.call.ensures.grown
 
 pub returns-then-turn-2-clause-fetched : goal.returns-then-turn-2-clause-fetched
-returns-then-turn-2-clause-fetched g c = λ is.
+returns-then-turn-2-clause-fetched g c = λ is under may.
     let advanced =
     subst (IsAdvanced c.args.machine.limits c.args.machine.frames)
     c.in-Ok-Call.field-0-is c.in-Ok-Call.ensures in
     let frames = c.args.machine.frames in
+    let turns = g.H.Host.turns c.args.host.now in
+    let old = g.H.Host.state c.args.host.now c.args.pages.now under in
     let waiting = c.in-Ok-Call.waiting in
     let items = c.in-Ok-Call.arguments.items in
     let callee = called_of c.in-Ok-Call.callee in
-    let asked = g.H.Host.state c.turn-in-Ok-Call.new.self c.args.pages.now in
+    let asked = g.H.Host.state c.turn-in-Ok-Call.new.self c.args.pages.now under in
+    let same = c.turn-in-Ok-Call.ensures.state c.args.pages.now under in
     let left = g.H.Host.turns c.turn-in-Ok-Call.new.self in
     let count = g.H.Host.fetches c.call.new.pages in
     let stay =
     (call_kept c.args.machine.limits frames waiting c.in-Ok-Call.callee c.in-Ok-Call.arguments
     advanced).stay in
-    call_fetches c.args.machine.limits g.H.Host.meaning frames (g.H.Host.turns c.args.host.now)
-    (g.H.Host.state c.args.host.now c.args.pages.now)
-    g.H.Host.fetched count waiting c.in-Ok-Call.callee c.in-Ok-Call.arguments left asked
-    advanced (c.turn-in-Ok-Call.ensures.some.0 c.if-turn-2.true) c.turn-in-Ok-Call.ensures.turns
-    (c.turn-in-Ok-Call.ensures.state c.args.pages.now)
-    (subst
-    (λ (l : Limits). IfSome asked (λ state. Fetches (g.H.Host.fetched state) count (g.H.Host.fetched
-    (calls_from (uncounted l g.H.Host.meaning) waiting.frames callee items left state).state))) stay
-    (c.call.ensures.fetched is))
+    call_fetches c.args.machine.limits g.H.Host.meaning frames turns old g.H.Host.fetched count
+    asked (calls_from (uncounted c.args.machine.limits g.H.Host.meaning) waiting.frames callee items
+    left asked) same
+    (call_told c.args.machine.limits g.H.Host.meaning frames turns old waiting c.in-Ok-Call.callee
+    c.in-Ok-Call.arguments left asked advanced
+    (c.turn-in-Ok-Call.ensures.some.0 c.if-turn-2.true) c.turn-in-Ok-Call.ensures.turns same)
+    (subst (λ (l : Limits). Fetches (g.H.Host.fetched asked) count (g.H.Host.fetched
+    (calls_from (uncounted l g.H.Host.meaning) waiting.frames callee items left asked).state)) stay
+    (c.call.ensures.fetched is under may))
 
 pub returns-else-turn-2-clause-told : goal.returns-else-turn-2-clause-told
-returns-else-turn-2-clause-told g c =
+returns-else-turn-2-clause-told g c = λ under may.
     let advanced =
     subst (IsAdvanced c.args.machine.limits c.args.machine.frames)
     c.in-Ok-Call.field-0-is c.in-Ok-Call.ensures in
     call_wanted c.args.machine.limits g.H.Host.meaning c.args.machine.frames
-    (g.H.Host.turns c.args.host.now) (g.H.Host.state c.args.host.now c.args.pages.now)
+    (g.H.Host.turns c.args.host.now)
+    (g.H.Host.state c.args.host.now c.args.pages.now under)
     c.in-Ok-Call.waiting c.in-Ok-Call.callee c.in-Ok-Call.arguments
     (g.H.Host.turns c.turn-in-Ok-Call.new.self)
-    (g.H.Host.state c.turn-in-Ok-Call.new.self c.args.pages.now) advanced
+    (g.H.Host.state c.turn-in-Ok-Call.new.self c.args.pages.now under) advanced
     (none_left c.turn-in-Ok-Call.result (g.H.Host.turns c.args.host.now)
     c.turn-in-Ok-Call.ensures.some.1 c.if-turn-2.false) c.turn-in-Ok-Call.ensures.turns
-    (c.turn-in-Ok-Call.ensures.state c.args.pages.now)
+    (c.turn-in-Ok-Call.ensures.state c.args.pages.now under)
 
 pub returns-else-turn-2-clause-wants : goal.returns-else-turn-2-clause-wants
 returns-else-turn-2-clause-wants g c = λ budget.
@@ -257,8 +268,7 @@ returns-else-turn-2-clause-wants g c = λ budget.
     omega arith
 
 pub returns-else-turn-2-clause-grown : goal.returns-else-turn-2-clause-grown
-returns-else-turn-2-clause-grown g c =
-    let old = g.H.Host.state c.args.host.now c.args.pages.now in
-    subst (λ (o : Option _). GrowsTold g.H.Host.fetched old o)
-    (sym (c.turn-in-Ok-Call.ensures.state c.args.pages.now))
-    (grows_still c.args.machine.limits g.H.Host.meaning g.H.Host.fetched old)
+returns-else-turn-2-clause-grown g c = λ under may.
+    let count = g.H.Host.fetched (g.H.Host.state c.args.host.now c.args.pages.now under) in
+    subst (Grows count) (sym (ap g.H.Host.fetched (c.turn-in-Ok-Call.ensures.state c.args.pages.now under)))
+    (grows_same count)

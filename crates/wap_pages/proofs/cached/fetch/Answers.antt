@@ -6,16 +6,16 @@ use Rattle.wap_pages.proofs.cached.fetch.Goals as goal
 
 pub returns-in-Ok-clause-found : goal.returns-in-Ok-clause-found
 returns-in-Ok-clause-found g c =
-    found_right (g.S.Store.seen c.args.store.now).contents
-    c.args.name.now c.in-Ok-Found.bytes c.in-Ok.page
-    (rw c.in-Ok-Found.field-0-is at c.in-Ok-Found.ensures.found) c.fetch.ensures.asked.distinct
+    found_right (g.S.Store.seen c.fetch.new.self).known c.args.name.now c.in-Ok-Found.bytes
+    c.in-Ok.page
+    (rw c.in-Ok-Found.field-0-is at c.in-Ok-Found.ensures.found)
     (c.in-Ok.ensures.page ∙ ap (page_of_bytes c.args.name.now) c.as_slice.ensures)
 
 pub returns-in-Err-Refused-clause-found : goal.returns-in-Err-Refused-clause-found
 returns-in-Err-Refused-clause-found g c =
-    refused_right (g.S.Store.seen c.args.store.now).contents
-    c.args.name.now c.in-Ok-Found.bytes c.in-Err-Refused.field-0-0
-    (rw c.in-Ok-Found.field-0-is at c.in-Ok-Found.ensures.found) c.fetch.ensures.asked.distinct
+    refused_right (g.S.Store.seen c.fetch.new.self).known c.args.name.now c.in-Ok-Found.bytes
+    c.in-Err-Refused.field-0-0
+    (rw c.in-Ok-Found.field-0-is at c.in-Ok-Found.ensures.found)
     (subst (λ (bytes : List ℕ). Refuses c.args.name.now bytes c.in-Err-Refused.field-0-0)
     c.as_slice.ensures
     (c.in-Err-Refused.ensures.refused c.in-Err-Refused.field-0-0
@@ -23,5 +23,5 @@ returns-in-Err-Refused-clause-found g c =
 
 pub returns-in-Ok-Missing-clause-found : goal.returns-in-Ok-Missing-clause-found
 returns-in-Ok-Missing-clause-found g c =
-    missing_right (g.S.Store.seen c.args.store.now).contents c.args.name.now
-    (rw c.in-Ok-Missing.field-0-is at c.in-Ok-Missing.ensures.found) c.fetch.ensures.asked.distinct
+    missing_right (g.S.Store.seen c.fetch.new.self).known c.args.name.now
+    (rw c.in-Ok-Missing.field-0-is at c.in-Ok-Missing.ensures.found)

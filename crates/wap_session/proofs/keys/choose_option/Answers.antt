@@ -70,3 +70,16 @@ returns-in_ok-behind-in-Set g c =
     ∙ ap (flat_map fault_lines) c.as_slice.ensures)
     c.in_ok-behind-in-Set.ensures)
     c.in_ok-did-in-Set.ensures
+
+pub returns-in_err-choose : goal.returns-in_err-choose
+returns-in_err-choose g c =
+    Acts-wants _ (g.P.Pages.seen c.args.pages.now) (g.P.Pages.seen c.args.pages.now)
+    c.args.context.now c.choose.new.self c.from_residual.result
+    (Stays-same (g.P.Pages.seen c.args.pages.now)) c.from_residual.ensures.1
+
+pub returns-in_err-ignore-in-NoOption : goal.returns-in_err-ignore-in-NoOption
+returns-in_err-ignore-in-NoOption g c =
+    Acts-wants _ (g.P.Pages.seen c.args.pages.now) (g.P.Pages.seen c.args.pages.now)
+    c.args.context.now c.choose.new.self c.from_residual-in_err-ignore-in-NoOption.result
+    (Stays-same (g.P.Pages.seen c.args.pages.now))
+    c.from_residual-in_err-ignore-in-NoOption.ensures.1

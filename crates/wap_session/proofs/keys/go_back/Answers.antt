@@ -2,11 +2,12 @@ use Rattle.std.proofs.Common.{sym, ap, ◌∙◌}
 use Rattle.wap_cardrules.specs.Values.{Pairs}
 use Rattle.wap_cardrules.specs.declared.task.Task.TheVariants.{Prev}
 use Rattle.wap_base.specs.declared.key.Key.TheVariants as key
+use Rattle.wap_world.proofs.SiteLemmas.Asking.{Stays-same}
 use Rattle.wap_world.specs.Steps.{then_task}
 use Rattle.wap_world.specs.Tasks.{act}
 use Rattle.wap_world.specs.Keys.{apply}
 use Rattle.wap_context.specs.Sites.{site_of}
-use Rattle.wap_session.proofs.Rules.{Acts-same, Acts-ignored}
+use Rattle.wap_session.proofs.Rules.{Acts-same, Acts-ignored, Acts-wants}
 use Rattle.wap_session.proofs.Typing.{back_some, back_none}
 use Rattle.wap_session.proofs.keys.go_back.Goals as goal
 
@@ -28,3 +29,9 @@ returns g c =
     Acts-ignored (λ pages keys world. apply (site_of pages) keys world key.Back)
     (g.P.Pages.seen c.args.pages.now) old c.in_ok-ignore.field-0 c.in_ok-ignore.ensures
     (λ pages is keys. back_none pages keys old (sym c.has_card.ensures.is ∙ c.if-has_card.false) is)
+
+pub returns-in_err-ignore : goal.returns-in_err-ignore
+returns-in_err-ignore g c =
+    Acts-wants _ (g.P.Pages.seen c.args.pages.now) (g.P.Pages.seen c.args.pages.now)
+    c.args.context.now c.args.context.now c.from_residual.result
+    (Stays-same (g.P.Pages.seen c.args.pages.now)) c.from_residual.ensures.1

@@ -1,9 +1,10 @@
 use Rattle.std.proofs.Common.{Option, sym, ap, ◌∙◌}
 use Rattle.wap_cardrules.specs.declared.task.Task.{Task}
 use Rattle.wap_base.specs.declared.key.Key.TheVariants as key
+use Rattle.wap_world.proofs.SiteLemmas.Asking.{Stays-same}
 use Rattle.wap_world.specs.Keys.{ignored, act_or, apply}
 use Rattle.wap_context.specs.Sites.{site_of}
-use Rattle.wap_session.proofs.Rules.{Acts-same}
+use Rattle.wap_session.proofs.Rules.{Acts-same, Acts-wants}
 use Rattle.wap_session.proofs.Typing.{do_now}
 use Rattle.wap_session.proofs.keys.run_do_here.Goals as goal
 
@@ -20,3 +21,9 @@ returns g c =
     ∙ ap (λ (task : Option Task). act_or (ignored old.world) (site_of pages) keys old.world task)
     (sym c.in_ok-task.ensures))
     c.act_or_ignore.result c.act_or_ignore.ensures
+
+pub returns-in_err-task : goal.returns-in_err-task
+returns-in_err-task g c =
+    Acts-wants _ (g.P.Pages.seen c.args.pages.now) (g.P.Pages.seen c.args.pages.now)
+    c.args.context.now c.args.context.now c.from_residual.result
+    (Stays-same (g.P.Pages.seen c.args.pages.now)) c.from_residual.ensures.1

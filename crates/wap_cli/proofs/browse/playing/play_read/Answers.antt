@@ -18,10 +18,10 @@ returns-in-Ok g c =
       state = c.try_ignore.new.self;
       sink = g.O.Sink.seen c.write_all.new.out;
     } in
-    goes_on c.args.key old new c.args.ignored.now (search rules)
+    goes_on c.args.key old new c.args.ignored.now
     (subst (λ (lines : List (List ℕ)). Plays (c.args.key ∷ []) pages pages old.state new.state
     (Ok lines)) (sym c.requires.ignored) (c.if-not-try_ignore.ensures.plays refl pages))
-    (search rules)
+    (search rules) (search rules)
 
 pub returns : goal.returns
 returns g c =
@@ -36,7 +36,7 @@ returns g c =
       state = c.try_ignore.new.self;
       sink = g.O.Sink.seen c.write_all.new.out;
     } in
-    stops_there c.args.key old new c.args.ignored.now (search rules)
+    stops_there c.args.key old new c.args.ignored.now
     (subst (λ (lines : List (List ℕ)). Plays (c.args.key ∷ []) pages pages old.state new.state
     (Ok lines)) (sym c.requires.ignored) (c.if-not-try_ignore.ensures.plays refl pages))
-    (search rules) (search rules)
+    (search rules) (search rules) (search rules)

@@ -9,8 +9,8 @@ returns-then-starts_with c =
     let bytes = c.as_bytes-bytes.result.now in
     let rest = c.next.new.self in
     take_all (length bytes - 4) (drop 4 bytes) (omega (arith, length-drop 4 bytes))
-    ∙ value_found bytes rest c.loop-line.line-iterator c.args.lines.now c.as_bytes-bytes.ensures.utf8
-    (c.in-Some.ensures.steps
+    ∙ value_found bytes rest c.loop-line.line-iterator c.args.lines.now
+    c.as_bytes-bytes.ensures.utf8 (c.in-Some.ensures.steps
     ∙ ap (λ (l : List ℕ). chars l ∷ rest) (sym c.as_bytes-bytes.ensures.value))
     c.loop-line.invariant (sym c.starts_with.ensures.value ∙ c.if-starts_with.true)
 

@@ -1,12 +1,10 @@
 use Rattle.std.proofs.Common.{◌∙◌, ℕ, ◌+◌, List, [], ◌∷◌, ◌++◌, take, length}
-use Rattle.std.proofs.Common.{subst, sym, ap, arith, ap₂, Option, All}
+use Rattle.std.proofs.Common.{sym, ap, arith, ap₂}
 use Rattle.std.specs.Map.{keys_of}
 use Rattle.std.proofs.lemmas.List.{take_more}
-use Rattle.std.proofs.lemmas.List.Elements.{All-push}
-use Rattle.wap_base.specs.Contents.{Contents}
-use Rattle.wap_cli.specs.prepare.Fetching.{Job, IsAnswered}
+use Rattle.wap_cli.specs.prepare.Fetching.{Job}
 use Rattle.wap_cli.proofs.PrepareLemmas.Asking.{asked_more, more_fail, then_memory, memory_over}
-use Rattle.wap_cli.proofs.PrepareLemmas.Asking.{keys-push}
+use Rattle.wap_cli.proofs.PrepareLemmas.Asking.{keys-push, answered_more}
 use Rattle.wap_cli.proofs.prepare.fetching.fetch_all.Goals as goal
 
 pub returns-in_err-push-in-Ok-fetch_one-clause-asks :
@@ -45,10 +43,9 @@ loop-name-preserved g c =
           ∙ sym (take_more c.args.names.now i c.name-item.result (omega arith)
           ∙ ap (λ (name : List ℕ). take i c.args.names.now ++ name ∷ []) (sym c.name-item.is));
       answered =
-          subst (λ (l : List Job). All (IsAnswered old.contents) l) (sym pushed)
-          (All-push (IsAnswered old.contents) jobs job c.loop-name.invariant.answered
-          (subst (λ (contents : Option Contents). IsAnswered contents job)
-          c.loop-name.invariant.asked.contents c.in-Ok-fetch_one.ensures.answered));
+          answered_more now.known new.known jobs c.push.new.self.items job
+          c.in-Ok-fetch_one.ensures.asks.known c.loop-name.invariant.answered
+          c.in-Ok-fetch_one.ensures.answered pushed;
       asked =
           asked_more i old now new c.loop-name.invariant.asked 1 job
           c.in-Ok-fetch_one.ensures.asks;

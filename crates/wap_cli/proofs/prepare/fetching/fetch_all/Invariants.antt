@@ -8,6 +8,6 @@ use Rattle.wap_cli.proofs.prepare.fetching.fetch_all.Given as goal
 abbrev pub invariant-loop-name : goal.invariant-loop-name
 invariant-loop-name g l = record {
   names : keys_of l.jobs.items ≡ take l.name-index l.names;
-  answered : All (IsAnswered (g.S.Store.seen l.fn.store).contents) l.jobs.items;
+  answered : All (IsAnswered (g.S.Store.seen l.store).known) l.jobs.items;
   asked : Asked l.name-index (g.S.Store.seen l.fn.store) (g.S.Store.seen l.store);
 }

@@ -1,8 +1,24 @@
-use Rattle.std.proofs.Common.{◌≡◌, ◌+◌, ◌-◌, ℕ, length, subst, arith}
+use Rattle.std.proofs.Common.{◌≡◌, ◌+◌, ◌-◌, ◌++◌, ℕ, List, length, All, sym, ap, subst, arith}
+use Rattle.std.specs.Map.{keys_of}
+use Rattle.std.proofs.lemmas.List.Elements.{All-nil}
+use Rattle.wap_cli.specs.prepare.Reports.{Entry, IsEntry}
 use Rattle.wap_cli.proofs.PrepareLemmas.Asking.{Asked, asked_more, more_fail, then_memory}
-use Rattle.wap_cli.proofs.PrepareLemmas.Asking.{memory_over}
+use Rattle.wap_cli.proofs.PrepareLemmas.Asking.{none_asked, memory_over}
 use Rattle.wap_cli.proofs.PrepareLemmas.Entries.{parts_together, left_after, right_after}
 use Rattle.wap_cli.proofs.prepare.preparing.judge_all.Goals as goal
+
+pub loop-left-init : goal.loop-left-init
+loop-left-init g c =
+    let names = c.args.names.now in
+    let old = g.S.Store.seen c.args.store.now in
+    let nothing = c.new-entries.ensures.items in
+    let none : 0 ≡ length names - length names = omega arith in
+    record {
+      names = ap (λ (l : List Entry). keys_of l ++ names) nothing;
+      within = omega arith;
+      right = subst (All (IsEntry old.known)) (sym nothing) (All-nil (IsEntry old.known));
+      asked = subst (λ (n : ℕ). Asked n old old) none (none_asked old);
+    }
 
 pub returns-in_err-append-in-Ok-clause-asks : goal.returns-in_err-append-in-Ok-clause-asks
 returns-in_err-append-in-Ok-clause-asks g c =
@@ -55,8 +71,9 @@ loop-left-preserved g c =
           c.split_at.ensures.back c.in-Ok.ensures.names together;
       within = omega (arith, parts, within);
       right =
-          right_after old.contents now.contents c.loop-left.entries.items c.in-Ok.more.items
-          c.append.new.self.items so_far.right so_far.asked.contents c.in-Ok.ensures.right together;
+          right_after now.known new.known c.loop-left.entries.items c.in-Ok.more.items
+          c.append.new.self.items c.in-Ok.ensures.asks.known so_far.right c.in-Ok.ensures.right
+          together;
       asked =
           subst (λ (n : ℕ). Asked n old new) count
           (asked_more gone old now new so_far.asked (length some) c.in-Ok.more

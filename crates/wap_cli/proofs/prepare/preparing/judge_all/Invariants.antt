@@ -9,7 +9,7 @@ abbrev pub invariant-loop-left : goal.invariant-loop-left
 invariant-loop-left g l = record {
   names : keys_of l.entries.items ++ l.left ≡ l.fn.names;
   within : length l.left ≤ length l.fn.names;
-  right : All (IsEntry (g.S.Store.seen l.fn.store).contents) l.entries.items;
+  right : All (IsEntry (g.S.Store.seen l.store).known) l.entries.items;
   asked : Asked (length l.fn.names - length l.left) (g.S.Store.seen l.fn.store)
       (g.S.Store.seen l.store);
 }

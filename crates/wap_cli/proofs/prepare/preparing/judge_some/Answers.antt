@@ -14,7 +14,7 @@ returns-in-Ok-judge_pages-clause-names g c =
 
 pub returns-in-Ok-judge_pages-clause-right : goal.returns-in-Ok-judge_pages-clause-right
 returns-in-Ok-judge_pages-clause-right g c =
-    all_right (g.S.Store.seen c.args.store.now).contents c.in-Ok.jobs.items
+    all_right (g.S.Store.seen c.fetch_all.new.store).known c.in-Ok.jobs.items
     c.in-Ok-judge_pages.entries.items c.in-Ok.ensures.answered
     (subst (λ (jobs : List Job). AllZip IsRight jobs c.in-Ok-judge_pages.entries.items)
     c.deref.ensures.value c.in-Ok-judge_pages.ensures)

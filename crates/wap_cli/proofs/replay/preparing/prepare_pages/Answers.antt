@@ -15,7 +15,7 @@ new-requires g c =
 
 pub returns-in-Ok-judge_pages-clause-pages : goal.returns-in-Ok-judge_pages-clause-pages
 returns-in-Ok-judge_pages-clause-pages g c =
-    named_pages (g.S.Store.seen c.args.store.now).contents c.in-Ok.jobs.items
+    named_pages (g.S.Store.seen c.fetch_all.new.store).known c.in-Ok.jobs.items
     c.in-Ok-judge_pages.pages.items c.new.result c.args.names.now c.in-Ok.ensures.answered
     (subst (λ (jobs : List Job). AllZip IsJudged jobs c.in-Ok-judge_pages.pages.items)
     c.deref.ensures.value c.in-Ok-judge_pages.ensures)

@@ -1,8 +1,13 @@
-use Rattle.std.proofs.Common.{rules, ap, ◌∙◌}
+use Rattle.std.proofs.Common.{rules, refl, ap, ◌∙◌}
 use Rattle.wap_session.specs.Feeding.{State}
 use Rattle.wap_session.specs.handset.Feeding.{with_session}
 use Rattle.wap_cli.proofs.ResumeLemmas.Over.{lost_over, missing_over, refused_over, context_over}
 use Rattle.wap_cli.proofs.resume.resuming.go_on.Goals as goal
+
+pub returns-in-Err : goal.returns-in-Err
+returns-in-Err g c =
+    lost_over g.S.Store.seen c.args.saved c.args.store c.args.store c.args.cache
+    (g.I.Source.seen c.args.keys.now) (g.O.Sink.seen c.args.out.now) refl
 
 pub returns-in-Err-new : goal.returns-in-Err-new
 returns-in-Err-new g c =
@@ -18,7 +23,7 @@ returns-in-Ok-Context g c =
     c.in-Ok-new.ensures.kept c.in-Ok-new.ensures.capacity c.in-Ok-Context.context
     c.revive.new.pages played.new.pages c.into_store.result c.of-handset.result
     (g.I.Source.seen played.new.keys) (g.O.Sink.seen played.new.out) played.result
-    c.requires.distinct c.into_store.ensures
+    c.into_store.ensures
     (rw c.in-Ok-Context.field-0-is at c.in-Ok-Context.ensures)
     (c.of-handset.ensures ∙ ap (λ (s : State). with_session s) c.of.ensures)
     played.ensures.browses

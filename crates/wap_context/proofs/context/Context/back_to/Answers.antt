@@ -3,10 +3,9 @@ use Rattle.wap_url.specs.declared.url.Url.{Url}
 use Rattle.wap_tokens.specs.declared.markup.deck.Deck.{Deck}
 use Rattle.wap_context.specs.Browsers.{place_held}
 use Rattle.wap_context.specs.inside.AtHand.{page_under}
-use Rattle.wap_world.proofs.SiteLemmas.Asking.{Stays-same}
 use Rattle.wap_context.proofs.Takings.{takes_rejected}
 use Rattle.wap_context.proofs.HeldDecks.{entry_here}
-use Rattle.wap_context.proofs.Requesting.{GoesBack, back_returns, back_asks}
+use Rattle.wap_context.proofs.Requesting.{back_returns, back_asks}
 use Rattle.wap_context.proofs.context.Context.back_to.Goals as goal
 
 pub returns-in_ok-return_to-in-Some : goal.returns-in_ok-return_to-in-Some
@@ -27,11 +26,7 @@ returns-in_ok-return_to-in-Some g c =
 
 pub returns-in_err-return_to-in-Some : goal.returns-in_err-return_to-in-Some
 returns-in_err-return_to-in-Some g c =
-    takes_rejected (GoesBack (g.P.Pages.seen c.args.pages.now)
-    c.args.self.now c.return_to.new.self c.args.lines.now c.args.sets c.args.earlier)
-    (g.P.Pages.seen c.args.pages.now) (g.P.Pages.seen c.args.pages.now)
-    c.args.self.now c.return_to.new.self c.args.lines.now c.return_to.new.lines
-    c.from_residual-in_err-return_to-in-Some.result (Stays-same (g.P.Pages.seen c.args.pages.now))
+    takes_rejected c.from_residual-in_err-return_to-in-Some.result
     c.from_residual-in_err-return_to-in-Some.ensures.0
     c.from_residual-in_err-return_to-in-Some.ensures.1
 
@@ -42,3 +37,7 @@ returns-in-None g c =
     (g.P.Pages.seen c.ask_back.new.pages) c.ask_back.new.lines c.in_ok-here.field-0
     c.ask_back.result (c.in_ok-here.ensures.is
     ∙ ap (λ (u : Url). page_under u (place_held c.args.self.now)) c.url.ensures) c.in-None.is c.ask_back.ensures
+
+pub returns-in_err-here : goal.returns-in_err-here
+returns-in_err-here g c =
+    takes_rejected c.from_residual.result c.from_residual.ensures.0 c.from_residual.ensures.1

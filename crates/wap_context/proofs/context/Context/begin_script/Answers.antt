@@ -5,49 +5,30 @@ use Rattle.wap_unit.specs.declared.unit.Unit.{Unit}
 use Rattle.wap_machine.specs.Seen.{function_in}
 use Rattle.wap_machine.specs.Stacks.{IsEntered}
 use Rattle.wap_world.specs.Setting.{set_variables}
-use Rattle.wap_world.proofs.SiteLemmas.Asking.{Stays-same}
 use Rattle.wap_state.specs.Scenes.{Line}
 use Rattle.wap_context.specs.inside.Moving.{PlaysAt}
-use Rattle.wap_context.specs.inside.Starting.{begun_with}
 use Rattle.wap_context.proofs.Takings.{takes_rejected}
 use Rattle.wap_context.proofs.Beginning.{begin_takes}
 use Rattle.wap_context.proofs.context.Context.begin_script.Goals as goal
 
 pub returns-in_err-set_variables : goal.returns-in_err-set_variables
 returns-in_err-set_variables g c =
-    takes_rejected
-    (begun_with c.args.unit c.args.sets c.args.caller.now c.args.url c.args.index
-    c.args.arguments) (g.P.Pages.seen c.args.pages.now) (g.P.Pages.seen c.args.pages.now)
-    c.args.self.now c.set_variables.new.self c.args.lines.now c.args.lines.now
-    c.from_residual.result (Stays-same (g.P.Pages.seen c.args.pages.now))
-    c.from_residual.ensures.0 c.from_residual.ensures.1
+    takes_rejected c.from_residual.result c.from_residual.ensures.0 c.from_residual.ensures.1
 
 pub returns-in_err-to_url : goal.returns-in_err-to_url
 returns-in_err-to_url g c =
-    takes_rejected
-    (begun_with c.args.unit c.args.sets c.args.caller.now c.args.url c.args.index
-    c.args.arguments) (g.P.Pages.seen c.args.pages.now) (g.P.Pages.seen c.args.pages.now)
-    c.args.self.now c.clear_pending.new.self c.args.lines.now c.args.lines.now
-    c.from_residual-in_err-to_url.result (Stays-same (g.P.Pages.seen c.args.pages.now))
-    c.from_residual-in_err-to_url.ensures.0 c.from_residual-in_err-to_url.ensures.1
+    takes_rejected c.from_residual-in_err-to_url.result c.from_residual-in_err-to_url.ensures.0
+    c.from_residual-in_err-to_url.ensures.1
 
 pub returns-in_err-copy_of : goal.returns-in_err-copy_of
 returns-in_err-copy_of g c =
-    takes_rejected
-    (begun_with c.args.unit c.args.sets c.args.caller.now c.args.url c.args.index
-    c.args.arguments) (g.P.Pages.seen c.args.pages.now) (g.P.Pages.seen c.args.pages.now)
-    c.args.self.now c.clear_pending.new.self c.args.lines.now c.args.lines.now
-    c.from_residual-in_err-copy_of.result (Stays-same (g.P.Pages.seen c.args.pages.now))
-    c.from_residual-in_err-copy_of.ensures.0 c.from_residual-in_err-copy_of.ensures.1
+    takes_rejected c.from_residual-in_err-copy_of.result c.from_residual-in_err-copy_of.ensures.0
+    c.from_residual-in_err-copy_of.ensures.1
 
 pub returns-in_err-machine : goal.returns-in_err-machine
 returns-in_err-machine g c =
-    takes_rejected
-    (begun_with c.args.unit c.args.sets c.args.caller.now c.args.url c.args.index
-    c.args.arguments) (g.P.Pages.seen c.args.pages.now) (g.P.Pages.seen c.args.pages.now)
-    c.args.self.now c.clear_pending.new.self c.args.lines.now c.args.lines.now
-    c.from_residual-in_err-machine.result (Stays-same (g.P.Pages.seen c.args.pages.now))
-    c.from_residual-in_err-machine.ensures.0 c.from_residual-in_err-machine.ensures.1
+    takes_rejected c.from_residual-in_err-machine.result c.from_residual-in_err-machine.ensures.0
+    c.from_residual-in_err-machine.ensures.1
 
 pub returns : goal.returns
 returns g c =

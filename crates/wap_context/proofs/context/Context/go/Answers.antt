@@ -3,7 +3,6 @@ use Rattle.wap_world.specs.World.{place_now}
 use Rattle.wap_world.specs.Tasks.{stay_or_ask, go, base_now}
 use Rattle.wap_world.specs.scripting.UnitSites.{shelf_of}
 use Rattle.wap_context.specs.Sites.{site_of}
-use Rattle.wap_world.proofs.SiteLemmas.Asking.{Stays-same}
 use Rattle.wap_context.proofs.Takings.{takes_from, takes_rejected}
 use Rattle.wap_context.proofs.Requesting.{refused_takes, go_by, go_no}
 use Rattle.wap_context.proofs.context.Context.go.Goals as goal
@@ -40,27 +39,19 @@ returns-in_ok-refuse-in-Err g c =
 
 pub returns-in_err-url : goal.returns-in_err-url
 returns-in_err-url g c =
-    takes_rejected (λ pages keys world.
-    go (site_of pages) keys (base_now (shelf_of pages) world c.args.from) c.args.one world)
-    (g.P.Pages.seen c.args.pages.now) (g.P.Pages.seen c.args.pages.now)
-    c.args.self.now c.args.self.now c.args.lines.now c.args.lines.now
-    c.from_residual-in_err-url.result (Stays-same (g.P.Pages.seen c.args.pages.now))
-    c.from_residual-in_err-url.ensures.0 c.from_residual-in_err-url.ensures.1
+    takes_rejected c.from_residual-in_err-url.result c.from_residual-in_err-url.ensures.0
+    c.from_residual-in_err-url.ensures.1
 
 pub returns-in_err-request-in-Ok : goal.returns-in_err-request-in-Ok
 returns-in_err-request-in-Ok g c =
-    takes_rejected (λ pages keys world.
-    go (site_of pages) keys (base_now (shelf_of pages) world c.args.from) c.args.one world)
-    (g.P.Pages.seen c.args.pages.now) (g.P.Pages.seen c.args.pages.now)
-    c.args.self.now c.args.self.now c.args.lines.now c.args.lines.now
-    c.from_residual-in_err-request-in-Ok.result (Stays-same (g.P.Pages.seen c.args.pages.now))
+    takes_rejected c.from_residual-in_err-request-in-Ok.result
     c.from_residual-in_err-request-in-Ok.ensures.0 c.from_residual-in_err-request-in-Ok.ensures.1
 
 pub returns-in_err-refuse-in-Err : goal.returns-in_err-refuse-in-Err
 returns-in_err-refuse-in-Err g c =
-    takes_rejected (λ pages keys world.
-    go (site_of pages) keys (base_now (shelf_of pages) world c.args.from) c.args.one world)
-    (g.P.Pages.seen c.args.pages.now) (g.P.Pages.seen c.args.pages.now)
-    c.args.self.now c.refuse.new.self c.args.lines.now c.refuse.new.lines
-    c.from_residual-in_err-refuse-in-Err.result (Stays-same (g.P.Pages.seen c.args.pages.now))
+    takes_rejected c.from_residual-in_err-refuse-in-Err.result
     c.from_residual-in_err-refuse-in-Err.ensures.0 c.from_residual-in_err-refuse-in-Err.ensures.1
+
+pub returns-in_err-base : goal.returns-in_err-base
+returns-in_err-base g c =
+    takes_rejected c.from_residual.result c.from_residual.ensures.0 c.from_residual.ensures.1

@@ -3,7 +3,7 @@ use Rattle.wap_cardrules.specs.Values.{Pairs}
 use Rattle.wap_world.specs.Requests.{Request}
 use Rattle.wap_world.specs.Tasks.{open_url, request}
 use Rattle.wap_context.specs.Sites.{site_of}
-use Rattle.wap_context.proofs.Takings.{takes_from}
+use Rattle.wap_context.proofs.Takings.{takes_from, takes_rejected}
 use Rattle.wap_context.proofs.Requesting.{open_by, open_no, refused_takes}
 use Rattle.wap_context.proofs.context.Context.open_url.Goals as goal
 
@@ -36,3 +36,17 @@ returns g c =
     c.in_ok-base.ensures.is
     (sym c.in-Err.is ∙ c.in_ok-url.ensures))
     c.in_ok-refuse-in-Err.ensures
+
+pub returns-in_err-base : goal.returns-in_err-base
+returns-in_err-base g c =
+    takes_rejected c.from_residual.result c.from_residual.ensures.0 c.from_residual.ensures.1
+
+pub returns-in_err-url : goal.returns-in_err-url
+returns-in_err-url g c =
+    takes_rejected c.from_residual-in_err-url.result c.from_residual-in_err-url.ensures.0
+    c.from_residual-in_err-url.ensures.1
+
+pub returns-in_err-refuse-in-Err : goal.returns-in_err-refuse-in-Err
+returns-in_err-refuse-in-Err g c =
+    takes_rejected c.from_residual-in_err-refuse-in-Err.result
+    c.from_residual-in_err-refuse-in-Err.ensures.0 c.from_residual-in_err-refuse-in-Err.ensures.1

@@ -9,7 +9,7 @@ use Rattle.wap_context.specs.declared.context.Context.TheInside.{Inside}
 use Rattle.wap_context.specs.Browsers.{Browser, IsOver}
 use Rattle.wap_context.specs.inside.Ticking.{run_out}
 use Rattle.wap_context.proofs.Plays.{over_kept}
-use Rattle.wap_context.proofs.Passing.{is_scene, pursues_from}
+use Rattle.wap_context.proofs.Passing.{is_scene, pursues_from, pursues_rejected}
 use Rattle.wap_context.proofs.Passing.{tick_none, tick_less, tick_out}
 use Rattle.wap_context.proofs.context.Context.pass_time.Goals as goal
 
@@ -56,3 +56,7 @@ returns g c =
     (λ pages over keys. tick_out c.args.time c.in-Some.left pages keys c.args.self.now over
     (sym c.in-Some.is ∙ c.time_left.ensures) c.if-time-left.false)
     c.run_out.ensures
+
+pub returns-in_err-add_refusal : goal.returns-in_err-add_refusal
+returns-in_err-add_refusal g c =
+    pursues_rejected c.from_residual.result c.from_residual.ensures.0 c.from_residual.ensures.1

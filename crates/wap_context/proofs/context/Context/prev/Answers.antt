@@ -5,7 +5,7 @@ use Rattle.wap_world.specs.History.{earlier_entry}
 use Rattle.wap_world.specs.Tasks.{prev, back_from}
 use Rattle.wap_world.specs.scripting.UnitSites.{shelf_of}
 use Rattle.wap_context.specs.Browsers.{Browser}
-use Rattle.wap_context.proofs.Takings.{takes_from}
+use Rattle.wap_context.proofs.Takings.{takes_from, takes_rejected}
 use Rattle.wap_context.proofs.Navigations.{prev_some, prev_none}
 use Rattle.wap_context.proofs.Requesting.{refused_takes}
 use Rattle.wap_context.proofs.context.Context.prev.Goals as goal
@@ -37,3 +37,12 @@ returns-in_ok-refuse-in-None g c =
     (c.in_ok-earlier.ensures ∙ ap (λ (b : Browser). earlier_entry b.world) c.self.view_is)
     c.in-None.is keys)
     c.in_ok-refuse-in-None.ensures
+
+pub returns-in_err-earlier : goal.returns-in_err-earlier
+returns-in_err-earlier g c =
+    takes_rejected c.from_residual.result c.from_residual.ensures.0 c.from_residual.ensures.1
+
+pub returns-in_err-refuse-in-None : goal.returns-in_err-refuse-in-None
+returns-in_err-refuse-in-None g c =
+    takes_rejected c.from_residual-in_err-refuse-in-None.result
+    c.from_residual-in_err-refuse-in-None.ensures.0 c.from_residual-in_err-refuse-in-None.ensures.1

@@ -1,5 +1,3 @@
-use Rattle.wap_world.proofs.SiteLemmas.Asking.{Stays-same}
-use Rattle.wap_context.specs.inside.Ticking.{run_out}
 use Rattle.wap_context.proofs.Passing.{runs_out, pursues_rejected}
 use Rattle.wap_context.proofs.context.Context.run_out.Goals as goal
 
@@ -12,13 +10,9 @@ returns g c =
 
 pub returns-in_err-end_timer : goal.returns-in_err-end_timer
 returns-in_err-end_timer g c =
-    let seen = g.P.Pages.seen c.args.pages.now in
-    pursues_rejected run_out seen seen c.args.self.now c.end_timer.new.self c.args.lines
-    c.from_residual.result (Stays-same seen) c.from_residual.ensures.0 c.from_residual.ensures.1
+    pursues_rejected c.from_residual.result c.from_residual.ensures.0 c.from_residual.ensures.1
 
 pub returns-in_err-task : goal.returns-in_err-task
 returns-in_err-task g c =
-    let seen = g.P.Pages.seen c.args.pages.now in
-    pursues_rejected run_out seen seen c.args.self.now c.end_timer.new.self c.args.lines
-    c.from_residual-in_err-task.result (Stays-same seen) c.from_residual-in_err-task.ensures.0
+    pursues_rejected c.from_residual-in_err-task.result c.from_residual-in_err-task.ensures.0
     c.from_residual-in_err-task.ensures.1

@@ -3,6 +3,7 @@ use Rattle.wap_base.specs.declared.limits.Limits.{Limits}
 use Rattle.wap_url.specs.Printing.{without_fragment}
 use Rattle.wap_unit.specs.declared.unit.Unit.{Unit}
 use Rattle.wap_context.specs.inside.Starting.{start_of}
+use Rattle.wap_context.proofs.Takings.{takes_rejected}
 use Rattle.wap_context.proofs.Beginning.{start_begins, start_enters, start_rejects}
 use Rattle.wap_context.proofs.context.Context.start.Goals as goal
 
@@ -34,3 +35,12 @@ begin_script-requires g c =
     c.in-Runs.arguments c.args.url c.in_ok-why.field-0
     (c.in_ok-why.ensures ∙ ap (λ (u : Unit). start_of u string c.args.url) c.deref.ensures)
     c.in-Runs.is
+
+pub returns-in_err-why : goal.returns-in_err-why
+returns-in_err-why g c =
+    takes_rejected c.from_residual.result c.from_residual.ensures.0 c.from_residual.ensures.1
+
+pub returns-in_err-reject-in-Not : goal.returns-in_err-reject-in-Not
+returns-in_err-reject-in-Not g c =
+    takes_rejected c.from_residual-in_err-reject-in-Not.result
+    c.from_residual-in_err-reject-in-Not.ensures.0 c.from_residual-in_err-reject-in-Not.ensures.1

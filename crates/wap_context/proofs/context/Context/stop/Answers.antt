@@ -1,5 +1,4 @@
 use Rattle.std.proofs.Common.{refl, []}
-use Rattle.wap_world.proofs.SiteLemmas.Asking.{Stays-same}
 use Rattle.wap_context.specs.Acting.{stop}
 use Rattle.wap_context.proofs.Beginning.{stop_takes}
 use Rattle.wap_context.proofs.Calling.{stop_ok}
@@ -24,5 +23,4 @@ returns-in_err-went g c =
     let seen = g.P.Pages.seen c.args.pages.now in
     acts (stop c.args.waiting) seen seen c.args.self.now c.end_script.new.self []
     c.from_residual.result refl
-    (pursues_rejected (stop c.args.waiting) seen seen c.args.self.now c.end_script.new.self []
-    c.from_residual.result (Stays-same seen) c.from_residual.ensures.0 c.from_residual.ensures.1)
+    (pursues_rejected c.from_residual.result c.from_residual.ensures.0 c.from_residual.ensures.1)

@@ -1,6 +1,3 @@
-use Rattle.wap_world.proofs.SiteLemmas.Asking.{Stays-same}
-use Rattle.wap_world.specs.Tasks.{task_once}
-use Rattle.wap_context.specs.Sites.{site_of}
 use Rattle.wap_context.proofs.Requesting.{go_onces, prev_onces, go_budget, prev_budget}
 use Rattle.wap_context.proofs.Requesting.{refresh_onces, onces_rejected}
 use Rattle.wap_context.proofs.context.Context.task_once.Goals as goal
@@ -29,12 +26,7 @@ returns-in-Go g c =
 
 pub returns-in_err-refuse-in-Go : goal.returns-in_err-refuse-in-Go
 returns-in_err-refuse-in-Go g c =
-    let seen = g.P.Pages.seen c.args.pages.now in
-    onces_rejected (λ pages keys world.
-    task_once (site_of pages) keys world (record { task = c.args.task; from = c.args.from }))
-    seen seen c.args.self.now c.refuse.new.self c.args.lines.now c.refuse.new.lines
-    c.from_residual.result (Stays-same seen) c.from_residual.ensures.0
-    c.from_residual.ensures.1
+    onces_rejected c.from_residual.result c.from_residual.ensures.0 c.from_residual.ensures.1
 
 pub returns-in-Prev : goal.returns-in-Prev
 returns-in-Prev g c =
@@ -47,13 +39,8 @@ returns-in-Prev g c =
 
 pub returns-in_err-refuse-in-Prev : goal.returns-in_err-refuse-in-Prev
 returns-in_err-refuse-in-Prev g c =
-    let seen = g.P.Pages.seen c.args.pages.now in
-    onces_rejected (λ pages keys world.
-    task_once (site_of pages) keys world (record { task = c.args.task; from = c.args.from }))
-    seen seen c.args.self.now c.refuse-else-take_turn-2.new.self c.args.lines.now
-    c.refuse-else-take_turn-2.new.lines c.from_residual-in_err-refuse-in-Prev.result
-    (Stays-same seen) c.from_residual-in_err-refuse-in-Prev.ensures.0
-    c.from_residual-in_err-refuse-in-Prev.ensures.1
+    onces_rejected c.from_residual-in_err-refuse-in-Prev.result
+    c.from_residual-in_err-refuse-in-Prev.ensures.0 c.from_residual-in_err-refuse-in-Prev.ensures.1
 
 pub returns : goal.returns
 returns g c =
@@ -63,10 +50,6 @@ returns g c =
 
 pub returns-in_err-refresh-in-Refresh : goal.returns-in_err-refresh-in-Refresh
 returns-in_err-refresh-in-Refresh g c =
-    let seen = g.P.Pages.seen c.args.pages.now in
-    onces_rejected (λ pages keys world.
-    task_once (site_of pages) keys world (record { task = c.args.task; from = c.args.from }))
-    seen seen c.args.self.now c.refresh.new.self c.args.lines.now c.refresh.new.lines
-    c.from_residual-in_err-refresh-in-Refresh.result (Stays-same seen)
+    onces_rejected c.from_residual-in_err-refresh-in-Refresh.result
     c.from_residual-in_err-refresh-in-Refresh.ensures.0
     c.from_residual-in_err-refresh-in-Refresh.ensures.1

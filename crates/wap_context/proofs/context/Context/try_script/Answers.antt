@@ -2,18 +2,13 @@ use Rattle.std.proofs.Common.{◌∙◌, ap, Option}
 use Rattle.wap_world.specs.Shelves.{Entrance}
 use Rattle.wap_world.specs.Access.{may_enter}
 use Rattle.wap_world.specs.scripting.Units.{entrance_in}
-use Rattle.wap_world.proofs.SiteLemmas.Asking.{Stays-same}
-use Rattle.wap_context.specs.inside.Starting.{script_with}
 use Rattle.wap_context.proofs.Takings.{takes_rejected}
 use Rattle.wap_context.proofs.Beginning.{script_allowed, script_denied}
 use Rattle.wap_context.proofs.context.Context.try_script.Goals as goal
 
 pub returns-in_err-reject : goal.returns-in_err-reject
 returns-in_err-reject g c =
-    takes_rejected (script_with c.args.unit c.args.sets c.args.caller.now c.args.url)
-    (g.P.Pages.seen c.args.pages.now) (g.P.Pages.seen c.args.pages.now) c.args.self.now
-    c.reject.new.self c.args.lines.now c.reject.new.lines c.from_residual-in_err-reject.result
-    (Stays-same (g.P.Pages.seen c.args.pages.now)) c.from_residual-in_err-reject.ensures.0
+    takes_rejected c.from_residual-in_err-reject.result c.from_residual-in_err-reject.ensures.0
     c.from_residual-in_err-reject.ensures.1
 
 pub returns-then-branch : goal.returns-then-branch
@@ -35,3 +30,12 @@ returns-in_ok-reject g c =
     ∙ ap (λ (e : Option Entrance). may_enter c.args.url e c.args.caller.now)
     (c.in_ok-entrance.ensures ∙ ap entrance_in c.deref.ensures))
     c.if-branch.false c.in_ok-reject.ensures.moves c.in_ok-reject.ensures.none
+
+pub returns-in_err-entrance : goal.returns-in_err-entrance
+returns-in_err-entrance g c =
+    takes_rejected c.from_residual.result c.from_residual.ensures.0 c.from_residual.ensures.1
+
+pub returns-in_err-may_enter : goal.returns-in_err-may_enter
+returns-in_err-may_enter g c =
+    takes_rejected c.from_residual-in_err-may_enter.result
+    c.from_residual-in_err-may_enter.ensures.0 c.from_residual-in_err-may_enter.ensures.1

@@ -1,4 +1,4 @@
-use Rattle.wap_context.proofs.Requesting.{open_onces, open_budget}
+use Rattle.wap_context.proofs.Requesting.{open_onces, open_budget, onces_rejected}
 use Rattle.wap_context.proofs.context.Context.visit_once.Goals as goal
 
 pub returns-then-take_turn : goal.returns-then-take_turn
@@ -15,3 +15,7 @@ returns-in_ok-refuse g c =
     c.in_ok-refuse.field-0 c.went_to.result c.args.url.now
     c.went_to.ensures.next c.went_to.ensures.none
     (c.take_turn.ensures.left c.if-take_turn.false) c.in_ok-refuse.ensures
+
+pub returns-in_err-refuse : goal.returns-in_err-refuse
+returns-in_err-refuse g c =
+    onces_rejected c.from_residual.result c.from_residual.ensures.0 c.from_residual.ensures.1

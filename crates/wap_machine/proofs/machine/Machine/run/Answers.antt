@@ -1,4 +1,4 @@
-use Rattle.std.proofs.Common.{Err, refl, sym, ap, subst, ◌∙◌, arith}
+use Rattle.std.proofs.Common.{◌≡◌, Err, refl, sym, ap, subst, ◌∙◌, arith}
 use Rattle.std.proofs.lemmas.Result.{err_from_is_err_and}
 use Rattle.wap_base.specs.declared.fault.RunErr.TheVariants.{Store}
 use Rattle.wap_machine.specs.declared.machine.Outcome.{Outcome}
@@ -7,7 +7,7 @@ use Rattle.wap_machine.specs.Stacks.{Stack}
 use Rattle.wap_execution.specs.laws.Settings.{uncounted}
 use Rattle.wap_machine.specs.Runs.{run_of}
 use Rattle.wap_machine.specs.inside.Efforts.{effort, GoesBelow}
-use Rattle.wap_machine.specs.inside.MachineSteps.{rest, Same, LimitsStay}
+use Rattle.wap_machine.specs.inside.MachineSteps.{rest, LimitsStay}
 use Rattle.wap_machine.proofs.HostLaws.{other_fault}
 use Rattle.wap_machine.proofs.RunsLaws.{begins, goes_on, ends_told, fails_fetched}
 use Rattle.wap_machine.proofs.BoundedLaws.{told_bounded}
@@ -15,9 +15,11 @@ use Rattle.wap_machine.proofs.machine.Machine.run.Goals as goal
 
 pub loop-next-init : goal.loop-next-init
 loop-next-init g c = record {
-  runs =
+  runs = λ under may.
       begins g.H.Host.meaning g.H.Host.fetched c.args.self (g.H.Host.turns c.args.host.now)
-      (g.H.Host.state c.args.host.now c.args.pages.now);
+      (g.H.Host.state c.args.host.now c.args.pages.now under);
+  limits = refl;
+  turns = omega arith;
   faults = omega arith;
   fetches = omega arith;
   kept = g.met.H.Host.kept_still c.args.pages.now;
@@ -30,21 +32,27 @@ loop-next-preserved g c =
     let next : Stack = c.in-Goes.next in
     let turns = g.H.Host.turns c.loop-next.host in
     let left = g.H.Host.turns c.step.new.host in
-    let state = g.H.Host.state c.loop-next.host c.loop-next.pages in
-    let later = g.H.Host.state c.step.new.host c.step.new.pages in
-    let told =
-    subst (λ (s : Step). Same (run_of now g.H.Host.meaning turns) state
-    (rest (uncounted now.limits g.H.Host.meaning) s left) later)
-    c.in-Goes.is c.in_ok-next.ensures.told in
-    let limits =
-    subst (λ (s : Step). LimitsStay now.limits s)
-    c.in-Goes.is c.in_ok-next.ensures.limits in
     record {
-      runs =
+      runs = λ under may.
+          let state = g.H.Host.state c.loop-next.host c.loop-next.pages under in
+          let later = g.H.Host.state c.step.new.host c.step.new.pages under in
           goes_on g.H.Host.meaning g.H.Host.fetched c.args.self (g.H.Host.turns c.args.host.now)
-          (g.H.Host.state c.args.host.now c.args.pages.now)
-          now turns state c.loop-next.invariant.runs next left later told limits
-          c.in_ok-next.ensures.turns c.in_ok-next.ensures.grown;
+          (g.H.Host.state c.args.host.now c.args.pages.now under)
+          now turns state
+          (c.loop-next.invariant.runs under (g.met.H.Host.kept_may c.loop-next.pages
+          c.step.new.pages under c.in_ok-next.ensures.kept may))
+          c.loop-next.invariant.limits next left later
+          (subst (λ (s : Step). run_of now g.H.Host.meaning turns state
+          ≡ rest (uncounted now.limits g.H.Host.meaning) s left later)
+          c.in-Goes.is (c.in_ok-next.ensures.told under may))
+          (c.in_ok-next.ensures.grown under may);
+      limits =
+          subst (λ (s : Step). LimitsStay now.limits s) c.in-Goes.is c.in_ok-next.ensures.limits
+          ∙ c.loop-next.invariant.limits;
+      turns =
+          let before = c.loop-next.invariant.turns in
+          let after = c.in_ok-next.ensures.turns in
+          omega arith;
       faults =
           let before = c.loop-next.invariant.faults in
           let after = c.in_ok-next.ensures.faults in
@@ -66,37 +74,40 @@ loop-next-smaller g c =
     (g.H.Host.turns c.step.new.host) s) c.in-Goes.is c.in_ok-next.ensures.falls
 
 pub returns-in-Ends-clause-told : goal.returns-in-Ends-clause-told
-returns-in-Ends-clause-told g c =
+returns-in-Ends-clause-told g c = λ under may.
     let now : Stack = c.loop-next.machine in
     let turns = g.H.Host.turns c.loop-next.host in
     let left = g.H.Host.turns c.step.new.host in
-    let state = g.H.Host.state c.loop-next.host c.loop-next.pages in
-    let later = g.H.Host.state c.step.new.host c.step.new.pages in
-    let told =
-    subst (λ (s : Step). Same (run_of now g.H.Host.meaning turns) state
-    (rest (uncounted now.limits g.H.Host.meaning) s left) later)
-    c.in-Ends.is c.in_ok-next.ensures.told in
+    let state = g.H.Host.state c.loop-next.host c.loop-next.pages under in
+    let later = g.H.Host.state c.step.new.host c.step.new.pages under in
     ends_told g.H.Host.meaning g.H.Host.fetched c.args.self (g.H.Host.turns c.args.host.now)
-    (g.H.Host.state c.args.host.now c.args.pages.now)
-    now turns state c.loop-next.invariant.runs c.in-Ends.outcome left later told
+    (g.H.Host.state c.args.host.now c.args.pages.now under) now turns state
+    (c.loop-next.invariant.runs under (g.met.H.Host.kept_may c.loop-next.pages c.step.new.pages
+    under c.in_ok-next.ensures.kept may))
+    c.loop-next.invariant.limits c.in-Ends.outcome left later
+    (subst (λ (s : Step). run_of now g.H.Host.meaning turns state
+    ≡ rest (uncounted now.limits g.H.Host.meaning) s left later)
+    c.in-Ends.is (c.in_ok-next.ensures.told under may))
 
 pub returns-in-Ends-clause-bounded : goal.returns-in-Ends-clause-bounded
-returns-in-Ends-clause-bounded g c =
+returns-in-Ends-clause-bounded g c = λ under may.
     told_bounded g.H.Host.meaning c.args.self (g.H.Host.turns c.args.host.now)
-    (g.H.Host.state c.args.host.now c.args.pages.now) c.in-Ends.outcome
-    (g.H.Host.turns c.step.new.host) (g.H.Host.state c.step.new.host c.step.new.pages)
-    (returns-in-Ends-clause-told g c)
+    (g.H.Host.state c.args.host.now c.args.pages.now under) c.in-Ends.outcome
+    (g.H.Host.turns c.step.new.host) (g.H.Host.state c.step.new.host c.step.new.pages under)
+    (returns-in-Ends-clause-told g c under may)
 
 pub returns-in_err-next-clause-fetched : goal.returns-in_err-next-clause-fetched
-returns-in_err-next-clause-fetched g c = λ is.
+returns-in_err-next-clause-fetched g c = λ is under may.
     let left = err_from_is_err_and c.from_residual.result c.from_residual.ensures.1 in
     fails_fetched g.H.Host.meaning g.H.Host.fetched c.args.self (g.H.Host.turns c.args.host.now)
-    (g.H.Host.state c.args.host.now c.args.pages.now)
+    (g.H.Host.state c.args.host.now c.args.pages.now under)
     c.loop-next.machine (g.H.Host.turns c.loop-next.host)
-    (g.H.Host.state c.loop-next.host c.loop-next.pages) c.loop-next.invariant.runs
-    (g.H.Host.fetches c.step.new.pages)
+    (g.H.Host.state c.loop-next.host c.loop-next.pages under)
+    (c.loop-next.invariant.runs under (g.met.H.Host.kept_may c.loop-next.pages c.step.new.pages
+    under c.in_err-next.ensures.kept may))
+    c.loop-next.invariant.limits (g.H.Host.fetches c.step.new.pages)
     (c.in_err-next.ensures.fetched (other_fault Outcome Step c.in_err-next.field-0.0 Store
-    (sym (left.1 ∙ ap Err left.2) ∙ is)))
+    (sym (left.1 ∙ ap Err left.2) ∙ is)) under may)
 
 pub returns-in-Ends-clause-kept : goal.returns-in-Ends-clause-kept
 returns-in-Ends-clause-kept g c =

@@ -1,13 +1,13 @@
 -- A key is the session's, as itself or as the one that opens its URL, or the inbox's.
-use Rattle.std.proofs.Common.{ap, sym, ◌∙◌, Err}
+use Rattle.std.proofs.Common.{ap, sym, ◌∙◌, [], Err, false, true, refl}
 use Rattle.std.proofs.lemmas.Result.{err_from_is_err_and}
 use Rattle.wap_base.specs.declared.key.Key.TheVariants.{Open}
 use Rattle.wap_world.proofs.InboxesLemmas.Alike.{winners_win}
 use Rattle.wap_session.specs.handset.inside.Turns.{pushes_after}
+use Rattle.wap_session.proofs.Playing.{wants_plays}
 use Rattle.wap_session.proofs.HandsetLemmas.Turning.{no_script}
 use Rattle.wap_session.proofs.HandsetLemmas.Keying.{plays_as, misses_as, in_dialog, opened_key}
-use Rattle.wap_session.proofs.HandsetLemmas.Keying.{plays_inbox}
-use Rattle.wap_session.proofs.HandsetLemmas.Keying.{misses_key}
+use Rattle.wap_session.proofs.HandsetLemmas.Keying.{does_key, plays_inbox}
 use Rattle.wap_session.proofs.handset.keys.turn.Goals as goal
 
 -- ---- in a dialog
@@ -30,6 +30,13 @@ returns-then-in_dialog-clause-missed g c is =
     misses_as sold winners c.requires.own key key
     (in_dialog sold winners c.requires.own key (sym c.in_dialog.ensures.waits ∙ c.if-in_dialog.true))
     (g.P.Pages.seen c.args.pages.now) (g.P.Pages.seen c.feed.new.pages) (c.feed.ensures.missed is)
+
+-- ---- memory ran out first
+
+pub returns-in_err-url-clause-plays : goal.returns-in_err-url-clause-plays
+returns-in_err-url-clause-plays g c =
+    let p = err_from_is_err_and c.from_residual.result c.from_residual.ensures.1 in
+    rw (p.1, p.2) (wants_plays _ _ (g.P.Pages.seen c.args.pages.now) _ false true refl refl)
 
 -- ---- an entry that is followed
 
@@ -67,8 +74,9 @@ returns-in_err-lines-clause-missed g c is =
     let rests = no_script sold.waiting (sym c.in_dialog.ensures.waits ∙ c.if-in_dialog.false) in
     let p = err_from_is_err_and c.from_residual-in_err-lines.result
     c.from_residual-in_err-lines.ensures.1 in
-    misses_key sold winners c.requires.own rests (g.P.Pages.seen c.args.pages.now)
-    (g.P.Pages.seen c.feed-2.new.pages) c.args.key.now (sym c.in_default.is ∙ c.in_ok-url.ensures)
+    (does_key sold winners c.requires.own rests (g.P.Pages.seen c.args.pages.now)
+    (g.P.Pages.seen c.feed-2.new.pages) sold winners [] c.args.key.now
+    (sym c.in_default.is ∙ c.in_ok-url.ensures)).1
     (c.in_err-lines.ensures.missed (sym (p.1 ∙ ap Err p.2) ∙ is))
 
 pub returns-in-Some-2-clause-plays : goal.returns-in-Some-2-clause-plays

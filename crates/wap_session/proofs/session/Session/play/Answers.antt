@@ -2,11 +2,11 @@ use Rattle.std.proofs.Common.{ap, sym, subst, ◌∙◌, ◌+◌, drop, take, Li
 use Rattle.std.proofs.lemmas.Result.{err_from_is_err_and}
 use Rattle.std.proofs.lemmas.List.{take_all}
 use Rattle.wap_base.specs.declared.key.Key.{Key}
+use Rattle.wap_world.specs.scripting.UnitSites.{unit_pages}
 use Rattle.wap_context.specs.Sites.{IfOver}
-use Rattle.wap_session.specs.Feeding.{Plays, MissedAt}
-use Rattle.wap_session.proofs.Turning.{shows_on}
-use Rattle.wap_session.proofs.Playing.{plays_none, plays_more, plays_failing, missed_failing}
-use Rattle.wap_session.proofs.Playing.{plays_wanting, around, one_more}
+use Rattle.wap_session.specs.Feeding.{steps_in, Plays, MissedAt}
+use Rattle.wap_session.proofs.Playing.{plays_none, over_plays, plays_more, then_fails, then_wants}
+use Rattle.wap_session.proofs.Playing.{missed_failing, tells_on, around, one_more}
 use Rattle.wap_session.proofs.session.Session.play.Goals as goal
 
 pub loop-key-init : goal.loop-key-init
@@ -16,15 +16,8 @@ loop-key-init g c =
 
 pub returns-in_err-more-clause-plays : goal.returns-in_err-more-clause-plays
 returns-in_err-more-clause-plays g c =
-    let keys = c.args.keys.now in
-    let fault = c.in_err-more.field-0.0 in
     let p = err_from_is_err_and c.from_residual.result c.from_residual.ensures.1 in
-    rw (p.1, p.2)
-    (plays_failing keys (take c.loop-key.key-index keys) c.key-item.result
-    (g.P.Pages.seen c.args.pages.now) (g.P.Pages.seen c.loop-key.pages)
-    (g.P.Pages.seen c.feed.new.pages) c.args.self.now
-    c.loop-key.self c.feed.new.self c.loop-key.lines fault
-    c.loop-key.invariant c.in_err-more.ensures.plays)
+    rw (p.1, p.2) (then_fails c.loop-key.invariant c.in_err-more.ensures.plays)
 
 pub returns-in_err-more-clause-missed : goal.returns-in_err-more-clause-missed
 returns-in_err-more-clause-missed g c is =
@@ -36,7 +29,7 @@ returns-in_err-more-clause-missed g c is =
     let mid = g.P.Pages.seen c.loop-key.pages in
     let after = g.P.Pages.seen c.feed.new.pages in
     let p = err_from_is_err_and c.from_residual.result c.from_residual.ensures.1 in
-    subst (λ (all : List Key). IfOver before.contents old.browser
+    subst (λ (all : List Key). IfOver after old.browser
     (λ pages. MissedAt all pages old before after))
     (around keys i one c.loop-key-test.true c.key-item.is)
     (missed_failing (take i keys) (drop (i + 1) keys) one before mid after old c.loop-key.self
@@ -45,17 +38,10 @@ returns-in_err-more-clause-missed g c is =
 
 pub returns-in_err-keep_lines-clause-plays : goal.returns-in_err-keep_lines-clause-plays
 returns-in_err-keep_lines-clause-plays g c =
-    let keys = c.args.keys.now in
-    let i = c.loop-key.key-index in
     let p = err_from_is_err_and c.from_residual-in_err-keep_lines.result
     c.from_residual-in_err-keep_lines.ensures.1 in
     rw (p.1, p.2, c.in_err-keep_lines.ensures.wanting)
-    (plays_wanting keys (take i keys) c.key-item.result
-    (g.P.Pages.seen c.args.pages.now) (g.P.Pages.seen c.loop-key.pages)
-    (g.P.Pages.seen c.feed.new.pages)
-    c.args.self.now c.loop-key.self c.feed.new.self c.keep_lines.new.self c.loop-key.lines
-    c.in_ok-more.more
-    c.loop-key.invariant c.in_ok-more.ensures.plays c.in_err-keep_lines.ensures.over)
+    (then_wants c.loop-key.invariant c.in_ok-more.ensures.plays c.in_err-keep_lines.ensures.over)
 
 pub loop-key-preserved : goal.loop-key-preserved
 loop-key-preserved g c =
@@ -77,10 +63,13 @@ returns-clause-plays g c =
     (take_all c.loop-key.key-index c.args.keys.now c.loop-key-test.false) c.loop-key.invariant
 
 pub returns-clause-shown : goal.returns-clause-shown
-returns-clause-shown g c =
-    let before = g.P.Pages.seen c.args.pages.now in
-    let played = subst (λ (all : List Key). Plays all before
-    (g.P.Pages.seen c.loop-key.pages) c.args.self.now c.loop-key.self (Ok c.loop-key.lines))
-    (take_all c.loop-key.key-index c.args.keys.now c.loop-key-test.false) c.loop-key.invariant in
-    shows_on c.args.keys.now c.args.self.now c.loop-key.self c.loop-key.lines before.contents
-    played.leads
+returns-clause-shown g c = λ judged may over.
+    let pages = unit_pages judged in
+    let led = (returns-clause-plays g c).leads judged may over in
+    tells_on c.args.keys.now (steps_in c.args.self.now pages) (steps_in c.loop-key.self pages)
+    c.loop-key.lines led.tells led.on
+
+pub returns-then-is_over-clause-plays : goal.returns-then-is_over-clause-plays
+returns-then-is_over-clause-plays g c =
+    let over = sym c.is_over.ensures ∙ c.if-is_over.true in
+    over_plays _ _ (g.P.Pages.seen c.args.pages.now) _ _ _ over over

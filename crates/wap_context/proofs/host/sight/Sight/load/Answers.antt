@@ -8,7 +8,7 @@ use Rattle.wap_world.specs.scripting.Loading.{loaded}
 use Rattle.wap_world.specs.scripting.Hosting.{within, load_call}
 use Rattle.wap_world.specs.scripting.UnitSites.{shelf_of}
 use Rattle.wap_world.specs.scripting.Views.{fresh}
-use Rattle.wap_context.proofs.HostLemmas.Serving.{serves_as, gave_serves, nothing_gave}
+use Rattle.wap_context.proofs.HostLemmas.Serving.{lacks_serves, serves_as, gave_serves, nothing_gave}
 use Rattle.wap_context.proofs.HostLemmas.Loads.{load_is, after_url}
 use Rattle.wap_context.proofs.host.sight.Sight.load.Goals as goal
 
@@ -37,3 +37,10 @@ returns-in-None-clause-serves g c =
     (gave_serves (λ view. within (gives Invalid (fresh view)))
     (λ step. within (gives Invalid step)) c.args.self.now c.args.self.now (out.Value Invalid)
     (nothing_gave c.args.self.now) (λ pages counted. refl) (g.P.Pages.seen c.args.pages.now))
+
+pub returns-in_err-url-clause-serves : goal.returns-in_err-url-clause-serves
+returns-in_err-url-clause-serves g c =
+    lacks_serves
+    (λ view. within (load_call (shelf_of view.pages) c.args.arguments.now (fresh view)))
+    c.args.self.now c.args.self.now (g.P.Pages.seen c.args.pages.now) c.from_residual.result
+    c.from_residual.ensures.0 c.from_residual.ensures.1
