@@ -1,6 +1,5 @@
 mod DecimalLaws
 mod KeyLaws
-mod FormLaws
 pub mod LineLaws
 mod LineSteps
 pub mod GivingLaws
@@ -10,5 +9,5 @@ pub mod WholeLaws
 pub mod FaultLaws
 mod SpellLaws
 mod WordLaws
-pub mod ListsLemmas
+mod ListLaws
 pub mod WordsLemmas

@@ -1,19 +1,17 @@
 -- Lines at their ends, and what they say.
 use Rattle.std.proofs.Common.{◌≡◌, ℕ, ◌+◌, ◌<◌, ◌≤◌, suc, Bool, true, false, cond, List, [], ◌∷◌}
-use Rattle.std.proofs.Common.{◌++◌, length, Option, None, Result, Ok, Err, refl, ap, ◌∙◌, arith}
+use Rattle.std.proofs.Common.{◌++◌, length, Option, None, Result, Ok, Err, refl, sym, ap, ◌∙◌}
+use Rattle.std.proofs.Common.{arith}
 use Rattle.std.specs.Prelude.{◌==◌, not, ◌&&◌, ◌||◌}
 use Rattle.std.proofs.lemmas.Bool.{lt-ltb, le-ltb}
-use Rattle.wap_base.specs.declared.key.Key.{Key}
 use Rattle.wap_keys.specs.declared.limits.TheConstants.{LINE_LIMIT}
 use Rattle.wap_keys.specs.declared.fault.KeyFault.{KeyFault}
-use Rattle.wap_keys.specs.declared.fault.KeyFault.TheVariants.{TooLong, NoMemory}
+use Rattle.wap_keys.specs.declared.fault.KeyFault.TheVariants.{TooLong}
 use Rattle.wap_keys.specs.declared.ending.Ending.{Ending}
 use Rattle.wap_keys.specs.declared.ending.Ending.TheVariants.{End, BadKey}
-use Rattle.wap_keys.specs.Forms.{key_at}
-use Rattle.wap_keys.specs.Lines.{Line, Keys, led, lines_of, without_return, content, some_key}
-use Rattle.wap_keys.specs.Lines.{content_key, line_key, is_end, key_before, keys_from}
+use Rattle.wap_keys.specs.Lines.{Line, KeysOf, Meaning, led, lines_of, without_return, content}
+use Rattle.wap_keys.specs.Lines.{line_says, is_end, key_before, said_from}
 use Rattle.wap_keys.specs.Prefixes.{is_unended}
-use Rattle.wap_keys.proofs.FormLaws.{key_wants_none}
 
 unended_parts : (c : ℕ) (cs : List ℕ) (b : Bool) → (c == 10) ≡ b → (not b && is_unended cs) ≡ true
     → (b ≡ false) × (is_unended cs ≡ true)
@@ -87,93 +85,75 @@ first_line c (d ∷ ds) rest all =
     (lines_of (c ∷ ((d ∷ ds) ++ rest))) (led_line c ((d ∷ ds) ++ rest) p.0)
     (led_more c (length (d ∷ ds)) (lines_of ((d ∷ ds) ++ rest)) (first_line d ds rest p.1))
 
-abbrev refused : ℕ → Keys
-refused number = record { keys = []; ending = BadKey number TooLong }
+-- ---- what they say
 
-long_line : (ending : Ending) (number count : ℕ) (lines : List Line) → LINE_LIMIT < count
-    → Begins count lines → keys_from ending number lines ≡ refused number
-long_line ending number count lines many (line, more, is, long) =
-    ap (keys_from ending number) is
-    ∙ ap (λ (b : Bool).
-    key_before number (cond b (Err TooLong) (cond (line.ended || is_end ending)
-    (content_key (content line)) (Ok None))) (keys_from ending (number + 1) more))
-    (lt-ltb LINE_LIMIT (length line.bytes) (omega (arith, many, long)))
+-- nothing, and this ending
+abbrev pub nothing_then : {A : Type 0} → Ending → KeysOf A
+nothing_then ending = record { keys = []; ending = ending }
 
-pub too_long : (ending : Ending) (number : ℕ) (begun rest : List ℕ) → is_unended begun ≡ true
-    → LINE_LIMIT < length begun
-    → keys_from ending number (lines_of (begun ++ rest)) ≡ refused number
-too_long ending number [] rest all many = absurd (omega (arith, many))
-too_long ending number (c ∷ cs) rest all many =
-    long_line ending number (length (c ∷ cs)) (lines_of ((c ∷ cs) ++ rest)) many
-    (first_line c cs rest all)
+module _ {A : Type 0} (meaning : Meaning A) (ending : Ending) (number : ℕ) where
+  long_line : (count : ℕ) (lines : List Line) → LINE_LIMIT < count → Begins count lines
+      → said_from meaning ending number lines ≡ nothing_then (BadKey number TooLong)
+  long_line count lines many (line, more, is, long) =
+      ap (said_from meaning ending number) is
+      ∙ ap (λ (b : Bool).
+      key_before number (cond b (Err TooLong) (cond (line.ended || is_end ending)
+      (meaning (content line)) (Ok None))) (said_from meaning ending (number + 1) more))
+      (lt-ltb LINE_LIMIT (length line.bytes) (omega (arith, many, long)))
 
--- ---- lines that aren't too long
+  -- a line that is too long is refused, whatever follows
+  pub too_long : (begun rest : List ℕ) → is_unended begun ≡ true → LINE_LIMIT < length begun
+      → said_from meaning ending number (lines_of (begun ++ rest))
+      ≡ nothing_then (BadKey number TooLong)
+  too_long [] rest all many = absurd (omega (arith, many))
+  too_long (c ∷ cs) rest all many =
+      long_line (length (c ∷ cs)) (lines_of ((c ∷ cs) ++ rest)) many (first_line c cs rest all)
 
-short_key : (ending : Ending) (bytes : List ℕ) (ended : Bool) → length bytes ≤ LINE_LIMIT
-    → line_key ending (record { bytes = bytes; ended = ended }) ≡ cond (ended || is_end ending)
-    (content_key (content (record { bytes = bytes; ended = ended }))) (Ok None)
-short_key ending bytes ended few =
-    ap (λ (b : Bool). cond b (Err TooLong) (cond (ended || is_end ending)
-    (content_key (content (record { bytes = bytes; ended = ended }))) (Ok None)))
-    (le-ltb LINE_LIMIT (length bytes) few)
+  -- another says what its content says
+  short_says : (bytes : List ℕ) (ended : Bool) → length bytes ≤ LINE_LIMIT
+      → line_says meaning ending (record { bytes = bytes; ended = ended })
+      ≡ cond (ended || is_end ending)
+      (meaning (content (record { bytes = bytes; ended = ended }))) (Ok None)
+  short_says bytes ended few =
+      ap (λ (b : Bool). cond b (Err TooLong) (cond (ended || is_end ending)
+      (meaning (content (record { bytes = bytes; ended = ended }))) (Ok None)))
+      (le-ltb LINE_LIMIT (length bytes) few)
 
--- what a whole line says, before what follows it
-pub line_before : (ending : Ending) (number : ℕ) (line rest : List ℕ) → is_unended line ≡ true
-    → length line ≤ LINE_LIMIT
-    → keys_from ending number (lines_of (line ++ 10 ∷ rest)) ≡ key_before number
-    (content_key (without_return line)) (keys_from ending (number + 1) (lines_of rest))
-line_before ending number line rest all few =
-    ap (keys_from ending number) (ended_line line rest all)
-    ∙ ap (λ (key : Result (Option Key) KeyFault).
-    key_before number key (keys_from ending (number + 1) (lines_of rest)))
-    (short_key ending line true few)
+  -- before what follows it, where it is whole
+  pub line_before : (line rest : List ℕ) → is_unended line ≡ true → length line ≤ LINE_LIMIT
+      → said_from meaning ending number (lines_of (line ++ 10 ∷ rest))
+      ≡ key_before number (meaning (without_return line))
+      (said_from meaning ending (number + 1) (lines_of rest))
+  line_before line rest all few =
+      ap (said_from meaning ending number) (ended_line line rest all)
+      ∙ ap (λ (said : Result (Option A) KeyFault).
+      key_before number said (said_from meaning ending (number + 1) (lines_of rest)))
+      (short_says line true few)
 
--- a line that is cut off says nothing
-cut_by : (ending : Ending) (number : ℕ) (line : List ℕ) → is_end ending ≡ false
-    → length line ≤ LINE_LIMIT
-    → keys_from ending number (last_line line) ≡ record { keys = []; ending = ending }
-cut_by ending number [] cut few = refl
-cut_by ending number (c ∷ cs) cut few =
-    ap (λ (key : Result (Option Key) KeyFault).
-    key_before number key (record { keys = []; ending = ending }))
-    (short_key ending (c ∷ cs) false few)
-    ∙ ap (λ (b : Bool). key_before number (cond b (content_key (c ∷ cs)) (Ok None))
-    (record { keys = []; ending = ending })) cut
+  -- and the last one, where it isn't empty
+  last_by : (c : ℕ) (cs : List ℕ) → is_unended (c ∷ cs) ≡ true → length (c ∷ cs) ≤ LINE_LIMIT
+      → said_from meaning ending number (lines_of (c ∷ cs)) ≡ key_before number
+      (cond (is_end ending) (meaning (c ∷ cs)) (Ok None)) (nothing_then ending)
+  last_by c cs all few =
+      ap (said_from meaning ending number) (unended_line (c ∷ cs) all)
+      ∙ ap (λ (said : Result (Option A) KeyFault). key_before number said (nothing_then ending))
+      (short_says (c ∷ cs) false few)
 
-pub cut_line : (ending : Ending) (number : ℕ) (line : List ℕ) → is_end ending ≡ false
-    → is_unended line ≡ true → length line ≤ LINE_LIMIT
-    → keys_from ending number (lines_of line) ≡ record { keys = []; ending = ending }
-cut_line ending number line cut all few =
-    ap (keys_from ending number) (unended_line line all) ∙ cut_by ending number line cut few
+  -- one that is cut off says nothing
+  pub cut_line : (line : List ℕ) → is_end ending ≡ false → is_unended line ≡ true
+      → length line ≤ LINE_LIMIT
+      → said_from meaning ending number (lines_of line) ≡ nothing_then ending
+  cut_line [] cut all few = refl
+  cut_line (c ∷ cs) cut all few =
+      last_by c cs all few ∙ ap (λ (b : Bool).
+      key_before number (cond b (meaning (c ∷ cs)) (Ok None)) (nothing_then ending)) cut
 
 -- the last line says its key at the end
-last_by : (number : ℕ) (line : List ℕ) → length line ≤ LINE_LIMIT
-    → keys_from End number (last_line line)
-    ≡ key_before number (content_key line) (record { keys = []; ending = End })
-last_by number [] few = refl
-last_by number (c ∷ cs) few =
-    ap (λ (key : Result (Option Key) KeyFault).
-    key_before number key (record { keys = []; ending = End })) (short_key End (c ∷ cs) false few)
-
-pub last_line_says : (number : ℕ) (line : List ℕ) → is_unended line ≡ true
-    → length line ≤ LINE_LIMIT
-    → keys_from End number (lines_of line)
-    ≡ key_before number (content_key line) (record { keys = []; ending = End })
-last_line_says number line all few =
-    ap (keys_from End number) (unended_line line all) ∙ last_by number line few
-
--- ---- no fault of a line is that memory ran out
-
-some_wants_none : (key : Result Key KeyFault) → (key ≡ Err NoMemory → ⊥)
-    → some_key key ≡ Err NoMemory → ⊥
-some_wants_none (Ok key) none e = cc
-some_wants_none (Err fault) none e = none (cc)
-
-comment_or_key : (line : List ℕ) (b : Bool)
-    → cond b (Ok None) (some_key (key_at line)) ≡ Err NoMemory → ⊥
-comment_or_key line true e = cc
-comment_or_key line false e = some_wants_none (key_at line) (key_wants_none line) e
-
-pub content_wants_none : (line : List ℕ) → content_key line ≡ Err NoMemory → ⊥
-content_wants_none [] e = cc
-content_wants_none (c ∷ cs) e = comment_or_key (c ∷ cs) (c == 35) e
+pub last_line_says : {A : Type 0} (meaning : Meaning A) (number : ℕ) (line : List ℕ)
+    → meaning [] ≡ Ok None → is_unended line ≡ true → length line ≤ LINE_LIMIT
+    → said_from meaning End number (lines_of line)
+    ≡ key_before number (meaning line) (nothing_then End)
+last_line_says meaning number [] empty all few =
+    ap (λ (said : Result (Option _) KeyFault). key_before number said (nothing_then End))
+    (sym empty)
+last_line_says meaning number (c ∷ cs) empty all few = last_by meaning End number c cs all few

@@ -1,152 +1,135 @@
--- A reader's calls, one after the other.
-use Rattle.std.proofs.Common.{◌≡◌, ℕ, ◌+◌, ◌-◌, ◌<◌, ◌≤◌, Bool, true, false, cond, List, [], ◌∷◌}
-use Rattle.std.proofs.Common.{◌++◌, length, take, Option, Some, None, Result, Ok, Err, refl, sym}
-use Rattle.std.proofs.Common.{ap, subst, ◌∙◌, append_assoc, inl, inr, arith}
+-- A reader's turns, one after the other.
+use Rattle.std.proofs.Common.{◌≡◌, ◌≢◌, ℕ, ◌+◌, ◌<◌, ◌≤◌, true, false, List, []}
+use Rattle.std.proofs.Common.{◌∷◌, ◌++◌, length, take, Option, Some, None, Result, Ok, Err, refl}
+use Rattle.std.proofs.Common.{sym, ap, subst, ◌∙◌, append_assoc, inl, inr, arith}
 use Rattle.std.proofs.Math.Seq.{take-length}
-use Rattle.std.specs.Result.{IfOk, OnOk, OnErr}
+use Rattle.std.specs.Result.{OnErr}
 use Rattle.wap_base.specs.Count.{raised}
-use Rattle.wap_base.specs.declared.fault.NoMemory.{NoMemory}
 use Rattle.std.proofs.lemmas.List.{append-nil, length-append, take-append-le}
 use Rattle.wap_devices.specs.Sources.{SourceSeen}
-use Rattle.wap_base.specs.declared.key.Key.{Key}
 use Rattle.wap_keys.specs.declared.limits.TheConstants.{KEYS_LIMIT}
 use Rattle.wap_keys.specs.declared.fault.KeyFault.{KeyFault}
+use Rattle.wap_keys.specs.declared.fault.KeyFault.TheVariants.{NoMemory}
 use Rattle.wap_keys.specs.declared.ending.Ending.{Ending}
 use Rattle.wap_keys.specs.declared.ending.Ending.TheVariants.{End, BadKey, TooManyKeys, ReadFault}
-use Rattle.wap_keys.specs.declared.ending.Next.{Next}
-use Rattle.wap_keys.specs.declared.ending.Next.TheVariants as next
-use Rattle.wap_keys.specs.declared.line.Said.{Said}
-use Rattle.wap_keys.specs.declared.line.Said.TheVariants as said
-use Rattle.wap_keys.specs.declared.reader.Taken.TheVariants as taken
-use Rattle.wap_keys.specs.Lines.{Keys, lines_of, content_key, key_before, keys_from, keys_at}
-use Rattle.wap_keys.specs.Read.{TakesAtOnce, IsJustRead, GivesEnd, HasGiven, IsRead, ReadsTo}
-use Rattle.wap_keys.specs.KeyReaders.{Reading, keys_then, said_yet, HasRead}
-use Rattle.wap_keys.specs.KeyReaders.{AnswersAt, Answers, GivesUp, CountsFaults, Falls, room}
-use Rattle.wap_keys.specs.inside.Taking.{said_of, TakesSaid, TakesLine, ReadsPiece, ReadsEnd}
-use Rattle.wap_keys.specs.inside.Taking.{ReadsPast, FailsToRead, last_next}
-use Rattle.wap_keys.proofs.LineLaws.{last_line_says, content_wants_none}
+use Rattle.wap_keys.specs.declared.ending.Step.{Step}
+use Rattle.wap_keys.specs.declared.ending.Step.TheVariants as step
+use Rattle.wap_keys.specs.Lines.{KeysOf, Meaning, lines_of, key_before, said_from, said_at}
+use Rattle.wap_keys.specs.Read.{IsPromptBy, IsJustRead, GivesEnd, HasGivenBy}
+use Rattle.wap_keys.specs.Read.{IsReadBy, ReadsToBy}
+use Rattle.wap_keys.specs.KeyReaders.{Reading, keys_then, said_yet, HasReadBy, AnswersAt}
+use Rattle.wap_keys.specs.KeyReaders.{AnswersBy, GivesUpBy, CountsAt, FallsAt, room}
+use Rattle.wap_keys.specs.inside.Taking.{TakesSaid, ReadsPiece, ReadsEnd, ReadsPast, FailsToRead}
+use Rattle.wap_keys.specs.inside.Taking.{turn_of, or_end, Keeps, IsOpen, GoesOn, Steps, Turns}
+use Rattle.wap_keys.proofs.LineLaws.{last_line_says}
 use Rattle.wap_keys.proofs.GivingLaws.{gives_both}
-use Rattle.wap_keys.proofs.ReaderLaws.{IsOpen, same_ends, open_ends, no_more, not_both, then_yet}
-use Rattle.wap_keys.proofs.ReaderLaws.{said_open, cut_open, given_of, some_both, given_more}
-use Rattle.wap_keys.proofs.ReaderLaws.{next_just, more_just, just_by}
-
--- a reader that goes on: all that was read before is read now
-abbrev pub Keeps : SourceSeen → SourceSeen → Reading → Reading → Type 0
-Keeps before now old reader =
-    (start : SourceSeen) (taken : List ℕ) (keys : List Key)
-    → HasRead start before taken keys old
-    → (piece : List ℕ) × HasRead start now (taken ++ piece) keys reader
+use Rattle.wap_keys.proofs.ReaderLaws.{no_more, said_open, cut_open, over_ends, given_by, some_both}
+use Rattle.wap_keys.proofs.ReaderLaws.{given_more, next_just, more_just, just_by}
 
 -- ---- a whole line is taken
 
--- it says nothing
-pub line_goes : (now : SourceSeen) (old new : Reading) → old.over ≡ false
-    → TakesSaid old new said.Nothing → Keeps now now old new
-line_goes now old new goes_on ((count, over, fewer), says) start taken keys read =
-    let goes : HasRead start now taken keys new = record {
-      takes = read.takes;
-      counted = read.counted ∙ sym count;
-      few = omega (arith, read.few, count);
-      some = λ _. read.some goes_on;
-      prompt = read.prompt;
-      says = λ ending rest _.
-          said_open start now taken keys old read goes_on ending rest
-          ∙ ap (keys_then keys) (says ending rest)
-          ∙ ap (keys_then keys) (sym (then_yet new ending rest (over ∙ goes_on)));
-      ended = λ is_over. absurd (not_both new (over ∙ goes_on) is_over);
-      ends = same_ends old new start.ends now.ends now.ends read.ends refl over;
-      steady = read.steady;
-    } in
-    ([], rw append-nil goes)
+-- the key that it says, if it says one
+abbrev key_in : {A : Type 0} → Option A → List A
+key_in None = []
+key_in (Some key) = key ∷ []
 
--- it says a key
-pub line_answers : (now : SourceSeen) (old new : Reading) (key : Key) → old.over ≡ false
-    → TakesSaid old new (said.Key key) → Answers now now old new (next.Key key)
-line_answers now old new key goes_on ((count, over, fewer), says) start taken keys read =
-    let just : IsJustRead start now taken keys =
-    just_by start now taken keys (said_yet new ReadFault []).keys key
-    (ap (λ (all : Keys). all.keys) (said_open start now taken keys old read goes_on ReadFault []
-    ∙ ap (keys_then keys) (says ReadFault []))) read.prompt in
-    let goes : HasRead start now taken (keys ++ key ∷ []) new = record {
-      takes = read.takes;
-      counted = read.counted ∙ sym count;
-      few = omega (arith, read.few, count);
-      some = λ _. read.some goes_on;
-      prompt = inr (more_just start now taken keys key just);
-      says = λ ending rest _.
-          let others = said_yet new ending rest in
-          said_open start now taken keys old read goes_on ending rest
-          ∙ ap (keys_then keys) (says ending rest)
-          ∙ ap (λ (all : List Key). record { keys = all; ending = others.ending })
-          (sym (append_assoc keys (key ∷ []) others.keys))
-          ∙ ap (keys_then (keys ++ key ∷ [])) (sym (then_yet new ending rest (over ∙ goes_on)));
-      ended = λ is_over. absurd (not_both new (over ∙ goes_on) is_over);
-      ends = same_ends old new start.ends now.ends now.ends read.ends refl over;
-      steady = read.steady;
-    } in
-    ([], rw append-nil (goes, just))
+-- it was said before what follows
+then_said : {A : Type 0} (number : ℕ) (keys : List A) (said : Option A) (others : KeysOf A)
+    → keys_then keys (key_before number (Ok said) others) ≡ keys_then (keys ++ key_in said) others
+then_said number keys None others =
+    ap (λ keys. keys_then keys others) (sym (append-nil keys))
+then_said {A} number keys (Some key) others =
+    ap (λ (all : List A). record { keys = all; ending = others.ending })
+    (sym (append_assoc keys (key ∷ []) others.keys))
 
--- it is no key line
-pub line_bad : (now : SourceSeen) (old new : Reading) (fault : KeyFault) → old.over ≡ false
-    → TakesSaid old new (said.Bad fault)
-    → Answers now now old new (next.Ended (BadKey old.number fault))
-line_bad now old new fault goes_on (known, over, says) start taken keys read =
-    let read_so : IsRead start now taken keys (BadKey old.number fault) = record {
-      given = given_of start now taken keys old read;
-      ends = (
-        known,
-        omega (arith, read.counted, read.few),
-        inl (λ ending rest.
-            said_open start now taken keys old read goes_on ending rest
-            ∙ ap (keys_then keys) (says ending rest)
-            ∙ no_more keys (BadKey old.number fault)),
-      );
-    } in
-    ([], rw append-nil read_so)
+-- more keys aren't as many
+no_fewer : {A : Type 0} (keys others : List A) (key : A) → keys ++ key ∷ others ≡ keys → ⊥
+no_fewer keys others key same =
+    absurd (omega (arith, ap length same, length-append keys (key ∷ others)))
 
--- ---- a line is only begun, and more is read
+-- a line that is refused is no fault of the source
+bad_differs : (number : ℕ) (fault : KeyFault) → BadKey number fault ≡ ReadFault → ⊥
+bad_differs number fault same = cc
 
--- all that was read before is read yet
-pub line_begun : (before now : SourceSeen) (old reader new : Reading)
-    → Keeps before now old reader → reader.over ≡ false → TakesLine reader new taken.Begun
-    → Keeps before now old new × IsOpen new
-line_begun before now old reader new keeps goes_on (unended, short, is) = (
-  subst (Keeps before now old) (sym is) keeps,
-  subst IsOpen (sym is) (record { goes_on = goes_on; unended = unended; short = short }),
-)
+module _ {A : Type 0} {meaning : Meaning A} {now : SourceSeen} {old new : Reading}
+    (goes_on : old.over ≡ false) where
+  -- what was said is said then
+  line_read : {start : SourceSeen} {taken : List ℕ} {keys : List A} (said : Option A)
+      → TakesSaid meaning old new (Ok said) → HasReadBy meaning start now taken keys old
+      → IsPromptBy meaning start now taken (keys ++ key_in said)
+      → HasReadBy meaning start now taken (keys ++ key_in said) new
+  line_read {start} {taken} {keys} said ((count, over, fewer), says) read prompt =
+      let still : new.over ≡ false = over ∙ goes_on in
+      record {
+        takes = read.takes;
+        counted = read.counted ∙ sym count;
+        few = omega (arith, read.few, count);
+        some = λ _. read.some goes_on;
+        prompt = prompt;
+        just = λ is_over. absurd (let both : ⊥ = cc in both);
+        says = λ ending rest _.
+            rw still (said_open read goes_on ending rest ∙ ap (keys_then keys) (says ending rest)
+            ∙ then_said old.number keys said (said_yet meaning new ending rest));
+        ended = λ is_over. absurd (let both : ⊥ = cc in both);
+        ends = rw still (rw goes_on at read.ends);
+        steady = read.steady;
+      }
 
--- what a piece says is said after it
-pub piece_goes : (now last : SourceSeen) (old new : Reading) → IsOpen old
-    → ReadsPiece now last old new → Keeps now last old new
-piece_goes now last old new is_open reads start taken keys read =
-    let piece = reads.piece in
-    let after : Reading =
-    record old { unread = old.unread ++ piece; count = old.count + length piece } in
-    let at_once : TakesAtOnce piece now last = record {
-      takes = reads.takes;
-      short = reads.small;
-      reads = reads.reads;
-      ends = λ some. reads.ends;
-    } in
-    let goes : HasRead start last (taken ++ piece) keys after = record {
-      takes = gives_both start now last taken piece read.takes reads.takes;
-      counted = omega (arith, length-append taken piece, read.counted);
-      few = reads.few;
-      some = λ _.
-          some_both start now last taken piece (read.some is_open.goes_on) at_once reads.some
-          reads.steady;
-      prompt = inr (next_just start now last taken piece keys old read is_open at_once);
-      says = λ ending rest _.
-          ap (keys_at ending) (append_assoc taken piece rest)
-          ∙ said_open start now taken keys old read is_open.goes_on ending (piece ++ rest)
-          ∙ ap (λ (l : List ℕ). keys_then keys (keys_from ending old.number (lines_of l)))
-          (sym (append_assoc old.unread piece rest))
-          ∙ ap (keys_then keys) (sym (then_yet after ending rest is_open.goes_on));
-      ended = λ over. absurd (not_both old is_open.goes_on over);
-      ends = same_ends old after start.ends now.ends last.ends read.ends reads.ends refl;
-      steady = reads.steady ∙ read.steady;
-    } in
-    (piece, subst (HasRead start last (taken ++ piece) keys) (sym reads.reader) goes)
+  -- it says nothing
+  line_goes : TakesSaid meaning old new (Ok None) → GoesOn meaning now now old new
+  line_goes takes = record {
+    keeps = λ start taken keys read.
+        let said = line_read None takes read (rw append-nil read.prompt) in
+        ([], rw append-nil (rw append-nil at said));
+    few = omega (arith, takes.0.0, takes.0.2);
+    nearer = omega (arith, takes.0.0, takes.0.2);
+    steady = refl;
+  }
+
+  -- it says a key
+  line_says : (key : A) → TakesSaid meaning old new (Ok (Some key))
+      → Steps meaning now now old new (step.Said key)
+  line_says key takes = record {
+    answers = λ start taken keys read.
+        let just : IsJustRead meaning start now taken keys =
+        just_by read.prompt (λ same. no_fewer keys (said_yet meaning new ReadFault []).keys key
+        (ap (λ (all : KeysOf A). all.keys) (sym (said_open read goes_on ReadFault []
+        ∙ ap (keys_then keys) (takes.1 ReadFault [])) ∙ same))) in
+        ([], rw append-nil (line_read (Some key) takes read (inr (more_just key just)), just));
+    falls = omega (arith, takes.0.0, takes.0.2);
+    counts = refl;
+  }
+
+  -- it is no key line
+  line_bad : (fault : KeyFault) → TakesSaid meaning old new (Err fault)
+      → Steps meaning now now old new (step.Ended (BadKey old.number fault))
+  line_bad fault (known, over, says) = record {
+    answers = λ start taken keys read.
+        let bad : (ending : Ending) (rest : List ℕ) → said_at meaning ending (taken ++ rest)
+        ≡ record { keys = keys; ending = BadKey old.number fault } =
+        λ ending rest.
+        said_open read goes_on ending rest ∙ ap (keys_then keys) (says ending rest)
+        ∙ no_more keys (BadKey old.number fault) in
+        let so : IsReadBy meaning start now taken keys (BadKey old.number fault) = record {
+          given = given_by read;
+          just = just_by read.prompt (λ same. bad_differs old.number fault
+              (ap (λ (all : KeysOf A). all.ending) (sym (bad ReadFault []) ∙ same)));
+          ends = (known, omega (arith, read.counted, read.few), inl bad);
+        } in
+        ([], rw append-nil so);
+    falls = tt;
+    counts = refl;
+  }
+
+-- whatever it says
+pub line_turns : {A : Type 0} (meaning : Meaning A) (now : SourceSeen) (old new : Reading)
+    → old.over ≡ false → (said : Result (Option A) KeyFault) → TakesSaid meaning old new said
+    → Turns meaning now now old new (turn_of old.number said)
+line_turns meaning now old new goes_on (Ok None) takes = line_goes goes_on takes
+line_turns meaning now old new goes_on (Ok (Some key)) takes = line_says goes_on key takes
+line_turns meaning now old new goes_on (Err fault) takes = line_bad goes_on fault takes
+
+-- ---- more is read after a line that is only begun
 
 -- the bytes up to the limit are those that were there before the one past it
 prefix_of_all : (taken piece : List ℕ) → length taken ≡ KEYS_LIMIT
@@ -156,326 +139,328 @@ prefix_of_all taken piece full =
     ∙ take-append-le (length taken) taken piece (omega arith)
     ∙ take-length taken ∙ sym (append-nil taken)
 
--- there is a byte past the limit
-pub past_answers : (now last : SourceSeen) (old new : Reading) → IsOpen old
-    → ReadsPast now last old new → Answers now last old new (next.Ended TooManyKeys)
-past_answers now last old new is_open reads start taken keys read =
-    let piece = reads.piece in (
-      piece,
+-- a line doesn't say both nothing and a key
+none_some : {A : Type 0} (said : Result (Option A) KeyFault) (key : A) → said ≡ Ok None
+    → said ≡ Ok (Some key) → ⊥
+none_some said key none some = cc
+
+-- so a key is said by some bytes
+some_unread : {A : Type 0} (meaning : Meaning A) → meaning [] ≡ Ok None → (unread : List ℕ)
+    (key : A) → meaning unread ≡ Ok (Some key) → 0 < length unread
+some_unread meaning empty [] key is = absurd (none_some (meaning []) key empty is)
+some_unread meaning empty (c ∷ cs) key is = omega arith
+
+-- and the last line leaves fewer
+last_falls : {A : Type 0} (meaning : Meaning A) → meaning [] ≡ Ok None → (old : Reading)
+    (said : Result (Option A) KeyFault) → meaning old.unread ≡ said
+    → FallsAt old (record old { over = true; unread = [] }) (or_end (turn_of old.number said))
+last_falls meaning empty old (Ok None) says = tt
+last_falls meaning empty old (Ok (Some key)) says =
+    omega (arith, some_unread meaning empty old.unread key says)
+last_falls meaning empty old (Err fault) says = tt
+
+-- nor is what it comes to a fault of the source
+last_counts : {A : Type 0} (before after number : ℕ) (said : Result (Option A) KeyFault)
+    → after ≡ before → CountsAt before after (or_end (turn_of number said))
+last_counts before after number (Ok None) is = is
+last_counts before after number (Ok (Some key)) is = is
+last_counts before after number (Err fault) is = is
+
+module _ {A : Type 0} {meaning : Meaning A} {now last : SourceSeen} {old : Reading}
+    (is_open : IsOpen old) where
+  -- what a piece says is said after it
+  pub piece_goes : (new : Reading) → ReadsPiece now last old new → GoesOn meaning now last old new
+  piece_goes new reads =
+      let piece = reads.piece in
+      let unread = ap (λ (r : Reading). length r.unread) reads.reader in
+      let count = ap (λ (r : Reading). r.count) reads.reader in
+      let after : Reading =
+      record old { unread = old.unread ++ piece; count = old.count + length piece } in
       record {
-        given =
-            given_more start now last taken piece keys old read is_open
-            (record {
-              takes = reads.takes;
-              short = omega (arith, reads.one);
-              reads = reads.reads;
-              ends = λ some. reads.ends;
-            })
-            (omega (arith, reads.one, reads.full)) (inl reads.ends);
-        ends = (
-          omega (arith, length-append taken piece, read.counted, reads.full, reads.one),
-          ap (keys_at TooManyKeys) (prefix_of_all taken piece (read.counted ∙ reads.full))
-              ∙ cut_open start now taken keys old read is_open TooManyKeys refl,
+        keeps = λ start taken keys read.
+            let goes : HasReadBy meaning start last (taken ++ piece) keys after = record {
+              takes = gives_both start now last taken piece read.takes reads.takes.takes;
+              counted = omega (arith, length-append taken piece, read.counted);
+              few = reads.few;
+              some = λ _.
+                  some_both (read.some is_open.goes_on) reads.takes reads.some reads.steady;
+              prompt = inr (next_just read is_open reads.takes);
+              just = λ over. absurd (let both : ⊥ = cc (is_open.goes_on) in both);
+              says = λ ending rest _.
+                  rw is_open.goes_on (ap (said_at meaning ending) (append_assoc taken piece rest)
+                  ∙ said_open read is_open.goes_on ending (piece ++ rest)
+                  ∙ ap (λ (l : List ℕ).
+                  keys_then keys (said_from meaning ending old.number (lines_of l)))
+                  (sym (append_assoc old.unread piece rest)));
+              ended = λ over. absurd (let both : ⊥ = cc (is_open.goes_on) in both);
+              ends = reads.takes.ends reads.some ∙ read.ends;
+              steady = reads.steady ∙ read.steady;
+            } in (
+              piece,
+              subst (HasReadBy meaning start last (taken ++ piece) keys) (sym reads.reader)
+                  goes,
+            );
+        few = omega (arith, unread, count, reads.few, length-append old.unread piece);
+        nearer =
+            omega (arith, unread, count, reads.few, reads.some, length-append old.unread piece);
+        steady = reads.steady;
+      }
+
+  -- there is a byte past the limit
+  pub past_steps : (new : Reading) → ReadsPast now last old
+      → Steps meaning now last old new (step.Ended TooManyKeys)
+  past_steps new reads =
+      let piece = reads.piece in
+      record {
+        answers = λ start taken keys read. (
+          piece,
+          record {
+            given = given_more read is_open reads.takes (omega (arith, reads.one, reads.full))
+                (inl (reads.takes.ends (omega (arith, reads.one))));
+            just = next_just read is_open reads.takes;
+            ends = (
+              omega (arith, length-append taken piece, read.counted, reads.full, reads.one),
+              ap (said_at meaning TooManyKeys)
+                  (prefix_of_all taken piece (read.counted ∙ reads.full))
+                  ∙ cut_open read is_open TooManyKeys refl,
+            );
+          },
         );
-      },
-    )
+        falls = tt;
+        counts = reads.steady;
+      }
 
--- the source fails
-pub fault_answers : (now last : SourceSeen) (old new : Reading) → IsOpen old
-    → FailsToRead now last old new → Answers now last old new (next.Ended ReadFault)
-fault_answers now last old new is_open fails start taken keys read = (
-  [],
-  record {
-    given =
-        given_more start now last taken [] keys old read is_open
-        (record {
-          takes = fails.takes;
-          short = omega arith;
-          reads = fails.reads;
-          ends = λ some. fails.ends;
-        })
-        (omega (arith, read.few)) (inl fails.ends);
-    ends = (
-      omega (arith, length-append taken [], read.counted, read.few),
-      cut_open start now taken keys old read is_open ReadFault refl,
-    );
-  },
-)
+  -- the source fails
+  pub fault_steps : (new : Reading) → FailsToRead now last
+      → Steps meaning now last old new (step.Ended ReadFault)
+  fault_steps new fails =
+      record {
+        answers = λ start taken keys read. (
+          [],
+          record {
+            given = given_more read is_open fails.takes (omega (arith, read.few))
+                (inl fails.ends);
+            just = next_just read is_open fails.takes;
+            ends = (
+              omega (arith, length-append taken [], read.counted, read.few),
+              cut_open read is_open ReadFault refl,
+            );
+          },
+        );
+        falls = tt;
+        counts = (fails.counts, fails.rose);
+      }
 
--- the source gave its end before
-pub over_answers : (now : SourceSeen) (old : Reading) → old.over ≡ true
-    → Answers now now old old (next.Ended End)
-over_answers now old over start taken keys read =
-    let read_so : IsRead start now taken keys End = record {
-      given = given_of start now taken keys old read;
-      ends = (
+  -- ---- the last line
+
+  module _ (ended : Reading) (reads : ReadsEnd now last old ended) where
+    -- no bytes more were taken
+    end_given : {start : SourceSeen} {taken : List ℕ} {keys : List A}
+        → HasReadBy meaning start now taken keys old
+        → HasGivenBy meaning start last (taken ++ []) keys
+    end_given read =
+        given_more read is_open reads.takes (omega (arith, read.few))
+        (inr (record { none = reads.none; ends = reads.ends }))
+
+    -- of which memory may run out
+    pub end_gives_up : GivesUpBy meaning now last old
+    end_gives_up start taken keys read = ([], end_given read)
+
+    module _ (empty : meaning [] ≡ Ok None) (new : Reading)
+        (closed : new ≡ record old { over = true; unread = [] }) where
+      module _ {start : SourceSeen} {taken : List ℕ} {keys : List A}
+          (read : HasReadBy meaning start now taken keys old) where
+        end : GivesEnd start last
+        end = record {
+          none = reads.none;
+          ends = reads.ends ∙ ap raised (rw is_open.goes_on at read.ends);
+        }
+
+        few : length (taken ++ []) ≤ KEYS_LIMIT
+        few = omega (arith, length-append taken [], read.counted, read.few)
+
+        -- it says what its content comes to
+        last_says : (said : Result (Option A) KeyFault) → meaning old.unread ≡ said
+            → said_at meaning End (taken ++ []) ≡ keys_then keys
+            (key_before old.number said (record { keys = []; ending = End }))
+        last_says said says =
+            said_open read is_open.goes_on End []
+            ∙ ap (λ (l : List ℕ). keys_then keys (said_from meaning End old.number (lines_of l)))
+            (append-nil old.unread)
+            ∙ ap (keys_then keys)
+            (last_line_says meaning old.number old.unread empty is_open.unended is_open.short)
+            ∙ ap (λ (said : Result (Option A) KeyFault).
+            keys_then keys (key_before old.number said (record { keys = []; ending = End }))) says
+
+      -- nothing, or a key, or it is no key line
+      last_answers : (said : Result (Option A) KeyFault) → meaning old.unread ≡ said
+          → said ≢ Err NoMemory → AnswersBy meaning now last old
+          (record old { over = true; unread = [] }) (or_end (turn_of old.number said))
+      last_answers (Ok None) says known start taken keys read = (
+        [],
         record {
-          none = read.ended over;
-          ends =
-              read.ends ∙ ap (λ (b : Bool). cond b (raised start.ends) start.ends) over;
+          given = end_given read;
+          just = next_just read is_open reads.takes;
+          ends = (end read, few read, last_says read (Ok None) says ∙ no_more keys End);
         },
-        omega (arith, read.counted, read.few),
-        ap (keys_at End) (sym (append-nil taken))
-            ∙ read.says End [] (λ _. (refl, refl))
-            ∙ ap (λ (b : Bool). keys_then keys
-            (cond b (record { keys = []; ending = End }) (said_yet old End []))) over
-            ∙ no_more keys End,
-      );
-    } in
-    ([], rw append-nil read_so)
+      )
+      last_answers (Err fault) says known start taken keys read = (
+        [],
+        record {
+          given = end_given read;
+          just = next_just read is_open reads.takes;
+          ends = (
+            λ lost. known (ap Err lost),
+            few read,
+            inr (
+              end read,
+              last_says read (Err fault) says ∙ no_more keys (BadKey old.number fault),
+            ),
+          );
+        },
+      )
+      last_answers (Ok (Some key)) says known start taken keys read =
+          let just = next_just read is_open reads.takes in
+          let has : HasReadBy meaning start last (taken ++ []) (keys ++ key ∷ [])
+          (record old { over = true; unread = [] }) = record {
+            takes = (end_given read).takes;
+            counted = omega (arith, read.counted, length-append taken []);
+            few = read.few;
+            some = λ goes_on. absurd cc;
+            prompt = inr (more_just key just);
+            just = λ _. more_just key just;
+            says = λ ending rest nothing_follows.
+                let (is_end_, is_none) = nothing_follows refl in
+                ap (λ (e : Ending). said_at meaning e ((taken ++ []) ++ rest)) is_end_
+                ∙ ap (λ (l : List ℕ). said_at meaning End ((taken ++ []) ++ l)) is_none
+                ∙ ap (said_at meaning End) (append-nil (taken ++ []))
+                ∙ last_says read (Ok (Some key)) says
+                ∙ sym (no_more (keys ++ key ∷ []) End)
+                ∙ ap (λ (e : Ending).
+                keys_then (keys ++ key ∷ []) (record { keys = []; ending = e }))
+                (sym is_end_);
+            ended = λ _. reads.none;
+            ends = (end read).ends;
+            steady = reads.steady ∙ read.steady;
+          } in
+          ([], (has, just))
 
--- ---- the last line
+      -- what the last line comes to is answered
+      pub end_steps : meaning old.unread ≢ Err NoMemory
+          → Steps meaning now last old new (or_end (turn_of old.number (meaning old.unread)))
+      end_steps known =
+          subst (λ (r : Reading).
+          Steps meaning now last old r (or_end (turn_of old.number (meaning old.unread))))
+          (sym closed) (record {
+            answers = last_answers (meaning old.unread) refl known;
+            falls = last_falls meaning empty old (meaning old.unread) refl;
+            counts = last_counts now.faults last.faults old.number (meaning old.unread)
+                reads.steady;
+          })
 
--- it says what its content comes to
-last_says : (now : SourceSeen) (old : Reading) (start : SourceSeen) (taken : List ℕ)
-    (keys : List Key) → IsOpen old → HasRead start now taken keys old
-    → (key : Result (Option Key) KeyFault) → content_key old.unread ≡ key
-    → keys_at End (taken ++ []) ≡ keys_then keys
-    (key_before old.number key (record { keys = []; ending = End }))
-last_says now old start taken keys is_open read key says =
-    said_open start now taken keys old read is_open.goes_on End []
-    ∙ ap (λ (l : List ℕ). keys_then keys (keys_from End old.number (lines_of l)))
-    (append-nil old.unread)
-    ∙ ap (keys_then keys) (last_line_says old.number old.unread is_open.unended is_open.short)
-    ∙ ap (λ (key : Result (Option Key) KeyFault).
-    keys_then keys (key_before old.number key (record { keys = []; ending = End }))) says
+      -- as it is taken
+      pub end_turns : (answer : Step A)
+          → answer ≡ or_end (turn_of ended.number (meaning ended.unread))
+          → meaning ended.unread ≢ Err NoMemory → Steps meaning now last old new answer
+      end_turns answer said known =
+          subst (Steps meaning now last old new)
+          (sym (said ∙ ap (λ (r : Reading). or_end (turn_of r.number (meaning r.unread)))
+          reads.reader))
+          (end_steps (subst (λ (r : Reading). meaning r.unread ≢ Err NoMemory) reads.reader known))
 
--- a reader whose last line was taken
-abbrev closed : Reading → Reading
-closed old = record old { over = true; unread = [] }
+-- ---- the source gave its end before
 
--- what was given where the source gives its end
-record ComesToEnd (start last : SourceSeen) (taken : List ℕ) (keys : List Key) : Type 0 where
-  given : HasGiven start last (taken ++ []) keys
-  just : IsJustRead start last (taken ++ []) keys
-  few : length (taken ++ []) ≤ KEYS_LIMIT
-  end : GivesEnd start last
-
-comes_to_end : (now last : SourceSeen) (old ended : Reading) (start : SourceSeen) (taken : List ℕ)
-    (keys : List Key) → IsOpen old → ReadsEnd now last old ended → HasRead start now taken keys old
-    → ComesToEnd start last taken keys
-comes_to_end now last old ended start taken keys is_open reads read =
-    let at_once : TakesAtOnce [] now last = record {
-      takes = reads.takes;
-      short = omega arith;
-      reads = reads.reads;
-      ends = λ some. absurd (omega (arith, some));
-    } in
-    record {
-      given = given_more start now last taken [] keys old read is_open at_once
-          (omega (arith, read.few)) (inr (record { none = reads.none; ends = reads.ends }));
-      just = next_just start now last taken [] keys old read is_open at_once;
-      few = omega (arith, length-append taken [], read.counted, read.few);
-      end = record {
-        none = reads.none;
-        ends =
-            reads.ends ∙ ap raised (open_ends old start.ends now.ends read.ends is_open.goes_on);
-      };
-    }
-
--- the last line says nothing, or a key, or is no key line
-last_by : (now last : SourceSeen) (old ended : Reading) (key : Result (Option Key) KeyFault)
-    → content_key old.unread ≡ key → IsOpen old → ReadsEnd now last old ended
-    → Answers now last old (closed old) (last_next old.number (said_of key))
-last_by now last old ended (Ok None) says is_open reads start taken keys read =
-    let comes = comes_to_end now last old ended start taken keys is_open reads read in (
-      [],
-      record {
-        given = comes.given;
+pub over_steps : {A : Type 0} (meaning : Meaning A) (now : SourceSeen) (old : Reading)
+    → old.over ≡ true → Steps meaning now now old old (step.Ended End)
+over_steps meaning now old over = record {
+  answers = λ start taken keys read.
+      let so : IsReadBy meaning start now taken keys End = record {
+        given = given_by read;
+        just = read.just over;
         ends = (
-          comes.end,
-          comes.few,
-          last_says now old start taken keys is_open read (Ok None) says ∙ no_more keys End,
+          record { none = read.ended over; ends = over_ends read over },
+          omega (arith, read.counted, read.few),
+          ap (said_at meaning End) (sym (append-nil taken))
+              ∙ rw over at (read.says End [] (λ _. (refl, refl))) ∙ no_more keys End,
         );
-      },
-    )
-last_by now last old ended (Err fault) says is_open reads start taken keys read =
-    let comes = comes_to_end now last old ended start taken keys is_open reads read in (
-      [],
-      record {
-        given = comes.given;
-        ends = (
-          λ lost. content_wants_none old.unread (says ∙ ap Err lost),
-          comes.few,
-          inr (
-            comes.end,
-            last_says now old start taken keys is_open read (Err fault) says
-                ∙ no_more keys (BadKey old.number fault),
-          ),
-        );
-      },
-    )
-last_by now last old ended (Ok (Some key)) says is_open reads start taken keys read =
-    let comes = comes_to_end now last old ended start taken keys is_open reads read in
-    let has : HasRead start last (taken ++ []) (keys ++ key ∷ []) (closed old) = record {
-      takes = comes.given.takes;
-      counted = omega (arith, read.counted, length-append taken []);
-      few = read.few;
-      some = λ goes_on. absurd cc;
-      prompt = inr (more_just start last (taken ++ []) keys key comes.just);
-      says = λ ending rest nothing_follows.
-          let (is_end_, is_none) = nothing_follows refl in
-          ap (λ (e : Ending). keys_at e ((taken ++ []) ++ rest)) is_end_
-          ∙ ap (λ (l : List ℕ). keys_at End ((taken ++ []) ++ l)) is_none
-          ∙ ap (keys_at End) (append-nil (taken ++ []))
-          ∙ last_says now old start taken keys is_open read (Ok (Some key)) says
-          ∙ sym (no_more (keys ++ key ∷ []) End)
-          ∙ ap (λ (e : Ending). keys_then (keys ++ key ∷ []) (record { keys = []; ending = e }))
-          (sym is_end_);
-      ended = λ _. comes.end.none;
-      ends = comes.end.ends;
-      steady = reads.steady ∙ read.steady;
-    } in
-    ([], (has, comes.just))
+      } in
+      ([], rw append-nil so);
+  falls = tt;
+  counts = refl;
+}
 
--- what the last line comes to is answered
-end_answers : (now last : SourceSeen) (old ended new : Reading) (answer : Next)
-    → IsOpen old → ReadsEnd now last old ended
-    → answer ≡ last_next ended.number (said_of (content_key ended.unread))
-    → new ≡ record ended { unread = [] } → Answers now last old new answer
-end_answers now last old ended new answer is_open reads said rest =
-    subst (Answers now last old new)
-    (sym (said
-    ∙ ap (λ (r : Reading). last_next r.number (said_of (content_key r.unread))) reads.reader))
-    (subst (λ (r : Reading).
-    Answers now last old r (last_next old.number (said_of (content_key old.unread))))
-    (sym (rest ∙ ap (λ (r : Reading). record r { unread = [] }) reads.reader))
-    (last_by now last old ended (content_key old.unread) refl is_open reads))
-
--- ---- call after call
-
-pub keeps_then : (before now last : SourceSeen) (old reader new : Reading)
-    → Keeps before now old reader → Keeps now last reader new → Keeps before last old new
-keeps_then before now last old reader new first second start taken keys read =
-    let (piece, has) = first start taken keys read in
-    let (more, goes) = second start (taken ++ piece) keys has in (
-      piece ++ more,
-      subst (λ (l : List ℕ). HasRead start last l keys new) (append_assoc taken piece more) goes,
-    )
-
-pub then_answers : (before now last : SourceSeen) (old reader new : Reading) (answer : Next)
-    → Keeps before now old reader → Answers now last reader new answer
-    → Answers before last old new answer
-then_answers before now last old reader new answer first second start taken keys read =
-    let (piece, has) = first start taken keys read in
-    let (more, goes) = second start (taken ++ piece) keys has in (
-      piece ++ more,
-      subst (λ (l : List ℕ). AnswersAt start last l keys new answer)
-          (append_assoc taken piece more) goes,
-    )
-
-pub then_gives_up : (before now last : SourceSeen) (old reader : Reading)
-    → Keeps before now old reader → GivesUp now last reader → GivesUp before last old
-then_gives_up before now last old reader first second start taken keys read =
-    let (piece, has) = first start taken keys read in
-    let (more, goes) = second start (taken ++ piece) keys has in (
-      piece ++ more,
-      subst (λ (l : List ℕ). HasGiven start last l keys) (append_assoc taken piece more) goes,
-    )
-
--- ---- how much may be read yet
-
--- a whole line takes some bytes
-pub line_falls : (old new : Reading) (key : Option Key) → TakesSaid old new (said_of (Ok key))
-    → (room new < room old) × (length new.unread < length old.unread) × (new.count ≡ old.count)
-line_falls old new None ((count, over, fewer), says) = (omega (arith, count, fewer), fewer, count)
-line_falls old new (Some key) ((count, over, fewer), says) =
-    (omega (arith, count, fewer), fewer, count)
-
--- a piece that is read takes no room, and brings the limit nearer
-pub piece_falls : (now last : SourceSeen) (old new : Reading) → ReadsPiece now last old new
-    → (room new ≤ room old)
-    × (room new + (KEYS_LIMIT - new.count) < room old + (KEYS_LIMIT - old.count))
-piece_falls now last old new reads =
-    let unread = ap (λ (r : Reading). length r.unread) reads.reader in
-    let count = ap (λ (r : Reading). r.count) reads.reader in (
-      omega (arith, unread, count, reads.few, length-append old.unread reads.piece),
-      omega (arith, unread, count, reads.few, reads.some, length-append old.unread reads.piece),
-    )
-
--- ---- answers of calls
+-- ---- results
 
 pub on_err : {T E : Type 0} (result : Result T E) (P : Type 0) → P → OnErr result P
 on_err (Ok v) P p = tt
 on_err (Err e) P p = p
 
-pub end_gives_up : (now last : SourceSeen) (old new : Reading) → IsOpen old
-    → ReadsEnd now last old new → GivesUp now last old
-end_gives_up now last old new is_open reads start taken keys read =
-    ([], (comes_to_end now last old new start taken keys is_open reads read).given)
+-- ---- turn after turn
 
-pub finish_answers : (result : Result Next NoMemory) (before now last : SourceSeen)
-    (begun old ended new : Reading) → Keeps before now begun old → IsOpen old
-    → ReadsEnd now last old ended
-    → IfOk result (λ answer. answer ≡ last_next ended.number (said_of (content_key ended.unread)))
-    → OnOk result (new ≡ record ended { unread = [] }) → IfOk result (Answers before last begun new)
-finish_answers (Err lost) before now last begun old ended new keeps is_open reads said rest = tt
-finish_answers (Ok answer) before now last begun old ended new keeps is_open reads said rest =
-    then_answers before now last begun old new answer keeps
-    (end_answers now last old ended new answer is_open reads said rest)
+then_falls : {A : Type 0} (old reader new : Reading) (answer : Step A) → room reader ≤ room old
+    → FallsAt reader new answer → FallsAt old new answer
+then_falls old reader new (step.Said key) less falls = omega (arith, less, falls)
+then_falls old reader new (step.Ended ending) less falls = tt
 
--- a key is said by some bytes
-some_unread : (number : ℕ) (unread : List ℕ) (key : Key)
-    → next.Key key ≡ last_next number (said_of (content_key unread)) → 0 < length unread
-some_unread number [] key is = absurd cc
-some_unread number (c ∷ cs) key is = omega arith
+-- no turn is left
+pub none_left : {A : Type 0} (turn : Option A) → ((answer : A) → turn ≢ Some answer) → turn ≡ None
+none_left None none = refl
+none_left (Some answer) none = absurd (none answer refl)
 
-answer_falls : (answer : Next) (begun old ended new : Reading) → room old ≤ room begun
-    → ended ≡ record old { over = true }
-    → answer ≡ last_next ended.number (said_of (content_key ended.unread))
-    → new ≡ record ended { unread = [] } → Falls begun new answer
-answer_falls (next.Ended ending) begun old ended new few is said rest = tt
-answer_falls (next.Key key) begun old ended new few is said rest =
-    let some = some_unread ended.number ended.unread key said in
-    let unread = ap (λ (r : Reading). length r.unread) is in
-    let count = ap (λ (r : Reading). r.count) is in
-    let none = ap (λ (r : Reading). length r.unread) rest in
-    let same = ap (λ (r : Reading). r.count) rest in
-    omega (arith, few, some, unread, count, none, same)
+module _ {A : Type 0} {meaning : Meaning A} {before now last : SourceSeen} {old reader : Reading}
+    (first : Keeps meaning before now old reader) where
+  pub keeps_then : {new : Reading} → Keeps meaning now last reader new
+      → Keeps meaning before last old new
+  keeps_then {new} second start taken keys read =
+      let (piece, has) = first start taken keys read in
+      let (more, goes) = second start (taken ++ piece) keys has in (
+        piece ++ more,
+        subst (λ (l : List ℕ). HasReadBy meaning start last l keys new)
+            (append_assoc taken piece more) goes,
+      )
 
-pub finish_falls : (result : Result Next NoMemory) (now last : SourceSeen)
-    (begun old ended new : Reading) → room old ≤ room begun → ReadsEnd now last old ended
-    → IfOk result (λ answer. answer ≡ last_next ended.number (said_of (content_key ended.unread)))
-    → OnOk result (new ≡ record ended { unread = [] }) → IfOk result (Falls begun new)
-finish_falls (Err lost) now last begun old ended new few reads said rest = tt
-finish_falls (Ok answer) now last begun old ended new few reads said rest =
-    answer_falls answer begun old ended new few reads.reader said rest
+  pub then_gives_up : GivesUpBy meaning now last reader → GivesUpBy meaning before last old
+  then_gives_up second start taken keys read =
+      let (piece, has) = first start taken keys read in
+      let (more, goes) = second start (taken ++ piece) keys has in (
+        piece ++ more,
+        subst (λ (l : List ℕ). HasGivenBy meaning start last l keys)
+            (append_assoc taken piece more) goes,
+      )
 
--- what the last line comes to is no fault of the source
-last_steady : (before after number : ℕ) (said : Said) → after ≡ before
-    → CountsFaults before after (Ok (last_next number said))
-last_steady before after number said.Nothing is = is
-last_steady before after number (said.Key key) is = is
-last_steady before after number (said.Bad fault) is = is
-
-pub finish_steady : (result : Result Next NoMemory) (before after : ℕ) (ended : Reading)
-    → IfOk result (λ answer. answer ≡ last_next ended.number (said_of (content_key ended.unread)))
-    → after ≡ before → CountsFaults before after result
-finish_steady (Err lost) before after ended said is = is
-finish_steady (Ok answer) before after ended said is =
-    subst (λ (answer : Next). CountsFaults before after (Ok answer)) (sym said)
-    (last_steady before after ended.number (said_of (content_key ended.unread)) is)
+  pub then_steps : {new : Reading} {answer : Step A} → room reader ≤ room old
+      → now.faults ≡ before.faults → Steps meaning now last reader new answer
+      → Steps meaning before last old new answer
+  then_steps {new} {answer} few steady steps = record {
+    answers = λ start taken keys read.
+        let (piece, has) = first start taken keys read in
+        let (more, goes) = steps.answers start (taken ++ piece) keys has in (
+          piece ++ more,
+          subst (λ (l : List ℕ). AnswersAt meaning start last l keys new answer)
+              (append_assoc taken piece more) goes,
+        );
+    falls = then_falls old reader new answer few steps.falls;
+    counts = subst (λ (n : ℕ). CountsAt n last.faults answer) steady steps.counts;
+  }
 
 -- ---- after all that was read
 
--- a key more was read
-pub then_read : (start now last : SourceSeen) (keys : List Key) (old new : Reading) (key : Key)
-    → ((taken : List ℕ) × HasRead start now taken keys old)
-    → Answers now last old new (next.Key key)
-    → (taken : List ℕ) × HasRead start last taken (keys ++ key ∷ []) new
-then_read start now last keys old new key (taken, read) answers =
-    let (more, (has, just)) = answers start taken keys read in (taken ++ more, has)
+module _ {A : Type 0} {meaning : Meaning A} {start now last : SourceSeen} {keys : List A}
+    {old : Reading} (has : (taken : List ℕ) × HasReadBy meaning start now taken keys old) where
+  -- a key more was read
+  pub then_read : {new : Reading} (key : A) → Steps meaning now last old new (step.Said key)
+      → (taken : List ℕ) × HasReadBy meaning start last taken (keys ++ key ∷ []) new
+  then_read key steps =
+      let (more, (read, just)) = steps.answers start has.0 keys has.1 in (has.0 ++ more, read)
 
--- the keys were read to their end
-pub then_ended : (start now last : SourceSeen) (keys : List Key) (old new : Reading)
-    (ending : Ending) → ((taken : List ℕ) × HasRead start now taken keys old)
-    → Answers now last old new (next.Ended ending) → ReadsTo start last keys ending
-then_ended start now last keys old new ending (taken, read) answers =
-    let (more, has) = answers start taken keys read in (taken ++ more, has)
+  -- the keys were read to their end
+  pub then_ended : {new : Reading} (ending : Ending)
+      → Steps meaning now last old new (step.Ended ending)
+      → ReadsToBy meaning start last keys ending
+  then_ended ending steps =
+      let (more, read) = steps.answers start has.0 keys has.1 in (has.0 ++ more, read)
 
--- memory ran out
-pub then_lost : (start now last : SourceSeen) (keys : List Key) (old : Reading)
-    → ((taken : List ℕ) × HasRead start now taken keys old) → GivesUp now last old
-    → (taken : List ℕ) × HasGiven start last taken keys
-then_lost start now last keys old (taken, read) gives =
-    let (more, has) = gives start taken keys read in (taken ++ more, has)
+  -- memory ran out
+  pub then_lost : GivesUpBy meaning now last old
+      → (taken : List ℕ) × HasGivenBy meaning start last taken keys
+  then_lost gives = let (more, given) = gives start has.0 keys has.1 in (has.0 ++ more, given)

@@ -2,8 +2,8 @@
 use Rattle.std.proofs.Common.{◌≡◌, ◌≢◌, ◌⊎◌, ℕ, ◌+◌, ◌<◌, ◌≤◌, Bool, true, false, cond, List, []}
 use Rattle.std.proofs.Common.{◌∷◌, ◌++◌, length, take, drop, get_or, Option, Some, None, Result, Ok}
 use Rattle.std.proofs.Common.{Err, refl, sym, ap, subst, ◌∙◌, inl, inr, eqb-true, arith}
-use Rattle.std.specs.Prelude.{not, find}
-use Rattle.std.specs.List.{position_or_len, after_first}
+use Rattle.std.specs.Prelude.{not, find, nat_lt}
+use Rattle.std.specs.List.{list_all, position_or_len, after_first}
 use Rattle.std.specs.Str.{IsUtf8, is_utf8}
 use Rattle.std.proofs.lemmas.Bool.{lt-ltb, le-ltb, cases_lt}
 use Rattle.std.proofs.lemmas.List.{length-append, length-take, get_or-take, take_all}
@@ -302,39 +302,27 @@ form_misspelt (hexadecimal form) rest fault (inr (written, others, spells, is)) 
 
 -- ---- words
 
-named : (w : Word) → word_named (name_of w) ≡ Some w
-named word.Open = refl
-named word.Do = refl
-named word.Pick = refl
-named word.Type = refl
-named word.Choose = refl
-named word.Back = refl
-named word.Tick = refl
-named word.Ok = refl
-named word.Cancel = refl
-named word.Answer = refl
-named word.Stop = refl
-named word.Vars = refl
-named word.Push = refl
-named word.Inbox = refl
-named word.Follow = refl
+abbrev pub are_low : List ℕ → Bool
+are_low bytes = list_all (λ c. nat_lt c 128) bytes
 
-unspaced : (w : Word) → HasNoSpace (name_of w)
-unspaced word.Open = refl
-unspaced word.Do = refl
-unspaced word.Pick = refl
-unspaced word.Type = refl
-unspaced word.Choose = refl
-unspaced word.Back = refl
-unspaced word.Tick = refl
-unspaced word.Ok = refl
-unspaced word.Cancel = refl
-unspaced word.Answer = refl
-unspaced word.Stop = refl
-unspaced word.Vars = refl
-unspaced word.Push = refl
-unspaced word.Inbox = refl
-unspaced word.Follow = refl
+-- the name of a word is found, has no space, and is ASCII
+pub names : (w : Word) → (word_named (name_of w) ≡ Some w) × HasNoSpace (name_of w)
+    × (are_low (name_of w) ≡ true)
+names word.Open = (refl, refl, refl)
+names word.Do = (refl, refl, refl)
+names word.Pick = (refl, refl, refl)
+names word.Type = (refl, refl, refl)
+names word.Choose = (refl, refl, refl)
+names word.Back = (refl, refl, refl)
+names word.Tick = (refl, refl, refl)
+names word.Ok = (refl, refl, refl)
+names word.Cancel = (refl, refl, refl)
+names word.Answer = (refl, refl, refl)
+names word.Stop = (refl, refl, refl)
+names word.Vars = (refl, refl, refl)
+names word.Push = (refl, refl, refl)
+names word.Inbox = (refl, refl, refl)
+names word.Follow = (refl, refl, refl)
 
 same_word : (v w : Word) → Some v ≡ Some w → v ≡ w
 same_word v w e = cc
@@ -365,9 +353,9 @@ pub word_reads : (line : List ℕ) (w : Word) (rest : Option (List ℕ))
 word_reads line w rest is =
     ap (λ (l : List ℕ). key_of_word (word_named (prefix_of l)) (rest_of l)) is
     ∙ ap (λ (l : List ℕ). key_of_word (word_named l) (rest_of (spaced (name_of w) rest)))
-    (prefix_spaced (name_of w) rest (unspaced w))
-    ∙ ap (λ (word : Option Word). key_of_word word (rest_of (spaced (name_of w) rest))) (named w)
-    ∙ ap (key_by (form_of w)) (rest_spaced (name_of w) rest (unspaced w))
+    (prefix_spaced (name_of w) rest (names w).1)
+    ∙ ap (λ (word : Option Word). key_of_word word (rest_of (spaced (name_of w) rest))) (names w).0
+    ∙ ap (key_by (form_of w)) (rest_spaced (name_of w) rest (names w).1)
 
 pub spelt : (line : List ℕ) (key : Key) → IsKeyLine line key → key_at line ≡ Ok key
 spelt line key (is_text, spells) =
@@ -447,7 +435,7 @@ judged_word : (line : List ℕ) (w : Option Word) → word_named (prefix_of line
 judged_word line None found is_text = (
   is_text,
   λ w rest is. no_word w (sym found ∙ ap (λ (l : List ℕ). word_named (prefix_of l)) is
-      ∙ ap word_named (prefix_spaced (name_of w) rest (unspaced w)) ∙ named w),
+      ∙ ap word_named (prefix_spaced (name_of w) rest (names w).1) ∙ (names w).0),
 )
 judged_word line (Some w) found is_text =
     judged_form line w (key_by (form_of w) (rest_of line)) is_text (split_is line (name_of w)

@@ -3,7 +3,6 @@ use Rattle.std.proofs.Common.{◌≡◌, ℕ, ◌<◌, ◌≤◌, Bool, true, fa
 use Rattle.std.proofs.Common.{◌++◌, length, Option, Some, None, Result, Err, refl, sym, ap}
 use Rattle.std.proofs.Common.{subst, ◌∙◌, append-nil, arith, ltb-true}
 use Rattle.std.specs.Prelude.{nat_lt}
-use Rattle.std.specs.List.{list_all}
 use Rattle.std.specs.Str.{IsUtf8, is_utf8}
 use Rattle.std.proofs.Math.Utf8.{low_scalar}
 use Rattle.std.proofs.lemmas.Bool.{and_parts}
@@ -15,16 +14,12 @@ use Rattle.wap_keys.specs.declared.limits.TheConstants.{LINE_LIMIT}
 use Rattle.wap_keys.specs.declared.fault.KeyFault.{KeyFault}
 use Rattle.wap_keys.specs.declared.fault.KeyFault.TheVariants.{NotText, UnknownWord, NoMemory}
 use Rattle.wap_keys.specs.declared.word.Word.{Word}
-use Rattle.wap_keys.specs.declared.word.Word.TheVariants as word
 use Rattle.wap_keys.specs.Forms.{form_of, name_of, word_named, prefix_of}
 use Rattle.wap_keys.specs.Forms.{rest_of, key_by, key_of_word, key_at}
 use Rattle.wap_keys.specs.Spelling.{spaced, HasNoSpace}
 use Rattle.wap_keys.specs.inside.Wording.{IsTextOrNone, IsRestText, key_of_rest, unknown_fault}
 use Rattle.wap_keys.proofs.KeyLaws.{bad_text, good_text, no_text}
-use Rattle.wap_keys.proofs.SpellLaws.{prefix_spaced, name_is, word_reads}
-
-abbrev are_low : List ℕ → Bool
-are_low bytes = list_all (λ c. nat_lt c 128) bytes
+use Rattle.wap_keys.proofs.SpellLaws.{prefix_spaced, name_is, word_reads, names, are_low}
 
 low_text : (bytes rest : List ℕ) → are_low bytes ≡ true → IsUtf8 rest → IsUtf8 (bytes ++ rest)
 low_text [] rest low text = text
@@ -42,34 +37,17 @@ past_low (c ∷ cs) rest low text =
     past_low cs rest parts.1 (IsUtf8-past_char (c ∷ (cs ++ rest)) (cs ++ rest) c text
     (ap (λ (l : List ℕ). l ++ (cs ++ rest)) (sym (encode_ascii c small))))
 
-low_name : (w : Word) → are_low (name_of w) ≡ true
-low_name word.Open = refl
-low_name word.Do = refl
-low_name word.Pick = refl
-low_name word.Type = refl
-low_name word.Choose = refl
-low_name word.Back = refl
-low_name word.Tick = refl
-low_name word.Ok = refl
-low_name word.Cancel = refl
-low_name word.Answer = refl
-low_name word.Stop = refl
-low_name word.Vars = refl
-low_name word.Push = refl
-low_name word.Inbox = refl
-low_name word.Follow = refl
-
 name_text : (w : Word) → IsUtf8 (name_of w)
 name_text w =
-    subst IsUtf8 (append-nil (name_of w)) (low_text (name_of w) [] (low_name w) IsUtf8-nil)
+    subst IsUtf8 (append-nil (name_of w)) (low_text (name_of w) [] (names w).2 IsUtf8-nil)
 
 then_text : (w : Word) (rest : List ℕ) → IsUtf8 rest → IsUtf8 (name_of w ++ 32 ∷ rest)
 then_text w rest text =
-    low_text (name_of w) (32 ∷ rest) (low_name w) (low_text (32 ∷ []) rest refl text)
+    low_text (name_of w) (32 ∷ rest) (names w).2 (low_text (32 ∷ []) rest refl text)
 
 rest_text : (w : Word) (rest : List ℕ) → IsUtf8 (name_of w ++ 32 ∷ rest) → IsUtf8 rest
 rest_text w rest text =
-    past_low (32 ∷ []) rest refl (past_low (name_of w) (32 ∷ rest) (low_name w) text)
+    past_low (32 ∷ []) rest refl (past_low (name_of w) (32 ∷ rest) (names w).2 text)
 
 not_utf8 : (bytes : List ℕ) → is_utf8 bytes ≡ false → IsUtf8 bytes → ⊥
 not_utf8 bytes none text = not_both (is_utf8 bytes) (is_utf8-from_IsUtf8 bytes text) none where

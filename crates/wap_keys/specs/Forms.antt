@@ -29,11 +29,14 @@ is_space c = c == space
 abbrev pub prefix_of : List ℕ → List ℕ
 prefix_of = before_first is_space
 
--- and what stands after it, if there is one
+-- what stands after the first byte of a kind, if there is one
+abbrev pub behind_first : (ℕ → Bool) → List ℕ → Option (List ℕ)
+behind_first is bytes =
+    if nat_lt (position_or_len is bytes) (length bytes) then Some (after_first is bytes) else None
+
+-- and what stands after the first space
 abbrev pub rest_of : List ℕ → Option (List ℕ)
-rest_of bytes =
-    if nat_lt (position_or_len is_space bytes) (length bytes) then Some (after_first is_space bytes)
-    else None
+rest_of = behind_first is_space
 
 -- ---- forms
 

@@ -59,38 +59,53 @@ is_end (BadKey line fault) = false
 is_end TooManyKeys = false
 is_end ReadFault = false
 
--- a line is refused where it is too long already; else one that is cut off says no key
-abbrev pub line_key : Ending → Line → Result (Option Key) KeyFault
-line_key ending line =
+-- what the content of a line says: nothing, something, or why it is refused
+abbrev pub Meaning : Type 0 → Type 0
+Meaning A = List ℕ → Result (Option A) KeyFault
+
+-- a line is refused where it is too long already; else one that is cut off says nothing
+abbrev pub line_says : {A : Type 0} → Meaning A → Ending → Line → Result (Option A) KeyFault
+line_says meaning ending line =
     if nat_lt LINE_LIMIT (length line.bytes) then Err TooLong
-    else if line.ended || is_end ending then content_key (content line)
+    else if line.ended || is_end ending then meaning (content line)
     else Ok None
 
 -- ---- keys
 
--- keys, and how they came to an end
-pub record Keys : Type 0 where
-  pub keys : List Key
+-- keys, or keys and what stands between lists of them, and how they came to an end
+pub record KeysOf (A : Type 0) : Type 0 where
+  pub keys : List A
   pub ending : Ending
 
+abbrev pub Keys : Type 0
+Keys = KeysOf Key
+
 -- what one line says, and then others
-abbrev pub key_before : ℕ → Result (Option Key) KeyFault → Keys → Keys
+abbrev pub key_before : {A : Type 0} → ℕ → Result (Option A) KeyFault → KeysOf A → KeysOf A
 key_before number (Err fault) others = record { keys = []; ending = BadKey number fault }
 key_before number (Ok None) others = others
 key_before number (Ok (Some key)) others =
     record { keys = key ∷ others.keys; ending = others.ending }
 
 -- the keys of lines that are counted from a number on, up to the first line that is no key line
-abbrev pub keys_from : Ending → ℕ → List Line → Keys
-keys_from ending number [] = record { keys = []; ending = ending }
-keys_from ending number (line ∷ lines) =
-    key_before number (line_key ending line) (keys_from ending (number + 1) lines)
+abbrev pub said_from : {A : Type 0} → Meaning A → Ending → ℕ → List Line → KeysOf A
+said_from meaning ending number [] = record { keys = []; ending = ending }
+said_from meaning ending number (line ∷ lines) =
+    key_before number (line_says meaning ending line) (said_from meaning ending (number + 1) lines)
 
--- the keys of bytes after which there is this ending
-unfoldable pub keys_at : Ending → List ℕ → Keys
-keys_at ending bytes = keys_from ending 1 (lines_of bytes)
+-- those of bytes after which there is this ending
+unfoldable pub said_at : {A : Type 0} → Meaning A → Ending → List ℕ → KeysOf A
+said_at meaning ending bytes = said_from meaning ending 1 (lines_of bytes)
 
--- the keys of bytes; of too many bytes the first ones count
-unfoldable pub keys_of : List ℕ → Keys
-keys_of bytes =
-    keys_at (if nat_lt KEYS_LIMIT (length bytes) then TooManyKeys else End) (take KEYS_LIMIT bytes)
+-- those of bytes; of too many bytes the first ones count
+unfoldable pub said_of : {A : Type 0} → Meaning A → List ℕ → KeysOf A
+said_of meaning bytes =
+    said_at meaning (if nat_lt KEYS_LIMIT (length bytes) then TooManyKeys else End)
+    (take KEYS_LIMIT bytes)
+
+-- by key lines
+abbrev pub keys_at : Ending → List ℕ → Keys
+keys_at = said_at content_key
+
+abbrev pub keys_of : List ℕ → Keys
+keys_of = said_of content_key

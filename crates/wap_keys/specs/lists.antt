@@ -1,3 +1,2 @@
 pub mod Lists
 pub mod Read
-pub mod inside

@@ -20,3 +20,10 @@ pub enum Next {
     Key(Key),
     Ended(Ending),
 }
+
+/// The same, be it a key or something beside keys.
+#[derive(Drop)]
+pub(crate) enum Step<T> {
+    Said(T),
+    Ended(Ending),
+}

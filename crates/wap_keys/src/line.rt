@@ -1,22 +1,12 @@
 //! What one line says.
-ghost use Rattle.std.specs.Prelude.{◌≡◌, IfOk};
+ghost use Rattle.std.specs.Prelude.{◌≡◌, ◌≢◌, [], Ok, Err, None, IfOk};
 ghost use Rattle.wap_base.specs.Outcome.{Meets};
 ghost use Rattle.wap_keys.specs.declared.fault.KeyFault.TheVariants.{NoMemory as OutOfMemory};
-ghost use Rattle.wap_keys.specs.Lines.{without_return, content_key};
-ghost use Rattle.wap_keys.specs.inside.Taking.{said_of};
+ghost use Rattle.wap_keys.specs.Lines.{Meaning, without_return, content_key};
 
 use crate::{Key, KeyFault, read_key};
 use std::alloc::Global;
 use wap_base::NoMemory;
-
-/// What a line says.
-#[derive(Drop)]
-pub(crate) enum Said {
-    /// It is empty, or a comment.
-    Nothing,
-    Key(Key),
-    Bad(KeyFault),
-}
 
 /// A line without a carriage return at its end.
 pub fn without_return(line: &[u8]) -> &[u8]
@@ -41,14 +31,31 @@ pub fn content_key(alloc: Global, content: &[u8]) -> Result<Option<Key>, KeyFaul
     }
 }
 
-/// What a line says, without its line feed and a carriage return before that.
-pub(crate) fn line_said(alloc: Global, content: &[u8]) -> Result<Said, NoMemory>
-    ensures { IfOk result (λ said. said ≡ said_of (content_key content.now)) }
-{
-    match content_key(alloc, content) {
-        Ok(None) => Ok(Said::Nothing),
-        Ok(Some(key)) => Ok(Said::Key(key)),
-        Err(KeyFault::NoMemory) => Err(NoMemory),
-        Err(fault) => Ok(Said::Bad(fault)),
+/// What a line may say, be it a key or something beside keys.
+pub(crate) trait Says: Sized + Drop {
+    /// What the content of a line says.
+    ghost meaning: { Meaning Self };
+
+    /// What a line says, without its line feed and a carriage return before that.
+    fn of(alloc: Global, content: &[u8]) -> Result<Result<Option<Self>, KeyFault>, NoMemory>
+        ensures is { IfOk result (λ said. said ≡ meaning content.now) }
+        ensures known { IfOk result (λ said. said ≢ Err OutOfMemory) };
+
+    /// An empty line says nothing.
+    ghost empty: { meaning [] ≡ Ok None };
+}
+
+impl Says for Key {
+    ghost use Rattle.std.specs.Prelude.{refl};
+
+    ghost meaning = { content_key };
+
+    ghost empty = { refl };
+
+    fn of(alloc: Global, content: &[u8]) -> Result<Result<Option<Key>, KeyFault>, NoMemory> {
+        match content_key(alloc, content) {
+            Err(KeyFault::NoMemory) => Err(NoMemory),
+            said => Ok(said),
+        }
     }
 }

@@ -1,10 +1,9 @@
 //! Lists of keys: the recorded keys of several sessions.
 
-mod begun;
+mod item;
 mod laws;
-mod line;
 mod reading;
 
+pub use item::Item;
 pub use laws::sources_without_dividers_are_one_list;
-pub use line::Said;
 pub use reading::read_lists;

@@ -1,16 +1,18 @@
 //! Reading one key after the other.
-ghost use Rattle.std.specs.Prelude.{◌≡◌, ◌<◌, ◌≤◌, [], length, true, false, IfOk, OnOk, OnErr};
+ghost use Rattle.std.specs.Prelude.{◌≡◌, ◌≢◌, ◌<◌, ◌≤◌, [], length, true, false, Err, IfOk, OnOk};
+ghost use Rattle.std.specs.Prelude.{OnErr};
 ghost use Rattle.wap_devices.specs.Sources.{SourceSeen};
 ghost use Rattle.wap_keys.specs.declared.limits.TheConstants.{LINE_LIMIT};
-ghost use Rattle.wap_keys.specs.Lines.{content_key};
+ghost use Rattle.wap_keys.specs.declared.fault.KeyFault.TheVariants.{NoMemory as OutOfMemory};
 ghost use Rattle.wap_keys.specs.KeyReaders.{HasRead, Answers, GivesUp, Falls, CountsFaults};
 ghost use Rattle.wap_keys.specs.Prefixes.{is_unended};
-ghost use Rattle.wap_keys.specs.inside.Taking.{said_of, last_next, TakesLine};
-ghost use Rattle.wap_keys.specs.inside.Taking.{ReadsPrefix, ReadsMore, LosesPiece};
+ghost use Rattle.wap_keys.specs.inside.Taking.{turn_of, or_end, TakesLine, ReadsPrefix, ReadsMore};
+ghost use Rattle.wap_keys.specs.inside.Taking.{LosesPiece, IsOpen, Turns, Steps, Loses};
 
-use crate::line::{Said, line_said, without_return};
+use crate::ending::Step;
+use crate::line::{Says, without_return};
 use crate::prefix::{Prefix, take_prefix, whole_line};
-use crate::{Ending, KEYS_LIMIT, KeyFault, Next, PIECE_LIMIT};
+use crate::{Ending, KEYS_LIMIT, Key, KeyFault, Next, PIECE_LIMIT};
 use std::alloc::Global;
 use std::marker::Model;
 use wap_base::NoMemory;
@@ -18,10 +20,11 @@ use wap_devices::{Failed, Source};
 
 /// What a line comes to.
 #[derive(Drop)]
-pub(crate) enum Taken {
+pub(crate) enum Taken<T> {
     /// It isn't whole yet.
     Begun,
-    Line(Said),
+    /// What it says, or why it is no key line.
+    Line(Result<Option<T>, KeyFault>),
 }
 
 /// What a read comes to.
@@ -85,10 +88,22 @@ fn read_prefix<I: Source>(source: &mut I, buffer: &mut [u8], room: usize) -> Res
     source.read(buffer.split_at_mut(room).0)
 }
 
+/// What a line of a number comes to, if it says something.
+fn turn_of<T: Drop>(line: u32, said: Result<Option<T>, KeyFault>) -> Option<Step<T>>
+    ensures { result ≡ turn_of line said }
+{
+    match said {
+        Ok(None) => None,
+        Ok(Some(key)) => Some(Step::Said(key)),
+        Err(fault) => Some(Step::Ended(Ending::BadKey { line, fault })),
+    }
+}
+
 impl Reader {
     /// A reader that has read nothing.
     pub fn new(alloc: Global) -> Reader
         ensures read { (seen : SourceSeen) → HasRead seen seen [] [] result }
+        ensures fresh { result ≡ record { unread = []; number = 1; count = 0; over = false } }
         ensures begun { result.over ≡ false }
     {
         Reader {
@@ -104,8 +119,8 @@ impl Reader {
 
     /// Takes a whole line, or one that is too long already. A line that lies in one piece isn't
     /// copied.
-    fn take_line(&mut self, alloc: Global) -> Result<Taken, NoMemory>
-        ensures { IfOk result (TakesLine self.old self.new) }
+    fn take_line<T: Says>(&mut self, alloc: Global) -> Result<Taken<T>, NoMemory>
+        ensures { IfOk result (TakesLine T.meaning self.old self.new) }
     {
         if !self.line.as_slice().is_empty() {
             return self.go_on(alloc);
@@ -114,15 +129,15 @@ impl Reader {
         let Some(line) = whole_line(unread) else {
             return self.go_on(alloc);
         };
-        let said = line_said(alloc, without_return(line))?;
+        let said = T::of(alloc, without_return(line))?;
         self.at += line.len() + 1;
         self.number += 1;
         Ok(Taken::Line(said))
     }
 
     /// Goes on with the line that is begun, and takes it where it is whole or too long already.
-    fn go_on(&mut self, alloc: Global) -> Result<Taken, NoMemory>
-        ensures { IfOk result (TakesLine self.old self.new) }
+    fn go_on<T: Says>(&mut self, alloc: Global) -> Result<Taken<T>, NoMemory>
+        ensures { IfOk result (TakesLine T.meaning self.old self.new) }
     {
         let (_, unread) = self.piece.as_slice().split_at(self.at);
         match take_prefix(&mut self.line, unread)? {
@@ -133,12 +148,12 @@ impl Reader {
             }
             Prefix::Whole(place) => {
                 self.at += place + 1;
-                let said = line_said(alloc, without_return(&self.line))?;
+                let said = T::of(alloc, without_return(&self.line))?;
                 self.line.clear();
                 self.number += 1;
                 Ok(Taken::Line(said))
             }
-            Prefix::TooLong => Ok(Taken::Line(Said::Bad(KeyFault::TooLong))),
+            Prefix::TooLong => Ok(Taken::Line(Err(KeyFault::TooLong))),
         }
     }
 
@@ -167,24 +182,81 @@ impl Reader {
     }
 
     /// What the last line comes to, which no line feed ends.
-    fn finish(&mut self, alloc: Global) -> Result<Next, NoMemory>
+    fn finish<T: Says>(&mut self, alloc: Global) -> Result<Step<T>, NoMemory>
         requires unended { is_unended self.old.unread ≡ true }
         requires short { length self.old.unread ≤ LINE_LIMIT }
-        ensures said { IfOk result (λ next. next ≡ last_next self.old.number
-            (said_of (content_key self.old.unread))) }
+        ensures said { IfOk result (λ step. step ≡ or_end (turn_of self.old.number
+            (T.meaning self.old.unread))) }
+        ensures known { OnOk result (T.meaning self.old.unread ≢ Err OutOfMemory) }
         ensures rest { OnOk result (self.new ≡ record self.old { unread = [] }) }
     {
         let (_, unread) = self.piece.as_slice().split_at(self.at);
         self.line.extend_from_slice(unread)?;
         self.at = self.piece.as_slice().len();
-        let said = line_said(alloc, &self.line)?;
+        let said = T::of(alloc, &self.line)?;
         self.line.clear();
-        let line = self.number;
-        match said {
-            Said::Nothing => Ok(Next::Ended(Ending::End)),
-            Said::Key(key) => Ok(Next::Key(key)),
-            Said::Bad(fault) => Ok(Next::Ended(Ending::BadKey { line, fault })),
+        match turn_of(self.number, said) {
+            Some(step) => Ok(step),
+            None => Ok(Step::Ended(Ending::End)),
         }
+    }
+
+    /// Reads more bytes after a line that is begun.
+    fn read_on<T: Says, I: Source>(
+        &mut self,
+        alloc: Global,
+        source: &mut I,
+    ) -> Result<Option<Step<T>>, NoMemory>
+        requires { IsOpen self.old }
+        ensures turns { IfOk result (Turns T.meaning (I.seen source.old) (I.seen source.new)
+            self.old self.new) }
+        ensures lost { OnErr result (Loses T.meaning (I.seen source.old) (I.seen source.new)
+            self.old) }
+    {
+        match self.read_more(source)? {
+            More::Piece => Ok(None),
+            More::AtEnd => Ok(Some(self.finish(alloc)?)),
+            More::Past => Ok(Some(Step::Ended(Ending::TooManyKeys))),
+            More::Failed => Ok(Some(Step::Ended(Ending::ReadFault))),
+        }
+    }
+
+    /// Takes a line, or reads more bytes after one that is only begun.
+    fn turn<T: Says, I: Source>(
+        &mut self,
+        alloc: Global,
+        source: &mut I,
+    ) -> Result<Option<Step<T>>, NoMemory>
+        requires { self.old.over ≡ false }
+        ensures turns { IfOk result (Turns T.meaning (I.seen source.old) (I.seen source.new)
+            self.old self.new) }
+        ensures lost { OnErr result (Loses T.meaning (I.seen source.old) (I.seen source.new)
+            self.old) }
+    {
+        let line = self.number;
+        match self.take_line(alloc)? {
+            Taken::Line(said) => Ok(turn_of(line, said)),
+            Taken::Begun => self.read_on(alloc, source),
+        }
+    }
+
+    /// The next key, or what stands beside keys, or how they came to their end.
+    pub(crate) fn step<T: Says, I: Source>(
+        &mut self,
+        alloc: Global,
+        source: &mut I,
+    ) -> Result<Step<T>, NoMemory>
+        ensures steps { IfOk result (Steps T.meaning (I.seen source.old) (I.seen source.new)
+            self.old self.new) }
+        ensures lost { OnErr result (Loses T.meaning (I.seen source.old) (I.seen source.new)
+            self.old) }
+    {
+        while !self.over {
+            if let Some(step) = self.turn(alloc, source)? {
+                return Ok(step);
+            }
+        }
+        Ok(Step::Ended(Ending::End))
     }
 
     /// The next key, or how the keys came to their end.
@@ -197,22 +269,9 @@ impl Reader {
         ensures faults { CountsFaults (I.seen source.old).faults (I.seen source.new).faults
             result }
     {
-        while !self.over {
-            let line = self.number;
-            match self.take_line(alloc)? {
-                Taken::Line(Said::Nothing) => {}
-                Taken::Line(Said::Key(key)) => return Ok(Next::Key(key)),
-                Taken::Line(Said::Bad(fault)) => {
-                    return Ok(Next::Ended(Ending::BadKey { line, fault }));
-                }
-                Taken::Begun => match self.read_more(source)? {
-                    More::Piece => {}
-                    More::AtEnd => return self.finish(alloc),
-                    More::Past => return Ok(Next::Ended(Ending::TooManyKeys)),
-                    More::Failed => return Ok(Next::Ended(Ending::ReadFault)),
-                },
-            }
+        match self.step::<Key, I>(alloc, source)? {
+            Step::Said(key) => Ok(Next::Key(key)),
+            Step::Ended(ending) => Ok(Next::Ended(ending)),
         }
-        Ok(Next::Ended(Ending::End))
     }
 }

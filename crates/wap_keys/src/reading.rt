@@ -6,12 +6,40 @@ ghost use Rattle.wap_keys.specs.declared.ending.Ending.TheVariants.{ReadFault};
 ghost use Rattle.wap_keys.specs.declared.limits.TheConstants.{KEYS_LIMIT};
 ghost use Rattle.wap_keys.specs.Lines.{keys_of};
 ghost use Rattle.wap_keys.specs.Read.{IsReadBefore, AreFirst, TakesAtMost, ReadsTo};
-ghost use Rattle.wap_keys.specs.Read.{GivesSome, EndsAtMostOnce};
+ghost use Rattle.wap_keys.specs.Read.{GivesSome, EndsAtMostOnce, ReadsToBy, GivesSomeBy};
 
-use crate::{Ending, Key, Next, Reader};
+use crate::ending::Step;
+use crate::line::Says;
+use crate::{Ending, Key, Reader};
 use std::alloc::Global;
 use wap_base::NoMemory;
 use wap_devices::Source;
+
+/// Reads keys to their end, and what stands beside them.
+pub(crate) fn read_all<T: Says, I: Source>(
+    alloc: Global,
+    source: &mut I,
+) -> Result<(Vec<T>, Ending), NoMemory>
+    ensures read { IfOk result (λ read. ReadsToBy T.meaning (I.seen source.old) (I.seen source.new)
+        read.0.items read.1) }
+    ensures failed { IfOk result (λ read. read.1 ≡ ReadFault
+        → Rose (I.seen source.old).faults (I.seen source.new).faults) }
+    ensures steady { IfOk result (λ read. read.1 ≢ ReadFault
+        → (I.seen source.new).faults ≡ (I.seen source.old).faults) }
+    ensures faults { (I.seen source.old).faults ≤ (I.seen source.new).faults }
+    ensures left { OnErr result (GivesSomeBy T.meaning (I.seen source.old)
+        (I.seen source.new)) }
+    ensures unread { OnErr result ((I.seen source.new).faults ≡ (I.seen source.old).faults) }
+{
+    let mut reader = Reader::new(alloc);
+    let mut keys = Vec::new(alloc);
+    loop {
+        match reader.step(alloc, source)? {
+            Step::Said(key) => keys.push(key)?,
+            Step::Ended(ending) => return Ok((keys, ending)),
+        }
+    }
+}
 
 /// Reads keys to their end: that of the source, a line that is no key line, a byte too many, or a
 /// fault of the source.
@@ -38,12 +66,5 @@ pub fn read_keys<I: Source>(alloc: Global, source: &mut I) -> Result<(Vec<Key>, 
     ensures left { OnErr result (GivesSome (I.seen source.old) (I.seen source.new)) }
     ensures unread { OnErr result ((I.seen source.new).faults ≡ (I.seen source.old).faults) }
 {
-    let mut reader = Reader::new(alloc);
-    let mut keys = Vec::new(alloc);
-    loop {
-        match reader.next(alloc, source)? {
-            Next::Key(key) => keys.push(key)?,
-            Next::Ended(ending) => return Ok((keys, ending)),
-        }
-    }
+    read_all(alloc, source)
 }

@@ -1,12 +1,9 @@
 //! The words of the program's commands.
 
+mod arguments;
 mod browsing;
-mod folders;
-mod matching;
 mod numbers;
-mod paging;
-mod replaying;
-mod resuming;
+mod pages;
 mod word;
 mod words;
 

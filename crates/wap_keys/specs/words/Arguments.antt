@@ -1,10 +1,11 @@
 -- The words after a command's name, in UTF-8: a positional and options, each at most once. This
 -- project's own.
 use Rattle.std.specs.Prelude.{ℕ, Bool, true, false, ◌==◌, ◌&&◌, if◌then◌else◌, List, []}
-use Rattle.std.specs.Prelude.{◌∷◌, ◌++◌, Option, Some, None, option_map, find}
-use Rattle.std.specs.List.{list_any, before_first, after_first}
+use Rattle.std.specs.Prelude.{◌∷◌, ◌++◌, Option, Some, None, option_map, is_some, find}
+use Rattle.std.specs.List.{list_any, before_first}
 use Rattle.wap_base.specs.Ascii.{equals_sign, hyphen}
 use Rattle.wap_base.specs.Texts.{is_same_text}
+use Rattle.wap_keys.specs.Forms.{behind_first}
 
 -- what words may be given for: the name of the positional, and those of the options
 pub record Form : Type 0 where
@@ -22,14 +23,14 @@ pub record Read : Type 0 where
   pub waits : Option (List ℕ)
   pub ended : Bool
 
--- a text was given for the name
-abbrev pub is_given : List ℕ → List Use → Bool
-is_given name uses = list_any (λ one. is_same_text one.name name) uses
+-- the text that was given for a name
+abbrev pub text_of : List ℕ → List Use → Option (List ℕ)
+text_of name uses = option_map (λ one. one.text) (find (λ one. is_same_text one.name name) uses)
 
 -- a text is given for a name, unless one was given before
 abbrev pub with_use : Read → List ℕ → List ℕ → Option Read
 with_use read name text =
-    if is_given name read.uses then None
+    if is_some (text_of name read.uses) then None
     else Some (record {
       uses = read.uses ++ record { name = name; text = text } ∷ [];
       waits = None;
@@ -53,10 +54,7 @@ with_value read name (Some text) = with_use read name text
 abbrev pub with_option : Form → Read → List ℕ → Option Read
 with_option form read bytes =
     let name = before_first is_equals bytes in
-    if is_option form name
-    then with_value read name
-    (if list_any is_equals bytes then Some (after_first is_equals bytes) else None)
-    else None
+    if is_option form name then with_value read name (behind_first is_equals bytes) else None
 
 -- whether a word begins with `-`, and more follows
 abbrev pub is_dashed : List ℕ → Bool
@@ -113,7 +111,3 @@ nothing_read = record { uses = []; waits = None; ended = false }
 -- all that words give, in their order; or none, where they aren't of the form
 abbrev pub uses_of : Form → List (List ℕ) → Option (List Use)
 uses_of form words = uses_in (with_words form (Some nothing_read) words)
-
--- the text that was given for a name
-abbrev pub text_of : List ℕ → List Use → Option (List ℕ)
-text_of name uses = option_map (λ one. one.text) (find (λ one. is_same_text one.name name) uses)

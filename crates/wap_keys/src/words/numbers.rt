@@ -38,9 +38,11 @@ pub(crate) fn number_of(
     greatest: u32,
     default: u32,
 ) -> Option<u32>
-    requires { default ≤ greatest }
+    requires some { least ≤ default }
+    requires few { default ≤ greatest }
     ensures is { result ≡ number_of least greatest default (option_map
         (λ digits. digits.now) digits.entry) }
+    ensures some { IfSome result (λ number. least ≤ number) }
     ensures few { IfSome result (λ number. number ≤ greatest) }
 {
     let Some(digits) = digits else {
@@ -55,9 +57,12 @@ pub(crate) fn number_of(
 
 /// The same, of one byte.
 pub(crate) fn byte_of(digits: Option<&str>, least: u8, greatest: u8, default: u8) -> Option<u8>
-    requires { default ≤ greatest }
-    ensures { result ≡ number_of least greatest default (option_map
+    requires some { least ≤ default }
+    requires few { default ≤ greatest }
+    ensures is { result ≡ number_of least greatest default (option_map
         (λ digits. digits.now) digits.entry) }
+    ensures some { IfSome result (λ number. least ≤ number) }
+    ensures few { IfSome result (λ number. number ≤ greatest) }
 {
     match number_of(
         digits,

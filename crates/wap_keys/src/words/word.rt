@@ -2,10 +2,11 @@
 ghost use Rattle.std.specs.Prelude.{◌≡◌};
 ghost use Rattle.std.specs.Map.{lookup};
 ghost use Rattle.std.specs.Str.{bytes_eq};
-ghost use Rattle.wap_keys.specs.words.Commands.{word_named};
-ghost use Rattle.wap_keys.specs.words.inside.Matching.{by_name};
+ghost use Rattle.wap_keys.specs.words.Commands.{word_named, form_of};
+ghost use Rattle.wap_keys.specs.words.inside.Reading.{form_by, by_name};
 
 use crate::words::PageCommand;
+use crate::words::arguments::Form;
 
 /// What a command's word says.
 #[derive(Clone, Copy)]
@@ -52,4 +53,32 @@ pub(crate) fn word_named(name: &str) -> Option<Word>
     ensures { result ≡ word_named name.now }
 {
     word_beside(&WORDS, name)
+}
+
+/// What may follow the word of a command.
+pub(crate) fn form_of(word: Word) -> Form
+    ensures { form_by result ≡ form_of word }
+{
+    match word {
+        Word::Browse | Word::Image => Form {
+            positional: "url",
+            options: &["seed", "budget", "cache", "string", "history", "depth"],
+        },
+        Word::Resume => Form {
+            positional: "name",
+            options: &["cache"],
+        },
+        Word::Page(_) | Word::Make => Form {
+            positional: "name",
+            options: &[],
+        },
+        Word::Prepare => Form {
+            positional: "surplus",
+            options: &["workers"],
+        },
+        Word::Replay => Form {
+            positional: "url",
+            options: &["seed", "budget", "workers", "string", "history", "depth"],
+        },
+    }
 }

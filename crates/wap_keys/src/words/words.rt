@@ -3,12 +3,10 @@ ghost use Rattle.std.specs.Prelude.{◌≡◌, IfOk, IfSome};
 ghost use Rattle.wap_keys.specs.words.Commands.{command};
 ghost use Rattle.wap_keys.specs.words.Ranges.{HasRanges};
 
-use crate::words::browsing::{read_browse, read_image};
-use crate::words::folders::{read_make, read_prepare};
-use crate::words::paging::read_page;
-use crate::words::replaying::read_replay;
-use crate::words::resuming::read_resume;
-use crate::words::word::{Word, word_named};
+use crate::words::arguments::uses_of;
+use crate::words::browsing::{browse_of, replay_of};
+use crate::words::pages::{make_of, page_of, prepare_of, resume_of};
+use crate::words::word::{Word, form_of, word_named};
 use std::alloc::Global;
 use wap_base::{Limits, NoMemory, Text};
 
@@ -88,18 +86,23 @@ pub fn read_words(alloc: Global, words: &[Text]) -> Result<Option<Command>, NoMe
     ensures said { IfOk result (λ said. said ≡ command words.now) }
     ensures ranges { IfOk result (λ said. IfSome said HasRanges) }
 {
-    let [first, ..] = words else {
+    let [first, words @ ..] = words else {
         return Ok(None);
     };
-    let first = first.as_str();
-    match word_named(first) {
-        Some(Word::Browse) => read_browse(alloc, first, words),
-        Some(Word::Image) => read_image(alloc, first, words),
-        Some(Word::Resume) => read_resume(alloc, first, words),
-        Some(Word::Page(command)) => read_page(alloc, command, first, words),
-        Some(Word::Prepare) => read_prepare(alloc, first, words),
-        Some(Word::Make) => read_make(alloc, first, words),
-        Some(Word::Replay) => read_replay(alloc, first, words),
-        None => Ok(None),
-    }
+    let Some(word) = word_named(first.as_str()) else {
+        return Ok(None);
+    };
+    let Some(uses) = uses_of(alloc, form_of(word), words)? else {
+        return Ok(None);
+    };
+    let command = match word {
+        Word::Browse => browse_of(alloc, &uses)?.map(Command::Browse),
+        Word::Image => browse_of(alloc, &uses)?.map(Command::Image),
+        Word::Resume => resume_of(alloc, &uses)?.map(Command::Resume),
+        Word::Page(page) => page_of(alloc, &uses)?.map(|name| Command::Page(page, name)),
+        Word::Prepare => prepare_of(&uses).map(Command::Prepare),
+        Word::Make => make_of(&uses).map(Command::Make),
+        Word::Replay => replay_of(alloc, &uses)?.map(Command::Replay),
+    };
+    Ok(command)
 }

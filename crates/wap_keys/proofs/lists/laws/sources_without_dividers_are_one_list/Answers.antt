@@ -1,4 +1,4 @@
-use Rattle.wap_keys.proofs.ListsLemmas.OneList.{one_list_of}
+use Rattle.wap_keys.proofs.ListLaws.{one_list_of}
 use Rattle.wap_keys.proofs.lists.laws.sources_without_dividers_are_one_list.Goals as goal
 
 pub returns : goal.returns

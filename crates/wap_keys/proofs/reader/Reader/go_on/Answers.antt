@@ -1,16 +1,15 @@
 use Rattle.std.proofs.Common.{◌≡◌, ◌≢◌, ℕ, List, ◌++◌, drop, ap, subst, ◌∙◌}
 use Rattle.wap_keys.specs.KeyReaders.{Reading}
-use Rattle.wap_keys.specs.Lines.{without_return, content_key}
+use Rattle.wap_keys.specs.Lines.{without_return}
 use Rattle.wap_keys.specs.declared.fault.KeyFault.TheVariants.{TooLong, NoMemory}
 use Rattle.wap_keys.specs.declared.prefix.Prefix.{Prefix}
 use Rattle.wap_keys.specs.declared.prefix.Prefix.TheVariants as prefix
 use Rattle.wap_keys.specs.Prefixes.{TakesPrefix}
-use Rattle.wap_keys.specs.inside.Taking.{said_of}
 use Rattle.wap_keys.proofs.LineSteps.{takes_whole, takes_long}
 use Rattle.wap_keys.proofs.reader.Reader.go_on.Goals as goal
 
 pub returns-in_ok-said-in-Whole : goal.returns-in_ok-said-in-Whole
-returns-in_ok-said-in-Whole c =
+returns-in_ok-said-in-Whole g c =
     let line = c.self.inside.line.items in
     let piece = c.self.inside.piece.items in
     let whole = c.take_prefix.new.line.items in
@@ -23,15 +22,14 @@ returns-in_ok-said-in-Whole c =
     let content : c.without_return.result.now ≡ without_return whole =
     c.without_return.ensures
     ∙ ap without_return (let same : c.deref.result.now ≡ whole = cc in same) in
-    let says : c.in_ok-said-in-Whole.said ≡ said_of (content_key (without_return whole)) =
-    c.in_ok-said-in-Whole.ensures ∙ ap (λ (l : List ℕ). said_of (content_key l)) content in
-    takes_whole c.args.self.now line piece whole c.clear-in-Whole.new.self.items c.self.inside.at
-    c.in-Whole.place c.self.inside.number c.self.inside.count c.self.inside.over
-    c.in_ok-said-in-Whole.said
-    c.self.view_is c.self.invariant.1 takes says c.clear-in-Whole.ensures.items
+    takes_whole g.T.Says.meaning c.args.self.now line piece whole c.clear-in-Whole.new.self.items
+    c.self.inside.at c.in-Whole.place c.self.inside.number c.self.inside.count c.self.inside.over
+    c.in_ok-said-in-Whole.said c.self.view_is c.self.invariant.1 takes
+    (c.in_ok-said-in-Whole.ensures.is ∙ ap g.T.Says.meaning content)
+    c.in_ok-said-in-Whole.ensures.known c.clear-in-Whole.ensures.items
 
 pub returns-in-TooLong : goal.returns-in-TooLong
-returns-in-TooLong c =
+returns-in-TooLong g c =
     let line = c.self.inside.line.items in
     let piece = c.self.inside.piece.items in
     let whole = c.take_prefix.new.line.items in
@@ -45,6 +43,6 @@ returns-in-TooLong c =
     let no_want : TooLong ≢ NoMemory = λ e. absurd (let none : ⊥ = cc in none) in (
       no_want,
       ap (λ (r : Reading). r.over) c.self.view_is,
-      takes_long c.args.self.now line
+      takes_long g.T.Says.meaning c.args.self.now line
           (drop c.self.inside.at piece) whole view c.self.invariant.1 takes,
     )

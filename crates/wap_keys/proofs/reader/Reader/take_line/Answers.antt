@@ -1,14 +1,12 @@
 use Rattle.std.proofs.Common.{◌≡◌, ℕ, List, [], length, drop, true, ap, subst, sym, ◌∙◌}
 use Rattle.std.specs.Prelude.{◌==◌}
-use Rattle.wap_keys.specs.Lines.{without_return, content_key}
 use Rattle.wap_keys.specs.declared.prefix.Prefix.TheVariants as prefix
 use Rattle.wap_keys.specs.Prefixes.{TakesPrefix}
-use Rattle.wap_keys.specs.inside.Taking.{said_of}
 use Rattle.wap_keys.proofs.LineSteps.{takes_whole, no_bytes}
 use Rattle.wap_keys.proofs.reader.Reader.take_line.Goals as goal
 
 pub returns : goal.returns
-returns c =
+returns g c =
     let line = c.self.inside.line.items in
     let piece = c.self.inside.piece.items in
     let whole = c.in-Some.line.now in
@@ -21,8 +19,8 @@ returns c =
     (subst (λ (l : List ℕ).
     TakesPrefix l whole c.split_at.result.1.now (prefix.Whole (length whole)))
     (sym empty) c.in-Some.ensures.takes) in
-    let says : c.in_ok-said.said ≡ said_of (content_key (without_return whole)) =
-    c.in_ok-said.ensures ∙ ap (λ (l : List ℕ). said_of (content_key l)) c.without_return.ensures in
-    takes_whole c.args.self.now line piece whole line c.self.inside.at
+    takes_whole g.T.Says.meaning c.args.self.now line piece whole line c.self.inside.at
     (length whole) c.self.inside.number c.self.inside.count c.self.inside.over c.in_ok-said.said
-    c.self.view_is c.self.invariant.1 takes says empty
+    c.self.view_is c.self.invariant.1 takes
+    (c.in_ok-said.ensures.is ∙ ap g.T.Says.meaning c.without_return.ensures)
+    c.in_ok-said.ensures.known empty

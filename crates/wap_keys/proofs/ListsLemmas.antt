@@ -1,5 +1,0 @@
-pub mod Adding
-pub mod Lines
-pub mod Taking
-pub mod Sources
-pub mod OneList

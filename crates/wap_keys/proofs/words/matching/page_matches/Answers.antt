@@ -1,9 +1,0 @@
-use Rattle.std.proofs.Common.{refl}
-use Rattle.std.proofs.lemmas.Result.{IfOk-weaker}
-use Rattle.wap_keys.specs.words.Commands.{page_form}
-use Rattle.wap_keys.proofs.words.matching.page_matches.Goals as goal
-
-pub returns : goal.returns
-returns c =
-    IfOk-weaker c.matches_by.result _ _ (λ matches by.
-    by c.args.word.now page_form c.in_ok-page_parser.ensures refl) c.matches_by.ensures
