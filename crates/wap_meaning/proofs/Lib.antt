@@ -4,6 +4,5 @@ pub mod Meanings
 pub mod Trees
 pub mod Variables
 mod Units
-mod Worked
 pub mod AcceptedLemmas
 pub mod NeedsLemmas

@@ -9,8 +9,6 @@
 //! - `scripting`: What scripts do in a browser's world, as definitions in `specs/`: external calls
 //!   with their access pragmas, the libraries that need a browser, dialogs that keys answer, and
 //!   the sites whose scripts are units, or units and sources.
-//! - `worked_scripts`: Examples of scripts in a browser's world, computed from the definitions in
-//!   `scripting`.
 //! - `scripting_laws`: What follows from the definitions of scripts in a browser's world. It runs
 //!   nothing.
 #![tactic(auto)]
