@@ -1,6 +1,6 @@
 -- The functions of a program: what they need is there, their code may be placed and has the wide
 -- size but for what is saved, and so the unit is one that the program is compiled to.
-use Rattle.std.proofs.Common.{◌≡◌, ℕ, suc, inl, inr, ◌+◌, ◌*◌, ◌≤◌, ◌<◌, ◌∷◌, map, sym, ap, ◌∙◌}
+use Rattle.std.proofs.Common.{◌≡◌, ℕ, suc, ◌+◌, ◌*◌, ◌≤◌, ◌<◌, ◌∷◌, map, sym, ap, ◌∙◌}
 use Rattle.std.proofs.Common.{zero, true, false, List, ◌++◌, Some, None, IsTrue, refl, subst, arith}
 use Rattle.std.proofs.Common.{[], length, Option, IsSomeAnd, slice_get, length-append, append_assoc}
 use Rattle.std.specs.List.{All, AllByRecursion, flat_map, sum_by}
@@ -17,7 +17,7 @@ use Rattle.wap_asm.specs.Spellings.{operation_of, longest}
 use Rattle.wap_asm.specs.Placing.{wide}
 use Rattle.wap_asm.specs.Placed.{Leads, ArePlaceable, start}
 use Rattle.wap_asm.specs.declared.form.Form.{Form}
-use Rattle.wap_asm.specs.declared.form.Form.TheVariants.{Op, Jump, Label}
+use Rattle.wap_asm.specs.declared.form.Form.TheVariants.{Op}
 use Rattle.wap_asm.proofs.PlacedLaws.{is_placed}
 use Rattle.wap_grammar.specs.declared.program.program.Id.{Id}
 use Rattle.wap_grammar.specs.declared.program.program.Function.{Function}
@@ -37,7 +37,7 @@ use Rattle.wap_meaning.specs.coding.Needs.{Library, AreMet, literals_of, stmt_ne
 use Rattle.wap_compiled_laws.proofs.BodiesLemmas.Pooled.{IsPoolable, AllIn, all_in}
 use Rattle.wap_compiled_laws.proofs.Depths.Spots.{Layout, Ranged}
 use Rattle.wap_compiled_laws.proofs.Depths.Bodies.{layout_of, wired_at, body_told}
-use Rattle.wap_compiled_laws.proofs.Labels.Wired.{WiredForm, LeadsTo}
+use Rattle.wap_compiled_laws.proofs.Labels.Wired.{WiredForm, LeadsTo, forward, tests, backward}
 use Rattle.wap_meaning.specs.needs.Drawn.{function_needs, HasOperator}
 use Rattle.wap_meaning.specs.compiled.Pool.{use_literals, function_literals, literals_needed, pool}
 use Rattle.wap_meaning.specs.compiled.Units.{forms_of, compiled_function, compiled}
@@ -254,11 +254,11 @@ module _ (p : Program) (scoped : IsScoped p) (takes : AllTake p)
   -- ---- its forms may be placed
 
   -- a form at an index
-  at_index : {X : Type 0} (P : X → Type 0) (xs : List X) (i : ℕ) (x : X) → AllByRecursion P xs
+  at_index : {X : Type 0} (P : X → Type 0) (xs : List X) (i : ℕ) {x : X} → AllByRecursion P xs
       → slice_get xs i ≡ Some x → P x
-  at_index P [] i x all here = absurd (cc here)
-  at_index P (y ∷ xs) zero x all here = subst P (same_Some y x here) all.0
-  at_index P (y ∷ xs) (suc i) x all here = at_index P xs i x all.1 here
+  at_index P [] i all here = absurd (cc here)
+  at_index P (y ∷ xs) zero {x} all here = subst P (same_Some y x here) all.0
+  at_index P (y ∷ xs) (suc i) all here = at_index P xs i all.1 here
 
   -- an operation whose operands have room
   roomy : (form : Instr) → has_room form ≡ true
@@ -273,24 +273,21 @@ module _ (p : Program) (scoped : IsScoped p) (takes : AllTake p)
       by (Some row) is = is
 
   -- where a jump leads by its name
-  leads : (name : OpName) (i n : ℕ) → LeadsTo name i n → Leads (operation_of name) i n
+  leads : {i n : ℕ} {name : OpName} → LeadsTo i n name → Leads (operation_of name) i n
   unfolding operation_of
-  leads name i n (inl (is, less)) = subst (λ (o : OpName). Leads (operation_of o) i n) (sym is) less
-  leads name i n (inr (inl (is, less))) =
-      subst (λ (o : OpName). Leads (operation_of o) i n) (sym is) less
-  leads name i n (inr (inr (is, less))) =
-      subst (λ (o : OpName). Leads (operation_of o) i n) (sym is) less
+  leads (forward less) = less
+  leads (tests less) = less
+  leads (backward less) = less
 
   -- its forms, in its unit
   abbrev layout : Layout
   layout = layout_of (compiled p) (numbers place) f.body
 
   -- each form is an operation, a jump that knows its label, or a label that knows itself
-  wired : (k : ℕ) (form : Form) → slice_get (forms_of p f) k ≡ Some form
+  wired : (k : ℕ) {form : Form} → slice_get (forms_of p f) k ≡ Some form
       → WiredForm (Ranged layout) (forms_of p f) k form
   unfolding forms_of place pool
-  wired k form here =
-      wired_at layout (body_told (compiled p) (numbers place) f.body good.0) k form here
+  wired k here = wired_at (body_told (compiled p) (numbers place) f.body good.0) k here
 
   -- so they may be placed
   pub placeable : ArePlaceable (forms_of p f)
@@ -298,18 +295,18 @@ module _ (p : Program) (scoped : IsScoped p) (takes : AllTake p)
   placeable = record {
     ops = λ i instr here. roomy instr (fits i instr here);
     jumps = λ i n name here.
-        let jump = wired i (Jump name n) here in
+        let jump = wired i here in
         record {
           index = n;
           stands = jump.0;
-          once = λ t there. sym (wired t (Label n) there);
-          leads = leads name i n jump.1;
+          once = λ t there. sym (wired t there);
+          leads = leads jump.1;
         };
   }
     where
       fits : (i : ℕ) (instr : Instr) → slice_get (forms_of p f) i ≡ Some (Op instr)
           → has_room instr ≡ true
-      fits i instr here = at_index Fits (forms_of p f) i (Op instr) (good.1.fits None 0) here
+      fits i instr here = at_index Fits (forms_of p f) i (good.1.fits None 0) here
 
   -- the unit's function is its code
   pub code_is : function_wide f ≤ 65535
@@ -341,9 +338,9 @@ function_at_index p i f here =
     record { earlier = found.0; later = found.1; functions = found.2 }
 
 -- the unit is one that the program is compiled to
-pub compiled_is : (p : Program) → IsScoped p → AllTake p → HasRoom p → IsCompiled p (compiled p)
+pub compiled_is : {p : Program} → IsScoped p → AllTake p → HasRoom p → IsCompiled p (compiled p)
 unfolding compiled
-compiled_is p scoped takes room = record {
+compiled_is {p} scoped takes room = record {
   pool = pool p;
   none = λ i here.
       slice_get-map (compiled_function p) p.functions i

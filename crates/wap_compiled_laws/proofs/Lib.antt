@@ -2,7 +2,6 @@ pub mod Functions
 pub mod Pragmas
 pub mod Verified
 pub mod Sources
-mod Worked
 pub mod Pieces
 pub mod Expressions
 pub mod Statements

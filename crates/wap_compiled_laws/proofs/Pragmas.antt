@@ -1,16 +1,13 @@
 -- The texts of pragmas are constants of the unit.
-use Rattle.std.proofs.Common.{◌≡◌, ℕ, Bool, true, false, not, List, [], ◌∷◌, Option, Some, None}
-use Rattle.std.proofs.Common.{refl, sym, ap, ◌∙◌, subst, cond, slice_get, option_and_then, find}
+use Rattle.std.proofs.Common.{◌≡◌, ℕ, Bool, true, not, List, [], ◌∷◌, Some, None}
+use Rattle.std.proofs.Common.{refl, sym, ap, ◌∙◌, subst, cond, option_and_then, find}
 use Rattle.std.specs.List.{AllByRecursion, flat_map}
-use Rattle.std.specs.Option.{option_map_or}
 use Rattle.std.proofs.lemmas.Grind.{flat_map-append}
 use Rattle.wap_unit.specs.declared.unit.Unit.{Unit as CodeUnit}
 use Rattle.wap_unit.specs.declared.unit.Constant.{Constant}
-use Rattle.wap_unit.specs.declared.unit.Constant.TheVariants as constant
-use Rattle.wap_unit.specs.declared.unit.Pragma.{Pragma}
 use Rattle.wap_unit.specs.Strings.{string_of, string_at, holds_text, is_string}
 use Rattle.wap_grammar.specs.declared.program.program.Use.{Use}
-use Rattle.wap_grammar.specs.declared.program.program.Use.TheVariants.{Url, Access, Agent, Note}
+use Rattle.wap_grammar.specs.declared.program.program.Use.TheVariants.{Access, Agent}
 use Rattle.wap_grammar.specs.declared.program.expression.Literal.{Literal}
 use Rattle.wap_grammar.specs.declared.program.expression.Literal.TheVariants.{Str}
 use Rattle.wap_meaning.specs.coding.Constants.{HasPool}
@@ -20,27 +17,18 @@ use Rattle.wap_meaning.specs.compiled.Pool.{use_literals}
 use Rattle.wap_meaning.specs.compiled.Units.{pragmas_of, text_place}
 use Rattle.wap_compiled_laws.proofs.CodeSizes.Each.{each_front, each_back, each_both}
 use Rattle.wap_compiled_laws.proofs.Functions.{InPool}
+use Rattle.std.proofs.Common.{arith}
+use Rattle.std.proofs.lemmas.Grind.{common_steps}
 
 -- a constant with a text is a string
 is_text : (charset : ℕ) (c : Constant) (t : List ℕ) → string_of charset c ≡ Some t
     → holds_text c ≡ true
-is_text charset (constant.Int8 n) t is = absurd (cc is)
-is_text charset (constant.Int16 n) t is = absurd (cc is)
-is_text charset (constant.Int32 n) t is = absurd (cc is)
-is_text charset (constant.Float n) t is = absurd (cc is)
-is_text charset (constant.Utf8 text) t is = refl
-is_text charset constant.Empty t is = refl
-is_text charset (constant.Coded text) t is = refl
+is_text charset c t h3 = grind (arith, common_steps)
 
 -- an index with a text names a string
-pub names_string : (u : CodeUnit) (index : ℕ) (t : List ℕ) → string_at u index ≡ Some t
+pub names_string : (u : CodeUnit) (index : ℕ) {t : List ℕ} → string_at u index ≡ Some t
     → is_string u index ≡ true
-names_string u index t is = by (slice_get u.constants index) is
-  where
-    by : (o : Option Constant) → option_and_then (string_of u.charset) o ≡ Some t
-        → option_map_or holds_text o false ≡ true
-    by None is = absurd (cc is)
-    by (Some c) is = is_text u.charset c t is
+names_string u index {t} is = grind (arith, common_steps, option_and_then, is_text)
 
 module _ (u : CodeUnit) (constants : List Literal) (has : HasPool u constants) where
   -- an index names a string
@@ -50,13 +38,11 @@ module _ (u : CodeUnit) (constants : List Literal) (has : HasPool u constants) w
   -- a text among the constants
   string_there : (t : List ℕ) → InPool constants (Str t) → IsString (text_place constants t)
   string_there t there =
-      names_string u (text_place constants t) t (text_at u constants has t (there tt))
+      names_string u (text_place constants t) (text_at u constants has t (there tt))
 
   -- the texts of a pragma
   use_strings : (x : Use) → AllByRecursion (InPool constants) (use_literals x)
       → AllByRecursion IsString (flat_map indexes (pragmas_of (text_place constants) x))
-  use_strings (Url name url) all = tt
-  use_strings (Access None None span) all = tt
   use_strings (Access (Some domain) None span) all = (string_there domain all.0, tt)
   use_strings (Access None (Some path) span) all = (string_there path all.0, tt)
   use_strings (Access (Some domain) (Some path) span) all =
@@ -67,7 +53,7 @@ module _ (u : CodeUnit) (constants : List Literal) (has : HasPool u constants) w
     string_there name all.0,
     (string_there content all.1.0, (string_there scheme all.1.1.0, tt)),
   )
-  use_strings Note all = tt
+  use_strings _ all = tt
 
   -- those of all pragmas
   uses_strings : (uses : List Use) → AllByRecursion (InPool constants) (flat_map use_literals uses)
@@ -94,7 +80,4 @@ module _ (u : CodeUnit) (constants : List Literal) (has : HasPool u constants) w
   pub no_stray : (uses : List Use)
       → u.pragmas ≡ flat_map (pragmas_of (text_place constants)) uses
       → AllByRecursion (InPool constants) (flat_map use_literals uses) → stray_pragma u ≡ None
-  no_stray uses is all =
-      none_stray (flat_map indexes u.pragmas)
-      (subst (λ (ps : List Pragma). AllByRecursion IsString (flat_map indexes ps)) (sym is)
-      (uses_strings uses all))
+  no_stray uses is all = grind (arith, common_steps, none_stray, uses_strings)

@@ -57,7 +57,7 @@ code source p is =
     })
 
 pub compiled_so : (source : List ℕ) (p : Program) → IsAccepted source p → IsCompiled p (compiled p)
-compiled_so source p is = compiled_is p is.scoped (all_take source p is.spells) is.room
+compiled_so source p is = compiled_is is.scoped (all_take source p is.spells) is.room
 
 pub agree : (S : Type 0) → AgreeWithSources S
 agree S = record {

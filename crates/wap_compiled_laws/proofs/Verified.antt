@@ -25,9 +25,8 @@ verified p scoped takes room = record {
         → (o : Option Function) → slice_get p.functions index ≡ o
         → IsSound (compiled p) index code
     by index code here None at =
-        absurd (let none = (compiled_is p scoped takes room).none index at in cc (here, none))
+        absurd (let none = (compiled_is scoped takes room).none index at in cc (here, none))
     by index code here (Some f) at =
-        let found = (compiled_is p scoped takes room).some index f at in
+        let found = (compiled_is scoped takes room).some index f at in
         let same : found.0 ≡ code = same_Some found.0 code (sym found.1 ∙ here) in
-        subst (IsSound (compiled p) index) same
-        (sound p (compiled p) (compiled_is p scoped takes room).pool f found.0 index found.2)
+        subst (IsSound (compiled p) index) same (sound found.2)

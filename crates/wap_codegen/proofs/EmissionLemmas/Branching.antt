@@ -1,6 +1,6 @@
 -- Branches and exits of statements, as their forms are added.
 use Rattle.std.proofs.Common.{◌≡◌, ℕ, ◌+◌, Bool, true, false, List, [], ◌∷◌, ◌++◌, length, set}
-use Rattle.std.proofs.Common.{Result, OnOk, refl, ap, ◌∙◌, subst, arith}
+use Rattle.std.proofs.Common.{Result, OnOk, refl, ap, ◌∙◌, arith}
 use Rattle.std.proofs.lemmas.List.{length_push}
 use Rattle.std.proofs.lemmas.Result.{on_ok_weaker}
 use Rattle.wap_unit.specs.declared.row.OpName.TheVariants as op
@@ -31,25 +31,6 @@ branch_adds c body exits old tested begun chosen ended new test end first opens 
     (last ∙ ap (λ n. set ended n (Jump op.TjumpFw end)) tests))
 
 -- ---- the same, where the last call succeeds
-
--- the same code, in a loop or in none
-pub in_same : {E : Type 0} (first other : Coded) (exits : Exits) (old new : List Form)
-    (r : Result (Unit {0}) E) → first ≡ other → OnOk r (Adds first exits old new)
-    → OnOk r (Adds other exits old new)
-in_same {E} first other exits old new r same is =
-    subst (λ (coded : Coded). OnOk r (Adds coded exits old new)) same is
-
--- code that isn't changed by the loop around it
-pub in_any : {E : Type 0} (coded : Coded) (exits : Exits) (old new : List Form)
-    (r : Result (Unit {0}) E) → OnOk r (Extends coded old new) → OnOk r (Adds coded exits old new)
-in_any coded exits old new r is = on_ok_weaker r (λ extends. extends exits) is
-
--- after code that was added before
-pub in_both : {E : Type 0} (first second : Coded) (exits : Exits) (old middle new : List Form)
-    (r : Result (Unit {0}) E) → Adds first exits old middle → OnOk r (Adds second exits middle new)
-    → OnOk r (Adds (first ⨾ second) exits old new)
-in_both first second exits old middle new r is more =
-    on_ok_weaker r (λ behind. adds_both is behind) more
 
 -- ---- `break` and `continue`
 

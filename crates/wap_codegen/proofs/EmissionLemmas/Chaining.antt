@@ -8,7 +8,7 @@ use Rattle.wap_unit.specs.declared.row.OpName.TheVariants as op
 use Rattle.wap_asm.specs.declared.form.Form.{Form}
 use Rattle.wap_asm.specs.declared.form.Form.TheVariants.{Jump}
 use Rattle.wap_grammar.specs.declared.program.expression.Expr.{Expr}
-use Rattle.wap_meaning.specs.coding.Coded.{Exits, Coded, empty, ◌⨾◌, all_code, label}
+use Rattle.wap_meaning.specs.coding.Coded.{Exits, Coded, ◌⨾◌, all_code, label}
 use Rattle.wap_meaning.specs.coding.Constants.{Numbers}
 use Rattle.wap_meaning.specs.coding.Expressions.{expr_code, chain_code, joined_code, assigned_code}
 use Rattle.wap_meaning.specs.coding.Expressions.{cond_code}
@@ -32,10 +32,19 @@ adds_up_to coded exits old new other same is =
     subst (λ (forms : List Form). Adds coded exits old forms) same is
 
 -- the same code
-pub adds_same : (one other : Coded) (exits : Exits) (old new : List Form) → one ≡ other
+pub adds_same : {one other : Coded} {exits : Exits} {old new : List Form} → one ≡ other
     → Adds one exits old new → Adds other exits old new
-adds_same one other exits old new same is =
-    subst (λ (coded : Coded). Adds coded exits old new) same is
+adds_same {exits} {old} {new} = subst (λ (coded : Coded). Adds coded exits old new)
+
+-- the same code, in whatever loop
+pub extends_same : {one other : Coded} {old new : List Form} → one ≡ other → Extends one old new
+    → Extends other old new
+extends_same same adds exits = adds_same same (adds exits)
+
+-- one part after the other, in whatever loop
+pub extends_both : {first second : Coded} {old middle new : List Form} → Extends first old middle
+    → Extends second middle new → Extends (first ⨾ second) old new
+extends_both one two exits = adds_both (one exits) (two exits)
 
 -- an operand, by how its operator joins it
 pub operand_adds : (join : Joint) (second : Coded) (old begun behind new : List Form) (jump : ℕ)
@@ -64,10 +73,7 @@ pub leaves_more : {X : Type 0} (f : X → Coded) (exits : Exits) (xs : List X) (
     → Leaves f exits xs i old here → Adds (f x) exits here next
     → Leaves f exits xs (i + 1) old next
 leaves_more f exits xs i x old here next within is leaves adds last more =
-    leaves last
-    (adds_same (f x ⨾ all_code (map f (drop (i + 1) xs))) (all_code (map f (drop i xs)))
-    exits here last
-    (ap (λ y. f y ⨾ all_code (map f (drop (i + 1) xs))) is
+    leaves last (adds_same (ap (λ y. f y ⨾ all_code (map f (drop (i + 1) xs))) is
     ∙ sym (at_drop_more (λ ys. all_code (map f ys)) xs i x within))
     (adds_both adds more))
 
@@ -106,25 +112,10 @@ pub leaves_none : {X : Type 0} (f : X → Coded) (exits : Exits) (xs : List X) (
     (old here : List Form) → length xs ≤ i → Leaves f exits xs i old here
     → Adds (all_code (map f xs)) exits old here
 leaves_none f exits xs i old here past leaves =
-    leaves here
-    (adds_same empty (all_code (map f (drop i xs))) exits here here
-    (ap (λ ys. all_code (map f ys)) (sym (drop_of_length-le xs past)))
+    leaves here (adds_same (ap (λ ys. all_code (map f ys)) (sym (drop_of_length-le xs past)))
     (adds_empty exits here here refl))
 
 -- ---- what the last call of several adds, where it succeeds
-
--- the same code
-pub after_same : {E : Type 0} (one other : Coded) (old new : List Form) (r : Result (Unit {0}) E)
-    → one ≡ other → OnOk r (Extends one old new) → OnOk r (Extends other old new)
-after_same {E} one other old new r same is =
-    subst (λ (coded : Coded). OnOk r (Extends coded old new)) same is
-
--- behind code that was added before
-pub after_both : {E : Type 0} (first second : Coded) (old middle new : List Form)
-    (r : Result (Unit {0}) E) → Extends first old middle → OnOk r (Extends second middle new)
-    → OnOk r (Extends (first ⨾ second) old new)
-after_both first second old middle new (Ok x) one two = λ exits. adds_both (one exits) (two exits)
-after_both first second old middle new (Err e) one two = tt
 
 pub after_assignment : {E : Type 0} (variable : ℕ) (operator : Option BinOp) (right : Coded)
     (old begun behind new : List Form) (r : Result (Unit {0}) E)

@@ -52,7 +52,7 @@ both_follow first second one two end again p q at few =
 pub adds_both : {first second : Coded} {exits : Exits} {old middle new : List Form}
     → Adds first exits old middle → Adds second exits middle new
     → Adds (first ⨾ second) exits old new
-adds_both {first} {second} {exits} {old} {middle} {new} one two = record {
+adds_both {first} {second} {exits} {old} {middle} one two = record {
   forms = two.forms
       ∙ ap (λ (forms : List Form). forms ++ second.forms exits (length middle)) one.forms
       ∙ append_assoc old (first.forms exits (length old)) (second.forms exits (length middle))
@@ -66,7 +66,7 @@ same_adds : {one other : Coded} {exits : Exits} {old new : List Form}
     → one.size ≡ other.size
     → ((exits : Exits) (at : ℕ) → one.forms exits at ≡ other.forms exits at)
     → Adds one exits old new → Adds other exits old new
-same_adds {one} {other} {exits} {old} {new} size forms is = record {
+same_adds {exits} {old} size forms is = record {
   forms = is.forms ∙ ap (λ (forms : List Form). old ++ forms) (forms exits (length old));
   sized = is.sized ∙ ap (λ size. length old + size) size;
   follows = λ end again p q at few.
@@ -79,7 +79,7 @@ same_adds {one} {other} {exits} {old} {new} size forms is = record {
 pub adds_assoc : (first second third : Coded) {exits : Exits} {old new : List Form}
     → Adds (first ⨾ (second ⨾ third)) exits old new
     → Adds ((first ⨾ second) ⨾ third) exits old new
-adds_assoc first second third {exits} {old} {new} is =
+adds_assoc first second third {exits} is =
     same_adds (omega arith)
     (λ exits at. sym (append_assoc (first.forms exits at) (second.forms exits (at + first.size))
     (third.forms exits (at + first.size + second.size)))
@@ -104,7 +104,7 @@ pub adds_jump : (name : OpName) (count label : ℕ) {body : Coded} {exits : Exit
     → opened ≡ old ++ Jump name 0 ∷ [] → Adds body exits opened behind
     → label ≡ length old + 1 + count → new ≡ set behind (length old) (Jump name label)
     → Adds (jump_over name count ⨾ body) exits old new
-adds_jump name count label {body} {exits} {old} {opened} {behind} {new} within opens adds counts
+adds_jump name count label {body} {exits} {old} {opened} {behind} within opens adds counts
     closes =
     let after = length_push old (Jump name 0) in
     let at : length opened ≡ length old + 1 = ap length opens ∙ after in

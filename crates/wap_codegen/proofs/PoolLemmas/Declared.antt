@@ -1,10 +1,9 @@
 -- Names that are collected by one part of a function after the other.
 use Rattle.std.proofs.Common.{◌≡◌, ℕ, ◌+◌, ◌<◌, ◌≤◌, List, [], ◌∷◌, ◌++◌, length, map, drop, get_or}
-use Rattle.std.proofs.Common.{Option, Some, None, Result, Ok, Err, OnOk, refl, sym, ap, ◌∙◌, subst}
+use Rattle.std.proofs.Common.{Option, Some, None, refl, sym, ap, ◌∙◌, subst}
 use Rattle.std.specs.List.{flat_map}
 use Rattle.std.proofs.lemmas.List.{at_drop_more, at_drop_all}
 use Rattle.std.proofs.lemmas.List.Elements.{filter_map-append}
-use Rattle.std.proofs.lemmas.Result.{on_ok_weaker}
 use Rattle.wap_grammar.specs.declared.program.program.Id.{Id}
 use Rattle.wap_grammar.specs.declared.program.program.Use.{Use}
 use Rattle.wap_grammar.specs.declared.program.program.Function.{Function}
@@ -42,14 +41,14 @@ declaring_none ms old new none is =
     record { names = is ∙ sym (ap (with_names old) none) }
 
 -- the same is declared
-pub declaring_same : {xs : List Mention} (ys : List Mention) {old new : List (List ℕ)}
-    → xs ≡ ys → Declaring xs old new → Declaring ys old new
-declaring_same {xs} ys {old} {new} is = subst (λ (ms : List Mention). Declaring ms old new) is
+pub declaring_same : {xs ys : List Mention} {old new : List (List ℕ)} → xs ≡ ys
+    → Declaring xs old new → Declaring ys old new
+declaring_same {old} {new} = subst (λ (ms : List Mention). Declaring ms old new)
 
 -- some are declared, and then others
 pub declaring_both : {xs ys : List Mention} {old middle new : List (List ℕ)}
     → Declaring xs old middle → Declaring ys middle new → Declaring (xs ++ ys) old new
-declaring_both {xs} {ys} {old} {middle} {new} one two = record {
+declaring_both {xs} {ys} {old} one two = record {
   names = two.names ∙ ap (λ (names : List (List ℕ)). with_names names (names_declared ys)) one.names
       ∙ sym (with_names-append old (names_declared xs) (names_declared ys))
       ∙ sym (ap (with_names old) (filter_map-append declared xs ys));
@@ -58,28 +57,9 @@ declaring_both {xs} {ys} {old} {middle} {new} one two = record {
 -- the same, where the first declares nothing
 pub declaring_after : (xs : List Mention) {ys : List Mention} {old new : List (List ℕ)}
     → names_declared xs ≡ [] → Declaring ys old new → Declaring (xs ++ ys) old new
-declaring_after xs {ys} {old} {new} none =
-    declaring_both (declaring_none xs old old none refl)
+declaring_after xs {old} none = declaring_both (declaring_none xs old old none refl)
 
 -- ---- where the last call succeeds
-
--- the same is declared
-pub after_same : {E : Type 0} (xs ys : List Mention) (old new : List (List ℕ))
-    (r : Result (Unit {0}) E) → xs ≡ ys → OnOk r (Declaring xs old new)
-    → OnOk r (Declaring ys old new)
-after_same xs ys old new r same = on_ok_weaker r (declaring_same ys same)
-
--- what is declared before
-pub after_both : {E : Type 0} (xs ys : List Mention) (old middle new : List (List ℕ))
-    (r : Result (Unit {0}) E) → Declaring xs old middle → OnOk r (Declaring ys middle new)
-    → OnOk r (Declaring (xs ++ ys) old new)
-after_both xs ys old middle new r one = on_ok_weaker r (λ two. declaring_both one two)
-
--- what stands before and declares nothing
-pub after_none : {E : Type 0} (xs ys : List Mention) (old new : List (List ℕ))
-    (r : Result (Unit {0}) E) → names_declared xs ≡ [] → OnOk r (Declaring ys old new)
-    → OnOk r (Declaring (xs ++ ys) old new)
-after_none xs ys old new r none = on_ok_weaker r (declaring_after xs none)
 
 -- ---- loops
 

@@ -1,18 +1,17 @@
 -- The constants of a program are those that its parts need.
-use Rattle.std.proofs.Common.{◌≡◌, List, [], ◌∷◌, ◌++◌, Option, Some, None, refl, sym, ap, ap₂, ◌∙◌}
-use Rattle.std.specs.List.{flat_map, filter_map}
+use Rattle.std.proofs.Common.{◌≡◌, List, [], ◌∷◌, ◌++◌, Option, Some, None, refl, ap, ap₂, ◌∙◌}
+use Rattle.std.specs.List.{flat_map}
 use Rattle.std.proofs.Common.{ℕ}
 use Rattle.std.proofs.lemmas.Grind.{flat_map-append}
 use Rattle.wap_grammar.specs.declared.program.program.Use.{Use}
 use Rattle.wap_grammar.specs.declared.program.program.Use.TheVariants.{Url, Access, Agent, Note}
-use Rattle.wap_grammar.specs.declared.program.program.Function.{Function}
 use Rattle.wap_grammar.specs.declared.program.program.Program.{Program}
 use Rattle.wap_grammar.specs.declared.program.expression.Literal.{Literal}
 use Rattle.wap_grammar.specs.declared.program.expression.Literal.TheVariants as literal
-use Rattle.wap_meaning.specs.Names.{Names, names_in, url_in, url_of}
+use Rattle.wap_meaning.specs.Names.{Names, names_in, url_of}
 use Rattle.wap_meaning.specs.coding.Constants.{pooled}
 use Rattle.wap_meaning.specs.coding.Needs.{Need, Constant, Operator, Variable, Local, Other}
-use Rattle.wap_meaning.specs.coding.Needs.{Library, literals_of, stmt_needs}
+use Rattle.wap_meaning.specs.coding.Needs.{Library, literals_of}
 use Rattle.wap_meaning.specs.compiled.Pool.{text_if, use_literals, function_literals}
 use Rattle.wap_meaning.specs.compiled.Pool.{literals_needed, pool}
 use Rattle.wap_codegen.specs.pool.Names.{names_of}

@@ -11,7 +11,7 @@ use Rattle.wap_grammar.specs.declared.program.program.Use.{Use}
 use Rattle.wap_grammar.specs.declared.program.program.Use.TheVariants.{Url, Access, Agent, Note}
 use Rattle.wap_grammar.specs.declared.program.program.Function.{Function}
 use Rattle.wap_grammar.specs.declared.program.program.Program.{Program}
-use Rattle.wap_scope.specs.Names.{Mention, Declares, Refers, Jumps, declared, names_declared, said}
+use Rattle.wap_scope.specs.Names.{Declares, Refers, Jumps, declared, names_declared, said}
 use Rattle.wap_scope.specs.Names.{function_named, units}
 use Rattle.wap_scope.specs.Scoped.{is_among, IsScoped}
 use Rattle.wap_scope.proofs.InOrder.{in_order}

@@ -5,7 +5,6 @@ use Rattle.std.proofs.Common.{subst, drop_of_length-le}
 use Rattle.std.specs.List.{flat_map}
 use Rattle.std.proofs.lemmas.Grind.{flat_map-append}
 use Rattle.std.proofs.lemmas.List.{at_drop_more}
-use Rattle.std.proofs.lemmas.Result.{on_ok_weaker}
 use Rattle.wap_value.specs.declared.operator.BinOp.{BinOp}
 use Rattle.wap_grammar.specs.declared.program.program.Id.{Id}
 use Rattle.wap_grammar.specs.declared.program.expression.Literal.{Literal}
@@ -33,7 +32,7 @@ pools_none old new is = record {
 -- some needs, and then others
 pub pools_both : {xs ys : List Need} {old middle new : Numbers} → Pools xs old middle
     → Pools ys middle new → Pools (xs ++ ys) old new
-pools_both {xs} {ys} {old} {middle} {new} one two = record {
+pools_both {xs} {ys} {old} one two = record {
   names = two.names ∙ one.names;
   pool = two.pool
       ∙ ap₂ (λ (pool : List Literal) (names : Names).
@@ -45,9 +44,9 @@ pools_both {xs} {ys} {old} {middle} {new} one two = record {
 }
 
 -- the same needs
-pub pools_same : (xs ys : List Need) (old new : Numbers) → xs ≡ ys → Pools xs old new
+pub pools_same : {xs ys : List Need} {old new : Numbers} → xs ≡ ys → Pools xs old new
     → Pools ys old new
-pools_same xs ys old new same is = subst (λ (needs : List Need). Pools needs old new) same is
+pools_same {old} {new} = subst (λ (needs : List Need). Pools needs old new)
 
 -- one constant
 pub pools_one : (l : Literal) (old new : Numbers) → new.names ≡ old.names
@@ -90,17 +89,6 @@ pools_assign v (Some op) needs old new is = record { names = is.names; pool = is
 
 -- ---- where the last call succeeds
 
--- the same needs
-pub after_same : {E : Type 0} (xs ys : List Need) (old new : Numbers) (r : Result (Unit {0}) E)
-    → xs ≡ ys → OnOk r (Pools xs old new) → OnOk r (Pools ys old new)
-after_same xs ys old new r same is = on_ok_weaker r (pools_same xs ys old new same) is
-
--- needs that are added before
-pub after_both : {E : Type 0} (xs ys : List Need) (old middle new : Numbers)
-    (r : Result (Unit {0}) E) → Pools xs old middle → OnOk r (Pools ys middle new)
-    → OnOk r (Pools (xs ++ ys) old new)
-after_both xs ys old middle new r one more = on_ok_weaker r (λ two. pools_both one two) more
-
 -- one constant
 pub after_one : {E : Type 0} (l : Literal) (old new : Numbers) (r : Result (Unit {0}) E)
     → OnOk r (new.names ≡ old.names) → OnOk r (new.pool ≡ with_literal old.pool l)
@@ -134,9 +122,7 @@ pub leaves_more : {X : Type 0} (f : X → List Need) (xs : List X) (i : ℕ) (x 
     (old here next : Numbers) → i < length xs → x ≡ get_or xs i x
     → Leaves f xs i old here → Pools (f x) here next → Leaves f xs (i + 1) old next
 leaves_more f xs i x old here next within is leaves pools last more =
-    leaves last
-    (pools_same (f x ++ flat_map f (drop (i + 1) xs)) (flat_map f (drop i xs)) here last
-    (ap (λ y. f y ++ flat_map f (drop (i + 1) xs)) is
+    leaves last (pools_same (ap (λ y. f y ++ flat_map f (drop (i + 1) xs)) is
     ∙ sym (at_drop_more (λ ys. flat_map f ys) xs i x within))
     (pools_both pools more))
 
@@ -144,7 +130,5 @@ leaves_more f xs i x old here next within is leaves pools last more =
 pub leaves_none : {X : Type 0} (f : X → List Need) (xs : List X) (i : ℕ) (old here : Numbers)
     → length xs ≤ i → Leaves f xs i old here → Pools (flat_map f xs) old here
 leaves_none f xs i old here past leaves =
-    leaves here
-    (pools_same [] (flat_map f (drop i xs)) here here
-    (ap (λ ys. flat_map f ys) (sym (drop_of_length-le xs past)))
+    leaves here (pools_same (ap (λ ys. flat_map f ys) (sym (drop_of_length-le xs past)))
     (pools_none here here refl))

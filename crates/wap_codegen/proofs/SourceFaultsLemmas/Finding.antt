@@ -1,5 +1,5 @@
 -- A source is accepted, or it has a fault.
-use Rattle.std.proofs.Common.{◌≡◌, ℕ, suc, ◌+◌, ◌<◌, ◌≤◌, ◌^◌, leb, List, []}
+use Rattle.std.proofs.Common.{◌≡◌, ℕ, suc, ◌<◌, ◌≤◌, ◌^◌, leb, List, []}
 use Rattle.std.proofs.Common.{◌∷◌, length, take, Option, Some, None, Result, Ok, Err, refl, sym}
 use Rattle.std.proofs.Common.{◌∙◌, ◌⊎◌, inl, inr, arith, All}
 use Rattle.std.specs.Str.{IsUtf8, is_utf8}

@@ -30,7 +30,8 @@ pub record AreNumbersOf (p : Program) (numbers : Numbers) : Type 0 where
 
 -- ---- functions
 
--- code can be made for a function: its variables stand once, and there are no more than a byte counts
+-- code can be made for a function: its variables stand once, and there are no more of them than a
+-- byte counts
 pub record CanBeMade (p : Program) (f : Function) : Type 0 where
   pub forms : HasForms p f
   pub once : AreOnce (variables f)

@@ -1,7 +1,7 @@
 -- The functions of a unit that a program is compiled to come to what the program's come to.
-use Rattle.std.proofs.Common.{◌≡◌, ℕ, ◌+◌, cond, List, [], ◌∷◌, ◌++◌, length, Option, Some, None}
-use Rattle.std.proofs.Common.{map, replicate, refl, sym, ap, ◌∙◌, subst, arith, slice_get, Bool}
-use Rattle.std.proofs.Common.{length-append, eqb, inl, inr}
+use Rattle.std.proofs.Common.{◌≡◌, ℕ, ◌+◌, List, [], ◌∷◌, ◌++◌, length, Option, Some, None}
+use Rattle.std.proofs.Common.{map, replicate, refl, sym, ap, ◌∙◌, subst, arith, slice_get}
+use Rattle.std.proofs.Common.{length-append}
 use Rattle.std.proofs.lemmas.List.{length-replicate}
 use Rattle.std.proofs.lemmas.Bool.Decides.{eqb_tells}
 use Rattle.std.specs.List.{flat_map}
@@ -15,7 +15,7 @@ use Rattle.wap_grammar.specs.declared.program.program.Function.{Function as Sour
 use Rattle.wap_grammar.specs.declared.program.program.Program.{Program}
 use Rattle.wap_grammar.specs.declared.program.statement.Stmt.{Stmt}
 use Rattle.wap_execution.specs.Frames.{Function, code_of, code_at, begun}
-use Rattle.wap_execution.specs.Outcomes.{value, stuck, Ended}
+use Rattle.wap_execution.specs.Outcomes.{value, Ended}
 use Rattle.wap_execution.specs.Running.{ended, Calls, at_place, goes}
 use Rattle.wap_execution.specs.laws.Forgetting.{forgotten}
 use Rattle.wap_meaning.specs.Names.{names_in}
@@ -36,6 +36,7 @@ use Rattle.wap_compiled_laws.proofs.Pieces.Pieces.{Holds, holds_all, Site, spot}
 use Rattle.wap_compiled_laws.proofs.Expressions.Expressions.{around, Met, met_front, met_back}
 use Rattle.wap_compiled_laws.proofs.Statements.Statements.{leaves, Runs, empty_runs, runs_both}
 use Rattle.wap_compiled_laws.proofs.Statements.Running.{runs}
+use Rattle.std.proofs.lemmas.Grind.{common_steps}
 
 -- ---- statements and their forms
 
@@ -47,9 +48,7 @@ module _ {S : Type 0} (site : Site S) (numbers : Numbers)
       (all_code (map (stmt_code numbers) ss))
   all_statements [] met = empty_runs site
   all_statements (s ∷ ss) met =
-      runs_both site (run (around site numbers) s) (in_order (map (run (around site numbers)) ss))
-      (stmt_code numbers s) (all_code (map (stmt_code numbers) ss))
-      (runs site numbers counted s (met_front site numbers (stmt_needs s) _ met))
+      runs_both site (runs site numbers counted s (met_front site numbers (stmt_needs s) _ met))
       (all_statements ss (met_back site numbers (stmt_needs s) _ met))
 
   -- where the site's forms are a body's code, it does what the body means
@@ -77,8 +76,7 @@ module _ {S : Type 0} (site : Site S) (numbers : Numbers)
           → leaves site None end [] ending variables turns state
           ≡ ended (value (result_of ending)) turns state
       by end last goes_on variables turns state =
-          at_end site.string site.call site.falls site.function (site.pos end) variables [] turns
-          state last
+          at_end site.string site.call site.falls site.function variables [] last
       by end last breaks variables turns state = refl
       by end last continues variables turns state = refl
       by end last (returns v) variables turns state = refl
@@ -133,17 +131,7 @@ module _ {S : Type 0} (string : ℕ) (call : Calls S) (gives : GiveNoTurns call)
   -- with any they are
   same_code : function_runs string call p (Some f) arguments turns state
       ≡ forgotten (code_runs string call function (Some code) arguments turns state)
-  same_code = elim (eqb_tells (length arguments) (length f.params)) [
-    | inl many ↦
-        ap (λ (b : Bool). cond b source (ended stuck turns state)) many.0
-        ∙ same_body many.1
-        ∙ ap (λ (b : Bool). forgotten (cond b target (ended stuck turns state)))
-        (sym (ap (eqb (length arguments)) coded.parameters ∙ many.0))
-    | inr other ↦
-        ap (λ (b : Bool). cond b source (ended stuck turns state)) other.0
-        ∙ ap (λ (b : Bool). forgotten (cond b target (ended stuck turns state)))
-        (sym (ap (eqb (length arguments)) coded.parameters ∙ other.0))
-  ]
+  same_code = grind (arith, common_steps, eqb_tells, source, same_body, target)
 
 -- a function that is there, and none
 same_function : {S : Type 0} (string : ℕ) (call : Calls S) → GiveNoTurns call → (p : Program)

@@ -1,5 +1,5 @@
 -- What is needed stands in the pool, under its number.
-use Rattle.std.proofs.Common.{◌≡◌, ℕ, zero, suc, Bool, true, false, ◌||◌, cond, ltb, List, [], ◌∷◌}
+use Rattle.std.proofs.Common.{◌≡◌, ℕ, zero, suc, Bool, true, false, ◌||◌, cond, List, [], ◌∷◌}
 use Rattle.std.proofs.Common.{◌++◌, map, ℤ, pos, negsuc, Some, refl, sym, ap, ◌∙◌}
 use Rattle.std.proofs.Common.{slice_get, option_and_then, option_map}
 use Rattle.std.specs.Cmp.{signed_Decides}
@@ -14,6 +14,8 @@ use Rattle.wap_meaning.specs.Expressions.{value_of}
 use Rattle.wap_meaning.specs.coding.Constants.{same_literal, is_in, place_in, with_literal, pooled}
 use Rattle.wap_meaning.specs.coding.Constants.{integer_constant, constant_for, HasPool}
 use Rattle.wap_grammar.specs.declared.program.expression.Literal.TheVariants as literal
+use Rattle.std.proofs.Common.{arith}
+use Rattle.std.proofs.lemmas.Grind.{common_steps}
 
 -- ---- literals of a pool
 
@@ -33,9 +35,7 @@ same_is _ _ same = absurd (cc same)
 is_same : (l : Literal) → IsPoolable l → same_literal l l ≡ true
 is_same (literal.Int a) able = (signed_Decides a a).1 refl
 is_same (literal.Str s) able = (bytes_decides s s).1 refl
-is_same literal.Float able = absurd able
-is_same (literal.Bool truth) able = absurd able
-is_same literal.Invalid able = absurd able
+is_same _ able = absurd able
 
 -- what is in the pool stands at its place
 stands : (l : Literal) (pool : List Literal) → is_in l pool ≡ true
@@ -74,19 +74,11 @@ in_last l able (x ∷ pool) = by (same_literal l x) (in_last l able pool)
 -- what is in a pool stays in it
 kept : (l x : Literal) (pool : List Literal) → is_in l pool ≡ true
     → is_in l (with_literal pool x) ≡ true
-kept l x pool there = by (is_in x pool)
-  where
-    by : (known : Bool) → is_in l (cond known pool (pool ++ x ∷ [])) ≡ true
-    by true = there
-    by false = in_more l pool (x ∷ []) there
+kept l x pool there = grind (arith, common_steps, in_more)
 
 -- what is added is in it
 added : (l : Literal) → IsPoolable l → (pool : List Literal) → is_in l (with_literal pool l) ≡ true
-added l able pool = by (is_in l pool) refl
-  where
-    by : (known : Bool) → is_in l pool ≡ known → is_in l (cond known pool (pool ++ l ∷ [])) ≡ true
-    by true there = there
-    by false there = in_last l able pool
+added l able pool = grind (arith, common_steps, in_last)
 
 -- what is in a pool stays in it, however many are added
 pub kept_on : (l : Literal) (pool more : List Literal) → is_in l pool ≡ true
@@ -111,36 +103,12 @@ all_in pool (l ∷ needed) = (
 
 -- the constant of an integer has its value
 integer_is : (charset : ℕ) (z : ℤ) → constant_of charset (integer_constant z) ≡ Some (Int z)
-integer_is charset (pos n) = by (ltb n 128) (ltb n 32768)
-  where
-    by : (short medium : Bool) → constant_of charset (cond short
-        (Rattle.wap_unit.specs.declared.unit.Constant.TheVariants.Int8 (pos n)) (cond medium
-        (Rattle.wap_unit.specs.declared.unit.Constant.TheVariants.Int16 (pos n))
-        (Rattle.wap_unit.specs.declared.unit.Constant.TheVariants.Int32 (pos n))))
-        ≡ Some (Int (pos n))
-    by true medium = refl
-    by false true = refl
-    by false false = refl
-integer_is charset (negsuc n) = by (ltb n 128) (ltb n 32768)
-  where
-    by : (short medium : Bool) → constant_of charset (cond short
-        (Rattle.wap_unit.specs.declared.unit.Constant.TheVariants.Int8 (negsuc n)) (cond medium
-        (Rattle.wap_unit.specs.declared.unit.Constant.TheVariants.Int16 (negsuc n))
-        (Rattle.wap_unit.specs.declared.unit.Constant.TheVariants.Int32 (negsuc n))))
-        ≡ Some (Int (negsuc n))
-    by true medium = refl
-    by false true = refl
-    by false false = refl
+integer_is charset z = grind (arith, common_steps, pos, negsuc)
 
 -- the constant of a literal has its value
 constant_is : (charset : ℕ) (l : Literal) → IsPoolable l
     → constant_of charset (constant_for l) ≡ Some (value_of l)
-constant_is charset (literal.Int z) able = integer_is charset z
-constant_is charset (literal.Str []) able = refl
-constant_is charset (literal.Str (c ∷ cs)) able = refl
-constant_is charset literal.Float able = absurd able
-constant_is charset (literal.Bool truth) able = absurd able
-constant_is charset literal.Invalid able = absurd able
+constant_is charset l h2 = grind (arith, common_steps, integer_is)
 
 -- the constant of a text is this text
 text_is : (charset : ℕ) (t : List ℕ) → string_of charset (constant_for (literal.Str t)) ≡ Some t
@@ -166,12 +134,9 @@ module _ (u : CodeUnit) (pool : List Literal) (has : HasPool u pool) where
   pub literal_at : (l : Literal) → IsPoolable l → is_in l pool ≡ true
       → constant_at u (place_in l pool) ≡ Some (value_of l)
   literal_at l able there =
-      ap (option_and_then (constant_of u.charset)) (constant_there l there)
-      ∙ constant_is u.charset l able
+      grind (arith, common_steps, option_and_then, constant_there, constant_is)
 
   -- and so is a text
   pub text_at : (t : List ℕ) → is_in (literal.Str t) pool ≡ true
       → string_at u (place_in (literal.Str t) pool) ≡ Some t
-  text_at t there =
-      ap (option_and_then (string_of u.charset)) (constant_there (literal.Str t) there)
-      ∙ text_is u.charset t
+  text_at t there = grind (arith, common_steps, option_and_then, constant_there, text_is)

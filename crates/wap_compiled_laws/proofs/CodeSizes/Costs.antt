@@ -69,9 +69,9 @@ fits_both (form ∷ some) other ones twos = (ones.0, fits_both some other ones.1
 
 module _ (inside : Bool) where
   -- one piece after the other
-  pub costs_both : (first second : Coded) (m n : ℕ) → Costs inside first m
-      → Costs inside second n → Costs inside (first ⨾ second) (m + n)
-  costs_both first second m n ones twos = record {
+  pub costs_both : {first second : Coded} {m n : ℕ} → Costs inside first m → Costs inside second n
+      → Costs inside (first ⨾ second) (m + n)
+  costs_both {first} {second} ones twos = record {
     fits = λ exits i.
         fits_both (first.forms exits i) (second.forms exits (i + first.size)) (ones.fits exits i)
         (twos.fits exits (i + first.size));
@@ -85,26 +85,24 @@ module _ (inside : Bool) where
   }
 
   -- the same size
-  pub costs_same : (coded : Coded) (m n : ℕ) → m ≡ n → Costs inside coded m
-      → Costs inside coded n
-  costs_same coded m n is costs = subst (Costs inside coded) is costs
+  pub costs_same : {coded : Coded} {m n : ℕ} → m ≡ n → Costs inside coded m → Costs inside coded n
+  costs_same {coded} is costs = subst (Costs inside coded) is costs
 
   -- one form
-  pub costs_one : (form : Exits → ℕ → Form) (n : ℕ)
+  pub costs_one : {form : Exits → ℕ → Form} {n : ℕ}
       → ((exits : Exits) (i : ℕ) → Fits (form exits i))
       → ((exits : Exits) (i : ℕ) → Allowed inside exits → cost (form exits i) ≡ n)
       → Costs inside (one form) n
-  costs_one form n fits costs = record {
+  costs_one {form} fits costs = record {
     fits = λ exits i. (fits exits i, tt);
     costs = λ exits i allowed.
         omega (arith, sum_by-cons cost (form exits i) [], costs exits i allowed);
   }
 
   -- an operation
-  pub costs_op : (form : Instr) (n : ℕ) → has_room form ≡ true → cost (Op form) ≡ n
+  pub costs_op : {form : Instr} {n : ℕ} → has_room form ≡ true → cost (Op form) ≡ n
       → Costs inside (one (λ exits at. Op form)) n
-  costs_op form n room is =
-      costs_one (λ exits at. Op form) n (λ exits i. room) (λ exits i allowed. is)
+  costs_op room is = costs_one (λ exits i. room) (λ exits i allowed. is)
 
   -- no form
   pub costs_empty : Costs inside empty 0
@@ -113,33 +111,27 @@ module _ (inside : Bool) where
   -- a label
   pub costs_label : Costs inside label 0
   unfolding wide_size
-  costs_label = costs_one (λ exits at. Label at) 0 (λ exits i. tt) (λ exits i allowed. refl)
+  costs_label = costs_one (λ exits i. tt) (λ exits i allowed. refl)
 
   -- a jump forward
   pub costs_over : (count : ℕ) → Costs inside (jump_over op.JumpFw count) 3
   unfolding wide_size operation_of longest
-  costs_over count =
-      costs_one (λ exits at. Jump op.JumpFw (at + 1 + count)) 3 (λ exits i. tt)
-      (λ exits i allowed. refl)
+  costs_over count = costs_one (λ exits i. tt) (λ exits i allowed. refl)
 
   -- a conditional jump forward
   pub costs_test : (count : ℕ) → Costs inside (jump_over op.TjumpFw count) 3
   unfolding wide_size operation_of longest
-  costs_test count =
-      costs_one (λ exits at. Jump op.TjumpFw (at + 1 + count)) 3 (λ exits i. tt)
-      (λ exits i allowed. refl)
+  costs_test count = costs_one (λ exits i. tt) (λ exits i allowed. refl)
 
   -- a jump back
   pub costs_before : (count : ℕ) → Costs inside (jump_before op.JumpBw count) 3
   unfolding wide_size operation_of longest
-  costs_before count =
-      costs_one (λ exits at. Jump op.JumpBw (at - count)) 3 (λ exits i. tt)
-      (λ exits i allowed. refl)
+  costs_before count = costs_one (λ exits i. tt) (λ exits i allowed. refl)
 
   -- the body of a loop
-  pub costs_within : (breaks continues : ℕ) (body : Coded) (n : ℕ) → Costs true body n
+  pub costs_within : (breaks continues : ℕ) {body : Coded} {n : ℕ} → Costs true body n
       → Costs inside (within breaks continues body) n
-  costs_within breaks continues body n costs = record {
+  costs_within breaks continues costs = record {
     fits = λ exits i. costs.fits (Some (i + breaks, i + continues)) i;
     costs = λ exits i allowed. costs.costs (Some (i + breaks, i + continues)) i tt;
   }
@@ -147,8 +139,8 @@ module _ (inside : Bool) where
 -- ---- operands
 
 -- a number that has room in a byte
-pub byte_fits : (a : ℕ) → a < 256 → (nat_lt a 256 && (nat_lt 0 1 && nat_lt 0 1)) ≡ true
-byte_fits a less = rw (lt-ltb a 256 less) refl
+pub byte_fits : {a : ℕ} → a < 256 → (nat_lt a 256 && (nat_lt 0 1 && nat_lt 0 1)) ≡ true
+byte_fits {a} less = rw (lt-ltb a 256 less) refl
 
 -- one that has room in two bytes
 pub word_fits : (a : ℕ) → a < 65536 → (nat_lt a 65536 && (nat_lt 0 1 && nat_lt 0 1)) ≡ true
@@ -160,7 +152,7 @@ pub library_fits : (a b : ℕ) → a < 256 → b < 65536
 library_fits a b less few = rw (lt-ltb a 256 less) (rw (lt-ltb b 65536 few) refl)
 
 -- a URL, a name and how many arguments
-pub address_fits : (a b c : ℕ) → a < 65536 → b < 65536 → c < 256
+pub address_fits : {a b c : ℕ} → a < 65536 → b < 65536 → c < 256
     → (nat_lt a 65536 && (nat_lt b 65536 && nat_lt c 256)) ≡ true
-address_fits a b c one two few =
+address_fits {a} {b} {c} one two few =
     rw (lt-ltb a 65536 one) (rw (lt-ltb b 65536 two) (rw (lt-ltb c 256 few) refl))

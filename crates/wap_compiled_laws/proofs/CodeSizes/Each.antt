@@ -26,10 +26,10 @@ each_of P f [] all = tt
 each_of P f (x ∷ xs) all = (all.0, each_of P f xs all.1)
 
 -- what follows of each
-pub each_then : {X : Type 0} (P Q : X → Type 0) → ((x : X) → P x → Q x) → (xs : List X)
+pub each_then : {X : Type 0} {P Q : X → Type 0} → ((x : X) → P x → Q x) → (xs : List X)
     → AllByRecursion P xs → AllByRecursion Q xs
-each_then P Q then [] all = tt
-each_then P Q then (x ∷ xs) all = (then x all.0, each_then P Q then xs all.1)
+each_then then [] all = tt
+each_then then (x ∷ xs) all = (then x all.0, each_then then xs all.1)
 
 -- what is so of everything is so of each
 pub each_any : {X : Type 0} (xs : List X) → AllByRecursion (λ (x : X). Unit {0}) xs

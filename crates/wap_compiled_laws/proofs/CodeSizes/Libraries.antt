@@ -25,9 +25,9 @@ pub record IsRow (row : ℕ × ℕ × ℕ) : Type 0 where
   pub low : row.0 < 65536
   pub small : row.1 < 256
 
-counted : (o : Option ℕ) (n : ℕ) → option_map_or (λ m. nat_eq m n) o false ≡ true → o ≡ Some n
-counted None n is = absurd (cc is)
-counted (Some m) n is = ap Some (eqb-true m n is)
+counted : (o : Option ℕ) {n : ℕ} → option_map_or (λ m. nat_eq m n) o false ≡ true → o ≡ Some n
+counted None is = absurd (cc is)
+counted (Some m) {n} is = ap Some (eqb-true m n is)
 
 row_is : (row : ℕ × ℕ × ℕ × List ℕ × List ℕ) → check row ≡ true → IsRow (row.0, row.1, row.2)
 unfolding check
@@ -36,7 +36,7 @@ row_is row is =
     (nat_lt row.0 65536 && nat_lt row.1 256) is in
     let rest = and_parts (nat_lt row.0 65536) (nat_lt row.1 256) first.1 in
     record {
-      args = counted (lib_args row.0 row.1) row.2 first.0;
+      args = counted (lib_args row.0 row.1) first.0;
       low = ltb-true row.0 65536 rest.0;
       small = ltb-true row.1 256 rest.1;
     }
@@ -66,9 +66,9 @@ unfolding lib_named
 row_of_names l f row is = found (is_named l f) library all_checked row is
 
 -- the numbers of a function that is there
-pub numbers_fit : (l f n : ℕ) → lib_args l f ≡ Some n → (l < 65536) × (f < 256)
+pub numbers_fit : {l f n : ℕ} → lib_args l f ≡ Some n → (l < 65536) × (f < 256)
 unfolding lib_args
-numbers_fit l f n is = among library all_checked is
+numbers_fit {l} {f} {n} is = among library all_checked is
   where
     among : (rows : List (ℕ × ℕ × ℕ × List ℕ × List ℕ)) → list_all check rows ≡ true
         → lookup (is_function l f) (map by_number rows) ≡ Some n → (l < 65536) × (f < 256)

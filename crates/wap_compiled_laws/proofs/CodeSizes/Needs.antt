@@ -79,7 +79,6 @@ module _ (here : Place) where
 
   -- every construct
   layers : (y : Stmt-F Part) → Layer (map-Stmt Part Stmt (λ s. s.0) y)
-  layers Stmt-F.Empty inside said = tt
   layers (Stmt-F.Expr e) inside said = part_settles e said
   layers (Stmt-F.Block ss) inside said = block_settles inside ss said
   layers (Stmt-F.Vars pairs) inside said = variables_settle pairs said
@@ -102,9 +101,8 @@ module _ (here : Place) where
       (optional_needs update ++ stmt_needs s.0) (optional_settles c)
       (both here Codable (refers_if update) (mentions s.0 true) (optional_needs update)
       (stmt_needs s.0) (optional_settles update) (s.1 true))) said
-  layers (Stmt-F.Break word) inside said = tt
-  layers (Stmt-F.Continue word) inside said = tt
   layers (Stmt-F.Return e) inside said = optional_settles e said
+  layers _ inside said = tt
 
   -- every statement
   stmt_settles : (s : Stmt) → Claim s
@@ -122,9 +120,9 @@ module _ (here : Place) where
   -- ---- what is needed is there
 
   -- a function of a library
-  library_meets : (l f : Id) (count : ℕ) → Known here (supplied l f count)
+  library_meets : (l f : Id) {count : ℕ} → Known here (supplied l f count)
       → IsMet here.unit (numbers here) (Library l f count)
-  library_meets l f count is = by (lib_named l.name f.name) refl is
+  library_meets l f {count} is = by (lib_named l.name f.name) refl is
     where
       by : (o : Option (ℕ × ℕ × ℕ)) → lib_named l.name f.name ≡ o
           → option_map (λ (row : ℕ × ℕ × ℕ). row.2) o ≡ Some count
@@ -144,7 +142,7 @@ module _ (here : Place) where
     text_at here.unit here.pool here.has (url_of u.name (numbers here).names.urls) given.0,
     text_at here.unit here.pool here.has f.name given.1,
   )
-  meets (Library l f count) given settled = library_meets l f count settled
+  meets (Library l f count) given settled = library_meets l f settled
 
   -- all of them
   all_met : (needs : List Need) → AllByRecursion (Given here) needs

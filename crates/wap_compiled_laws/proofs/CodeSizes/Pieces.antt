@@ -1,11 +1,9 @@
 -- What branches, short-circuits, loops and exits cost, by the pieces that they are made of.
 use Rattle.std.proofs.Common.{◌≡◌, ℕ, ◌+◌, Bool, true, false, Some, None, refl, arith}
 use Rattle.wap_unit.specs.declared.row.OpName.{OpName}
-use Rattle.wap_unit.specs.declared.row.OpName.TheVariants as op
 use Rattle.wap_asm.specs.Spellings.{operation_of, longest}
 use Rattle.wap_asm.specs.Placing.{wide_size}
-use Rattle.wap_meaning.specs.coding.Coded.{Exits, Coded, one, ◌⨾◌, instr, plain, label}
-use Rattle.wap_meaning.specs.coding.Coded.{jump_over, jump_before, within}
+use Rattle.wap_meaning.specs.coding.Coded.{Exits, Coded, one, plain}
 use Rattle.wap_meaning.specs.coding.Expressions.{short_code}
 use Rattle.wap_meaning.specs.coding.Statements.{branch_code, exit_form, loop_code}
 use Rattle.wap_compiled_laws.proofs.Pieces.Sizes.{branches}
@@ -19,8 +17,7 @@ pub costs_exit : (inside : Bool) (which : ℕ × ℕ → ℕ) → inside ≡ tru
 unfolding wide_size operation_of longest
 costs_exit false which is = absurd (cc is)
 costs_exit true which is =
-    costs_one true (λ exits at. exit_form exits which) 3 (λ exits i. fits exits)
-    (λ exits i allowed. by exits allowed)
+    costs_one true (λ exits i. fits exits) (λ exits i allowed. by exits allowed)
   where
     fits : (exits : Exits) → Fits (exit_form exits which)
     fits None = refl
@@ -32,62 +29,38 @@ costs_exit true which is =
 
 module _ (inside : Bool) where
   -- two branches
-  pub costs_either : (first second : Coded) (m n : ℕ) → Costs inside first m
-      → Costs inside second n → Costs inside (branches first second) (m + n + 6)
-  costs_either first second m n firsts seconds =
-      let over = jump_over op.JumpFw (1 + second.size) in
-      costs_same inside (branches first second) (3 + (m + (3 + (0 + (n + 0))))) (m + n + 6)
-      (omega arith)
-      (costs_both inside (jump_over op.TjumpFw (first.size + 1))
-      (first ⨾ over ⨾ label ⨾ second ⨾ label) 3 (m + (3 + (0 + (n + 0))))
-      (costs_test inside (first.size + 1))
-      (costs_both inside first (over ⨾ label ⨾ second ⨾ label) m (3 + (0 + (n + 0))) firsts
-      (costs_both inside over (label ⨾ second ⨾ label) 3 (0 + (n + 0))
-      (costs_over inside (1 + second.size))
-      (costs_both inside label (second ⨾ label) 0 (n + 0) (costs_label inside)
-      (costs_both inside second label n 0 seconds (costs_label inside))))))
+  pub costs_either : {first second : Coded} {m n : ℕ} → Costs inside first m → Costs inside second n
+      → Costs inside (branches first second) (m + n + 6)
+  costs_either {first} {second} firsts seconds =
+      costs_same inside (omega arith) (costs_both inside (costs_test inside (first.size + 1))
+      (costs_both inside firsts (costs_both inside (costs_over inside (1 + second.size))
+      (costs_both inside (costs_label inside) (costs_both inside seconds (costs_label inside))))))
 
   -- one branch
   pub costs_branch : (body : Coded) (n : ℕ) → Costs inside body n
       → Costs inside (branch_code body) (n + 3)
   costs_branch body n costs =
-      costs_same inside (branch_code body) (3 + (n + 0)) (n + 3) (omega arith)
-      (costs_both inside (jump_over op.TjumpFw body.size) (body ⨾ label) 3 (n + 0)
-      (costs_test inside body.size)
-      (costs_both inside body label n 0 costs (costs_label inside)))
+      costs_same inside (omega arith) (costs_both inside (costs_test inside body.size)
+      (costs_both inside costs (costs_label inside)))
 
   -- a short-circuit
-  pub costs_short : (name : OpName) (second : Coded) (n : ℕ) → Costs inside (plain name) 1
+  pub costs_short : {name : OpName} {second : Coded} {n : ℕ} → Costs inside (plain name) 1
       → Costs inside second n → Costs inside (short_code name second) (5 + n)
   unfolding wide_size operation_of longest
-  costs_short name second n first costs =
-      let test = jump_over op.TjumpFw (second.size + 1) in
-      let last = plain op.Tobool ⨾ label in
-      costs_same inside (short_code name second) (1 + (3 + (n + (1 + 0)))) (5 + n) (omega arith)
-      (costs_both inside (plain name) (test ⨾ second ⨾ last) 1 (3 + (n + (1 + 0))) first
-      (costs_both inside test (second ⨾ last) 3 (n + (1 + 0)) (costs_test inside (second.size + 1))
-      (costs_both inside second last n (1 + 0) costs
-      (costs_both inside (plain op.Tobool) label 1 0
-      (costs_op inside (instr op.Tobool 0 0 0) 1 refl refl) (costs_label inside)))))
+  costs_short {second} first costs =
+      costs_same inside (omega arith) (costs_both inside first
+      (costs_both inside (costs_test inside (second.size + 1)) (costs_both inside costs
+      (costs_both inside (costs_op inside refl refl) (costs_label inside)))))
 
   -- a loop
-  pub costs_loop : (test : ℕ → Coded) (body update : Coded) (l m n : ℕ)
+  pub costs_loop : {test : ℕ → Coded} {body update : Coded} {l m n : ℕ}
       → ((over : ℕ) → Costs inside (test over) l) → Costs true body m → Costs inside update n
       → Costs inside (loop_code test body update) (m + n + (l + 3))
-  costs_loop test body update l m n tests bodies updates =
+  costs_loop {test} {body} {update} tests bodies updates =
       let over = body.size + (update.size + 2) in
       let back = 1 + (test over).size + body.size + 1 + update.size in
-      let last = jump_before op.JumpBw back ⨾ label in
-      let behind = label ⨾ update ⨾ last in
-      let looped = within over body.size body ⨾ behind in
-      costs_same inside (loop_code test body update) (0 + (l + (m + (0 + (n + (3 + 0))))))
-      (m + n + (l + 3)) (omega arith)
-      (costs_both inside label (test over ⨾ looped) 0 (l + (m + (0 + (n + (3 + 0)))))
-      (costs_label inside)
-      (costs_both inside (test over) looped l (m + (0 + (n + (3 + 0)))) (tests over)
-      (costs_both inside (within over body.size body) behind m (0 + (n + (3 + 0)))
-      (costs_within inside over body.size body m bodies)
-      (costs_both inside label (update ⨾ last) 0 (n + (3 + 0)) (costs_label inside)
-      (costs_both inside update last n (3 + 0) updates
-      (costs_both inside (jump_before op.JumpBw back) label 3 0 (costs_before inside back)
+      costs_same inside (omega arith) (costs_both inside (costs_label inside)
+      (costs_both inside (tests over) (costs_both inside (costs_within inside over body.size bodies)
+      (costs_both inside (costs_label inside)
+      (costs_both inside updates (costs_both inside (costs_before inside back)
       (costs_label inside)))))))

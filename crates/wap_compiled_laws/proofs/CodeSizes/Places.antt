@@ -14,8 +14,7 @@ use Rattle.wap_scope.specs.accepted.Known.{variables, IsKnown}
 use Rattle.wap_meaning.specs.Names.{url_of}
 use Rattle.wap_meaning.specs.coding.Constants.{Numbers, HasPool, same_literal, is_in, place_in}
 use Rattle.wap_meaning.specs.coding.Compiled.{numbers_in}
-use Rattle.wap_meaning.specs.coding.Needs.{Need, Constant, Operator, Variable, Local, Other}
-use Rattle.wap_meaning.specs.coding.Needs.{Library}
+use Rattle.wap_meaning.specs.coding.Needs.{Need, Constant, Operator, Other}
 use Rattle.wap_compiled_laws.proofs.BodiesLemmas.Pooled.{IsPoolable}
 
 -- what is in a list has a place within it
@@ -56,9 +55,7 @@ module _ (here : Place) where
   abbrev pub Given : Need → Type 0
   Given (Constant l) = IsPoolable l → is_in l here.pool ≡ true
   Given (Operator o) = TakesBoth o
-  Given (Variable v) = Unit {0}
-  Given (Local f count) = Unit {0}
   Given (Other u f) =
       (is_in (literal.Str (url_of u.name numbers.names.urls)) here.pool ≡ true)
       × (is_in (literal.Str f.name) here.pool ≡ true)
-  Given (Library l f count) = Unit {0}
+  Given _ = Unit {0}

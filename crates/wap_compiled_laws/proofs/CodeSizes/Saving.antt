@@ -91,13 +91,13 @@ effect_less_if None = record { whole = omega arith; few = omega arith }
 effect_less_if (Some e) = effect_less (out-Expr e) e (roll-out-Expr e)
 
 -- nothing is saved
-nothing_less : (n : ℕ) → Saves n 0 n
-nothing_less n = record { whole = omega arith; few = omega arith }
+nothing_less : {n : ℕ} → Saves n 0 n
+nothing_less = record { whole = omega arith; few = omega arith }
 
 -- the parts of a `for`
-for_less : (a b c d e f g h i n : ℕ) → Saves a b c → Saves d e f → Saves g h i
+for_less : {a b c d e f g h i : ℕ} (n : ℕ) → Saves a b c → Saves d e f → Saves g h i
     → Saves (a + g + d + n) (b + e + h) (c + i + f + n)
-for_less a b c d e f g h i n one two three = record { whole = omega arith; few = omega arith }
+for_less n one two three = record { whole = omega arith; few = omega arith }
 
 -- what a statement saves is the rest of its wide size
 abbrev Claim : Stmt → Type 0
@@ -134,7 +134,7 @@ trees ss = map (λ (s : Part). s.0) ss
 block_less : (ss : List Part)
     → Saves (sum (map stmt_cost (trees ss))) (sum (map stmt_saves (trees ss)))
     (sum (map stmt_wide (trees ss)))
-block_less [] = nothing_less 0
+block_less [] = nothing_less
 block_less (s ∷ ss) =
     let one = s.1 in
     let more = block_less ss in
@@ -145,10 +145,8 @@ block_less (s ∷ ss) =
 
 -- every construct
 layers : (y : Stmt-F Part) → Layer (map-Stmt Part Stmt (λ s. s.0) y)
-layers Stmt-F.Empty = nothing_less 0
 layers (Stmt-F.Expr e) = effect_less (out-Expr e) e (roll-out-Expr e)
 layers (Stmt-F.Block ss) = block_less ss
-layers (Stmt-F.Vars pairs) = nothing_less (sum_by declared_wide pairs)
 layers (Stmt-F.If c s None) =
     let body = s.1 in record { whole = omega arith; few = omega arith }
 layers (Stmt-F.If c s (Some other)) =
@@ -160,13 +158,8 @@ layers (Stmt-F.For first c update s) =
     let firsts = first.1 in
     let updates = effect_less_if update in
     let body = s.1 in
-    for_less (stmt_cost first.0) (stmt_saves first.0) (stmt_wide first.0) (effect_cost_if update)
-    (effect_saves_if update) (effect_wide_if update) (stmt_cost s.0) (stmt_saves s.0)
-    (stmt_wide s.0) (loop_wide c) firsts updates body
-layers (Stmt-F.Break word) = nothing_less 3
-layers (Stmt-F.Continue word) = nothing_less 3
-layers (Stmt-F.Return None) = nothing_less 1
-layers (Stmt-F.Return (Some e)) = nothing_less (expr_wide e + 1)
+    for_less (loop_wide c) firsts updates body
+layers _ = nothing_less
 
 -- every statement
 stmt_less : (s : Stmt) → Claim s
@@ -176,7 +169,7 @@ stmt_less = ind-Stmt Claim (λ x y is. subst (λ x. Claim (roll-Stmt x)) is
 -- the statements of a function
 pub body_less : (ss : List Stmt)
     → Saves (sum_by stmt_cost ss) (sum_by stmt_saves ss) (sum_by stmt_wide ss)
-body_less [] = nothing_less 0
+body_less [] = nothing_less
 body_less (s ∷ ss) =
     let one = stmt_less s in
     let more = body_less ss in

@@ -58,11 +58,8 @@ module _ (here : Place) where
   -- a literal
   literal_settles : (l : Literal) → AllByRecursion Settled (literal_needs l)
   literal_settles (literal.Int z) = (tt, tt)
-  literal_settles literal.Float = tt
-  literal_settles (literal.Str []) = tt
   literal_settles (literal.Str (c ∷ cs)) = (tt, tt)
-  literal_settles (literal.Bool truth) = tt
-  literal_settles literal.Invalid = tt
+  literal_settles _ = tt
 
   -- operators of one precedence
   chain_settles : (pairs : List (BinOp × Part))

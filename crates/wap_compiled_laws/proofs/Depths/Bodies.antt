@@ -8,7 +8,6 @@ use Rattle.std.proofs.lemmas.Option.{slice_get_within}
 use Rattle.wap_unit.specs.declared.unit.Unit.{Unit as CodeUnit}
 use Rattle.wap_unit.specs.declared.unit.Code.{Code}
 use Rattle.wap_unit.specs.declared.row.OpName.{OpName}
-use Rattle.wap_unit.specs.declared.row.OpName.TheVariants as op
 use Rattle.wap_unit.specs.declared.row.Operands.{Operands}
 use Rattle.wap_unit.specs.declared.row.Operands.TheVariants as operands
 use Rattle.wap_unit.specs.declared.instr.Instr.{Instr}
@@ -16,7 +15,7 @@ use Rattle.wap_asm.specs.Spellings.{operation_of}
 use Rattle.wap_asm.specs.declared.form.Form.{Form}
 use Rattle.wap_grammar.specs.declared.program.statement.Stmt.{Stmt}
 use Rattle.wap_scope.specs.Names.{Mention, mentions}
-use Rattle.wap_meaning.specs.coding.Coded.{Coded, empty, ◌⨾◌, all_code, instr, jump_over}
+use Rattle.wap_meaning.specs.coding.Coded.{Coded, all_code, instr}
 use Rattle.wap_meaning.specs.coding.Constants.{Numbers}
 use Rattle.wap_meaning.specs.coding.Needs.{AreMet, stmt_needs}
 use Rattle.wap_meaning.specs.coding.Statements.{stmt_code}
@@ -24,7 +23,7 @@ use Rattle.wap_compiled_laws.proofs.Pieces.Pieces.{holds_all}
 use Rattle.wap_compiled_laws.proofs.CodeSizes.Each.{each_any}
 use Rattle.wap_compiled_laws.proofs.Labels.Ranges.{AreThere, function_within}
 use Rattle.wap_compiled_laws.proofs.Labels.Wired.{IsOperation, WiredForm}
-use Rattle.wap_compiled_laws.proofs.Depths.Flow.{Flow, goes, leaves, short}
+use Rattle.wap_compiled_laws.proofs.Depths.Flow.{Flow, goes}
 use Rattle.wap_compiled_laws.proofs.Depths.Spots.{Same, Layout, Ranged, AllSpots, Shape, shape_both}
 use Rattle.wap_compiled_laws.proofs.Depths.Spots.{shape_op, shape_leaves, shape_empty}
 use Rattle.wap_compiled_laws.proofs.Depths.Shapes.{shape_branches, shape_branch, shape_short}
@@ -45,20 +44,20 @@ module _ (layout : Layout) where
   open layout use {unit, variables}
 
   -- an operation whose operands are in range by what they name
-  facts_wired : (form : Instr) (names : Operands) (flow : Flow) (size : ℕ)
+  facts_wired : (form : Instr) {names : Operands} {flow : Flow} {size : ℕ}
       → HasFacts unit form names flow size → AreThere unit variables names form
       → IsOperation form.name × Ranged layout form
-  facts_wired form names flow size has there = (
-    operation_is unit form names flow size has,
+  facts_wired form has there = (
+    operation_is unit form has,
     subst (λ (k : Operands). AreThere unit variables k form)
-        (sym (names_is unit form names flow size has)) there,
+        (sym (names_is unit form has)) there,
   )
 
   -- one without operands
-  plain_wired : (name : OpName) (flow : Flow)
+  plain_wired : {name : OpName} {flow : Flow}
       → HasFacts unit (instr name 0 0 0) operands.Plain flow 1
       → IsOperation name × Ranged layout (instr name 0 0 0)
-  plain_wired name flow has = facts_wired (instr name 0 0 0) operands.Plain flow 1 has tt
+  plain_wired {name} has = facts_wired (instr name 0 0 0) has tt
 
   -- a piece goes from one number of operands to another, whatever it costs
   abbrev IsShaped : Property
@@ -68,46 +67,33 @@ module _ (layout : Layout) where
   shapes : OfPieces unit variables (λ (m : Mention). Unit {0}) IsShaped
   unfolding operation_of
   shapes = record {
-    none = λ inside x. shape_empty layout x;
-    plain_op = λ inside name takes gives x has.
-        shape_op layout (instr name 0 0 0) takes gives x
-        (flow_is unit (instr name 0 0 0) operands.Plain (goes takes gives) 1 has)
-        (plain_wired name (goes takes gives) has);
-    leaving = λ inside name takes x y has.
-        shape_leaves layout (instr name 0 0 0) takes x y
-        (flow_is unit (instr name 0 0 0) operands.Plain (leaves takes) 1 has)
-        (plain_wired name (leaves takes) has);
-    variable_op = λ inside name a takes gives x size has there.
-        shape_op layout (instr name a 0 0) takes gives x
-        (flow_is unit (instr name a 0 0) operands.Variable (goes takes gives) size has)
-        (facts_wired (instr name a 0 0) operands.Variable (goes takes gives) size has there);
-    constant_op = λ inside a x there.
-        shape_op layout (instr op.LoadConst a 0 0) 0 1 x refl ((refl, refl), there);
-    local_op = λ inside a count x is.
-        shape_op layout (instr op.Call a 0 0) count 1 x
-        (ap (λ (n : ℕ). goes n 1) (by_option (slice_get unit.functions a) count is))
-        ((refl, refl), function_within unit a count is);
-    other_op = λ inside u f a b count x url name one two said.
-        shape_op layout (instr op.CallUrl a b count) count 1 x refl
-        ((refl, refl), ((url, one), (name, two)));
-    library_op = λ inside a b count x is.
-        shape_op layout (instr op.CallLib a b 0) count 1 x
-        (ap (λ (o : Option ℕ). goes (unwrap_or o 0) 1) is) ((refl, refl), (count, is));
-    both = λ inside first second x y z m n. shape_both layout first second x y z;
-    either = λ inside first second x y m n. shape_branches layout first second x y;
-    branch = λ inside body n. shape_branch layout body;
-    short_circuit = λ inside name second x n has.
-        shape_short layout name second x
-        (flow_is unit (instr name 0 0 0) operands.Plain short 1 has) (plain_wired name short has);
-    endless = λ inside body update m n.
-        shape_loop layout (λ over. empty) body update (no_test layout);
-    loop = λ inside test body update l m n tests.
-        shape_loop layout (λ over. test ⨾ jump_over op.TjumpFw over) body update
-        (one_test layout test tests);
-    break_out = λ inside word said.
-        shape_exit layout (λ labels. labels.0) (λ labels d end free. (free.0, free.1, free.2));
-    next_turn = λ inside word said.
-        shape_exit layout (λ labels. labels.1) (λ labels d end free. (free.3, free.4, free.5));
+    none = λ {x}. shape_empty layout x;
+    plain_op = λ name x has.
+        shape_op layout x (flow_is unit (instr name 0 0 0) has) (plain_wired has);
+    leaving = λ name x has.
+        shape_leaves layout x (flow_is unit (instr name 0 0 0) has) (plain_wired has);
+    variable_op = λ name a x has there.
+        shape_op layout x (flow_is unit (instr name a 0 0) has)
+        (facts_wired (instr name a 0 0) has there);
+    constant_op = λ a there. shape_op layout _ refl ((refl, refl), there);
+    local_op = λ a x is.
+        shape_op layout x (ap (λ (n : ℕ). goes n 1) (by_option (slice_get unit.functions a) _ is))
+        ((refl, refl), function_within unit a _ is);
+    other_op = λ a b x one two said. shape_op layout x refl ((refl, refl), ((_, one), (_, two)));
+    library_op = λ a b x is.
+        shape_op layout x (ap (λ (o : Option ℕ). goes (unwrap_or o 0) 1) is)
+        ((refl, refl), (_, is));
+    both = shape_both layout;
+    either = shape_branches layout;
+    branch = shape_branch layout;
+    short_circuit = λ name has.
+        shape_short layout (flow_is unit (instr name 0 0 0) has) (plain_wired has);
+    endless = shape_loop layout (no_test layout);
+    loop = λ tests. shape_loop layout (one_test layout _ tests);
+    break_out = λ said.
+        shape_exit layout (λ labels d end free. (free.0, free.1, free.2));
+    next_turn = λ said.
+        shape_exit layout (λ labels d end free. (free.3, free.4, free.5));
   }
 
 -- ---- the statements of a function
@@ -151,9 +137,9 @@ pub record Told (layout : Layout) : Type 0 where
   pub spots : AllSpots layout depth 0 (length layout.forms)
 
 -- a form is an operation whose operands are in range, or knows its label
-pub wired_at : (layout : Layout) → Told layout → (k : ℕ) (form : Form)
+pub wired_at : {layout : Layout} → Told layout → (k : ℕ) {form : Form}
     → slice_get layout.forms k ≡ Some form → WiredForm (Ranged layout) layout.forms k form
-wired_at layout told k form here =
+wired_at {layout} told k {form} here =
     let less = slice_get_within layout.forms k form here in
     (told.spots k (omega arith) (omega arith)).wired form here
 

@@ -74,34 +74,34 @@ module _ (layout : Layout) where
     pub wired : (form : Form) → slice_get forms k ≡ Some form → WiredAt k form
 
   -- it is told of the form that stands there
-  pub spot_of : (d : ℕ → ℕ) (k : ℕ) (form : Form) → slice_get forms k ≡ Some form
+  pub spot_of : {d : ℕ → ℕ} {k : ℕ} {form : Form} → slice_get forms k ≡ Some form
       → FineAt (flow_of unit) forms d k → WiredAt k form → Spot d k
-  spot_of d k form here fits is = record {
+  spot_of {k} {form} here fits is = record {
     fits = fits;
     wired = λ other there. subst (WiredAt k) (same_Some form other (sym here ∙ there)) is;
   }
 
   -- the same of a form that is a place of its own
-  pub spot : (d : ℕ → ℕ) (k : ℕ) (form : Form) → slice_get forms k ≡ Some form
+  pub spot : {d : ℕ → ℕ} {k : ℕ} {form : Form} → slice_get forms k ≡ Some form
       → FormFine (flow_of unit) forms d k form → WiredAt k form → Spot d k
-  spot d k form here fits is = spot_of d k form here (fine (form, here, fits)) is
+  spot {form} here fits is = spot_of here (fine (form, here, fits)) is
 
   -- it is told of so many forms from an index on
   abbrev pub AllSpots : (ℕ → ℕ) → ℕ → ℕ → Type 0
   AllSpots d i size = (k : ℕ) → i ≤ k → k < i + size → Spot d k
 
   -- of forms, and those behind them
-  pub all_both : (d : ℕ → ℕ) (i one two : ℕ) → AllSpots d i one → AllSpots d (i + one) two
+  pub all_both : {d : ℕ → ℕ} {i : ℕ} (one two : ℕ) → AllSpots d i one → AllSpots d (i + one) two
       → AllSpots d i (one + two)
-  all_both d i one two ones twos k least most =
+  all_both {i} one two ones twos k least most =
       elim (leb_tells (i + one) k) [
         | inl later ↦ twos k later.1 (omega arith)
         | inr before ↦ ones k least (let no = before.1 in omega arith)
       ]
 
   -- of one form
-  pub all_first : (d : ℕ → ℕ) (i : ℕ) → Spot d i → AllSpots d i 1
-  all_first d i is k least most =
+  pub all_first : {d : ℕ → ℕ} {i : ℕ} → Spot d i → AllSpots d i 1
+  all_first {d} {i} is k least most =
       let e : i ≡ k = omega arith in subst (Spot d) e is
 
   -- the exits of loops stand behind an end, where there are no operands
@@ -112,10 +112,10 @@ module _ (layout : Layout) where
       × (d labels.1 ≡ 0) × HasLabel labels.1 × (end ≤ labels.1)
 
   -- what stands behind an end stands behind an earlier one
-  pub nearer : (exits : Exits) (d : ℕ → ℕ) (some other : ℕ) → some ≤ other → Free exits d other
+  pub nearer : (exits : Exits) (d : ℕ → ℕ) {some other : ℕ} → some ≤ other → Free exits d other
       → Free exits d some
-  nearer None d some other less free = tt
-  nearer (Some labels) d some other less free =
+  nearer None d less free = tt
+  nearer (Some labels) d less free =
       (free.0, free.1, le_trans less free.2, free.3, free.4, le_trans less free.5)
 
   -- ---- pieces
@@ -130,9 +130,9 @@ module _ (layout : Layout) where
         → Holds forms i (coded.forms exits i) → (d i ≡ from) × AllSpots d i coded.size
 
   -- one piece after the other
-  pub shape_both : (first second : Coded) (from middle to : ℕ)
-      → Shape first from middle → Shape second middle to → Shape (first ⨾ second) from to
-  shape_both first second from middle to one two = record {
+  pub shape_both : {first second : Coded} {from middle to : ℕ} → Shape first from middle
+      → Shape second middle to → Shape (first ⨾ second) from to
+  shape_both {first} {second} {to} one two = record {
     sized = sized_both first second one.sized two.sized;
     depths = one.depths ++ two.depths;
     long = length-append one.depths two.depths ∙ omega (arith, one.long, two.long);
@@ -145,22 +145,21 @@ module _ (layout : Layout) where
         (subst (λ n. d n ≡ to) e last) (subst (Free exits d) e free)
         (behind forms i first.size some other holds (one.sized exits i)) in
         let ones = one.fits exits i d (same_front d i one.depths two.depths same) twos.0
-        (nearer exits d (i + first.size) (i + (first.size + second.size)) (omega arith) free)
-        (front forms i some other holds) in
-        (ones.0, all_both d i first.size second.size ones.1 twos.1);
+        (nearer exits d (omega arith) free) (front forms i some other holds) in
+        (ones.0, all_both first.size second.size ones.1 twos.1);
   }
 
   -- an operation that goes on
-  pub shape_op : (form : Instr) (takes gives below : ℕ) → flow_of unit form ≡ goes takes gives
+  pub shape_op : {form : Instr} {takes gives : ℕ} (below : ℕ) → flow_of unit form ≡ goes takes gives
       → IsOperation form.name × Ranged form
       → Shape (one (λ exits at. Op form)) (higher takes below) (higher gives below)
-  shape_op form takes gives below flows is = record {
+  shape_op {takes} {gives} below flows is = record {
     sized = λ exits i. refl;
     depths = higher takes below ∷ [];
     long = refl;
     fits = λ exits i d same last free holds. (
       same.0,
-      all_first d i (spot d i (Op form) holds.0
+      all_first (spot holds.0
           (subst (OpFine (flow_of unit) forms d i) (sym flows) (
             omega (arith, same.0, higher_is takes below),
             last ∙ omega (arith, same.0, higher_is takes below, higher_is gives below),
@@ -169,16 +168,16 @@ module _ (layout : Layout) where
   }
 
   -- an operation that leaves the function
-  pub shape_leaves : (form : Instr) (takes below to : ℕ) → flow_of unit form ≡ leaves takes
-      → IsOperation form.name × Ranged form
+  pub shape_leaves : {form : Instr} {takes : ℕ} (below : ℕ) {to : ℕ}
+      → flow_of unit form ≡ leaves takes → IsOperation form.name × Ranged form
       → Shape (one (λ exits at. Op form)) (higher takes below) to
-  shape_leaves form takes below to flows is = record {
+  shape_leaves {takes} below flows is = record {
     sized = λ exits i. refl;
     depths = higher takes below ∷ [];
     long = refl;
     fits = λ exits i d same last free holds. (
       same.0,
-      all_first d i (spot d i (Op form) holds.0 (subst (OpFine (flow_of unit) forms d i) (sym flows)
+      all_first (spot holds.0 (subst (OpFine (flow_of unit) forms d i) (sym flows)
           (omega (arith, same.0, higher_is takes below))) is),
     );
   }

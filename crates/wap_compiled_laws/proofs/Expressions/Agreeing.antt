@@ -1,6 +1,6 @@
 -- Expressions and their code agree, by the ways in which they are made.
-use Rattle.std.proofs.Common.{◌≡◌, ℕ, suc, Bool, true, false, List, [], ◌∷◌, ◌++◌, length}
-use Rattle.std.proofs.Common.{reverse, refl, sym, ap, ◌∙◌, append_assoc}
+use Rattle.std.proofs.Common.{◌≡◌, ℕ, suc, Bool, true, false, List, [], ◌∷◌, length}
+use Rattle.std.proofs.Common.{reverse, refl, ap, append_assoc}
 use Rattle.std.specs.Prelude.{if◌then◌else◌}
 use Rattle.std.proofs.lemmas.List.{reverse-append}
 use Rattle.wap_value.specs.declared.value.Value.{Value}
@@ -16,15 +16,14 @@ use Rattle.wap_meaning.specs.coding.Coded.{Coded, one, ◌⨾◌, plain}
 use Rattle.wap_meaning.specs.coding.Expressions.{binary_name, joined_code, cond_code, step_code}
 use Rattle.wap_meaning.proofs.Following.{Gave, gave_any, from_gave}
 use Rattle.wap_compiled_laws.proofs.Pieces.Pieces.{Site, onto, Piece, both}
-use Rattle.wap_compiled_laws.proofs.Pieces.Instructions.{as_is, pushed, nothing, binary_piece}
+use Rattle.wap_compiled_laws.proofs.Pieces.Instructions.{as_is, pushed, binary_piece}
 use Rattle.wap_compiled_laws.proofs.Pieces.Instructions.{pop_piece}
 use Rattle.wap_compiled_laws.proofs.Pieces.Jumps.{onto_shifts, branches_piece}
-use Rattle.wap_compiled_laws.proofs.Pieces.Sizes.{branches}
 use Rattle.wap_compiled_laws.proofs.Pieces.Shorts.{short_piece}
 use Rattle.wap_compiled_laws.proofs.Pieces.Assignments.{above, prefix_piece, postfix_piece, popped}
-use Rattle.wap_value.specs.declared.operator.UnOp.TheVariants as un
 use Rattle.wap_value.specs.declared.operator.BinOp.TheVariants as bin
-use Rattle.wap_unit.specs.declared.row.OpName.TheVariants as op
+use Rattle.std.proofs.Common.{arith}
+use Rattle.std.proofs.lemmas.Grind.{common_steps}
 
 module _ {S : Type 0} (site : Site S) where
   -- a part and its code agree
@@ -38,37 +37,29 @@ module _ {S : Type 0} (site : Site S) where
   Joins left does coded = Piece site does coded (pushed left) (onto site pushed)
 
   -- an operator that takes both operands
-  binary_joins : (binop : BinOp) (left : Value) (right : Does Value S) (second : Coded)
+  binary_joins : (binop : BinOp) {left : Value} {right : Does Value S} {second : Coded}
       → action_of (binary_name binop) ≡ Binary binop → Agrees right second
       → Joins left (right >>= λ v. kept site.string (binary_of binop left v))
       (second ⨾ plain (binary_name binop))
-  binary_joins binop left right second acts agrees =
-      both site right (λ v. kept site.string (binary_of binop left v)) second
-      (plain (binary_name binop)) (pushed left) (λ v operands. v ∷ left ∷ operands)
-      (onto site pushed) Invalid (above site right second pushed (pushed left) agrees)
+  binary_joins binop {left} acts agrees =
+      both site Invalid (above site pushed agrees)
       (λ v. binary_piece site (binary_name binop) binop left v acts)
 
   -- every operator and the operand on its right
-  joins : (binop : BinOp) (left : Value) (right : Does Value S) (second : Coded)
+  joins : (binop : BinOp) {left : Value} {right : Does Value S} {second : Coded}
       → Agrees right second
       → Joins left (joined site.string binop left right) (joined_code binop second)
-  joins bin.And left right second agrees =
-      short_piece site op.Scand false left right second refl agrees
-  joins bin.Or left right second agrees =
-      short_piece site op.Scor true left right second refl agrees
-  joins bin.Comma left right second agrees =
-      both site (give left) (λ _. right) (plain op.Pop) second (pushed left) nothing
-      (onto site pushed) left (pop_piece site left) (λ _. agrees)
-  joins binop left right second agrees = binary_joins binop left right second refl agrees
+  joins bin.And agrees = short_piece site refl agrees
+  joins bin.Or agrees = short_piece site refl agrees
+  joins bin.Comma {left} agrees = both site left (pop_piece site) (λ _. agrees)
+  joins binop agrees = binary_joins binop refl agrees
 
   -- two operands and their operator
-  pub agrees_joined : (binop : BinOp) (first : Does Value S) (one : Coded) (second : Does Value S)
-      (two : Coded) → Agrees first one → Agrees second two
+  pub agrees_joined : (binop : BinOp) {first : Does Value S} {one : Coded} {second : Does Value S}
+      {two : Coded} → Agrees first one → Agrees second two
       → Agrees (first >>= λ left. joined site.string binop left second)
       (one ⨾ joined_code binop two)
-  agrees_joined binop first one second two ones twos =
-      both site first (λ left. joined site.string binop left second) one (joined_code binop two)
-      as_is pushed (onto site pushed) Invalid ones (λ left. joins binop left second two twos)
+  agrees_joined binop ones twos = both site Invalid ones (λ left. joins binop twos)
 
   -- ---- arguments
 
@@ -90,26 +81,21 @@ module _ {S : Type 0} (site : Site S) where
   -- the first argument is below those after it
   pub turned : (v : Value) (vs operands : List Value)
       → popped vs (v ∷ operands) ≡ popped (v ∷ vs) operands
-  turned v vs operands =
-      sym (ap (λ (l : List Value). l ++ operands) (reverse-append (v ∷ []) vs)
-      ∙ append_assoc (reverse vs) (v ∷ []) operands)
+  turned v vs operands = grind (arith, common_steps, reverse-append, append_assoc)
 
   -- ---- the rest
 
   -- a condition with two branches
-  pub cond_agrees : (c first second : Does Value S) (one two three : Coded)
-      → Agrees c one → Agrees first two → Agrees second three
+  pub cond_agrees : {c first second : Does Value S} {one two three : Coded} → Agrees c one
+      → Agrees first two → Agrees second three
       → Agrees (c >>= λ v. if jumps_at v then second else first) (cond_code one two three)
-  cond_agrees c first second one two three ones twos threes =
-      both site c (λ v. if jumps_at v then second else first) one (branches two three) as_is
-      pushed (onto site pushed) Invalid ones
-      (λ v. branches_piece site v first second two three (onto site pushed)
-      (onto_shifts site pushed) twos threes)
+  cond_agrees ones twos threes =
+      both site Invalid ones (λ v. branches_piece site (onto_shifts site pushed) twos threes)
 
   -- a step
   pub step_agrees : (index : ℕ) (up prefix : Bool)
       → Agrees (stepped index (step_of up) prefix) (step_code index up prefix)
-  step_agrees index true true = prefix_piece site index op.IncrVar un.Incr refl
-  step_agrees index false true = prefix_piece site index op.DecrVar un.Decr refl
-  step_agrees index true false = postfix_piece site index op.IncrVar un.Incr refl
-  step_agrees index false false = postfix_piece site index op.DecrVar un.Decr refl
+  step_agrees index true true = prefix_piece site refl
+  step_agrees index false true = prefix_piece site refl
+  step_agrees index true false = postfix_piece site refl
+  step_agrees index false false = postfix_piece site refl

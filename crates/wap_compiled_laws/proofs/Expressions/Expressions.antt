@@ -1,5 +1,5 @@
 -- Each expression and its code agree.
-use Rattle.std.proofs.Common.{◌≡◌, ℕ, suc, ◌-◌, Bool, true, false, cond, ℤ, ◌-ℤ◌, List, [], ◌∷◌}
+use Rattle.std.proofs.Common.{◌≡◌, ℕ, ◌-◌, Bool, true, false, cond, ℤ, ◌-ℤ◌, List, [], ◌∷◌}
 use Rattle.std.proofs.Common.{◌++◌, length, Option, Some, None, Result, Ok, Err, map, refl, sym, ap}
 use Rattle.std.proofs.Common.{◌∙◌, subst, arith, pos, negsuc, option_and_then, add-zero}
 use Rattle.std.specs.List.{flat_map}
@@ -12,7 +12,7 @@ use Rattle.wap_value.specs.declared.fault.ValueFault.TheVariants.{TooLong}
 use Rattle.wap_value.specs.declared.operator.UnOp.{UnOp}
 use Rattle.wap_value.specs.declared.operator.BinOp.{BinOp}
 use Rattle.wap_value.specs.Unary.{unary_of}
-use Rattle.wap_value.specs.Binary.{binary_of, on_integers}
+use Rattle.wap_value.specs.Binary.{on_integers}
 use Rattle.wap_value.specs.Integer.{in_range}
 use Rattle.wap_value.specs.Conversion.{integer_of, integer_value}
 use Rattle.wap_value.specs.TooLong.{kept_within}
@@ -23,12 +23,12 @@ use Rattle.wap_grammar.specs.declared.program.expression.Expr.TheFolds.{fold-rol
 use Rattle.wap_execution.specs.Frames.{constant_at}
 use Rattle.wap_execution.specs.Effects.{onward, effect_of, Called}
 use Rattle.wap_meaning.specs.SourceParts.{Does, ◌>>=◌, give, kept, kept_by, calling}
-use Rattle.wap_meaning.specs.Names.{variable_at, function_at, numbers_of, callee_local}
-use Rattle.wap_meaning.specs.Names.{callee_external, callee_library, url_of}
+use Rattle.wap_meaning.specs.Names.{variable_at, callee_local}
+use Rattle.wap_meaning.specs.Names.{callee_external, callee_library}
 use Rattle.wap_meaning.specs.Expressions.{value_of, Around, eval_by, eval, joined, chained, each_of}
 use Rattle.wap_asm.specs.declared.form.Form.TheVariants.{Op}
-use Rattle.wap_meaning.specs.coding.Coded.{Coded, one, ◌⨾◌, instr, plain, with_operand}
-use Rattle.wap_meaning.specs.coding.Constants.{Numbers, number_of, text_number, url_number}
+use Rattle.wap_meaning.specs.coding.Coded.{Coded, one, ◌⨾◌, instr, with_operand}
+use Rattle.wap_meaning.specs.coding.Constants.{Numbers, text_number, url_number}
 use Rattle.wap_meaning.specs.coding.Expressions.{literal_code, unary_code, expr_code_by, expr_code}
 use Rattle.wap_meaning.specs.coding.Needs.{Need, literal_needs, expr_needs_by, expr_needs, AreMet}
 use Rattle.wap_compiled_laws.proofs.Pieces.Pieces.{Site, onto, Piece, both, op_piece}
@@ -47,8 +47,9 @@ use Rattle.wap_grammar.specs.declared.program.expression.Literal.TheVariants as 
 use Rattle.std.proofs.lemmas.List.{length-map}
 use Rattle.wap_asm.specs.declared.form.Form.{Form}
 use Rattle.wap_meaning.specs.coding.Coded.{Exits, all_code}
-use Rattle.wap_meaning.specs.coding.Expressions.{joined_code, chain_code}
+use Rattle.wap_meaning.specs.coding.Expressions.{chain_code}
 use Rattle.wap_compiled_laws.proofs.Pieces.Pieces.{empty_piece, in_turn}
+use Rattle.std.proofs.lemmas.Grind.{common_steps}
 
 module _ {S : Type 0} (site : Site S) (numbers : Numbers) where
   -- what parts depend on at a site
@@ -72,15 +73,14 @@ module _ {S : Type 0} (site : Site S) (numbers : Numbers) where
   -- ---- literals
 
   -- a literal that is a constant
-  constant_agrees : (index : ℕ) (v : Value) → constant_at site.function.unit index ≡ Some v
+  constant_agrees : {index : ℕ} {v : Value} → constant_at site.function.unit index ≡ Some v
       → Agrees site (kept site.string v) (with_operand op.LoadConst index)
   unfolding effect_of
-  constant_agrees index v is =
-      op_piece site (kept site.string v) op.LoadConst index 0 0 as_is (onto site pushed)
-      (kept_keeps site.string v)
+  constant_agrees {v} is =
+      op_piece site (kept_keeps site.string v)
       (λ exits place i other variables operands turns state.
       rw is (kept_settles site (kept_within site.string v)
-      (λ v. onward (site.pos i) variables (v ∷ operands)) variables turns state
+      (λ v. onward (site.pos i) variables (v ∷ operands))
       (λ v variables turns state. onto site pushed exits i operands v variables turns state)
       (λ v. refl)))
 
@@ -93,26 +93,23 @@ module _ {S : Type 0} (site : Site S) (numbers : Numbers) where
   literal_agrees : (l : Literal) → Met (literal_needs l)
       → Agrees site (kept site.string (value_of l)) (literal_code numbers l)
   unfolding effect_of
-  literal_agrees (literal.Int number) met =
-      constant_agrees (number_of numbers (literal.Int number)) (Int number) met.0
+  literal_agrees (literal.Int number) met = constant_agrees met.0
   literal_agrees literal.Float met =
-      op_piece site (give Invalid) op.ConstInvalid 0 0 0 as_is (onto site pushed)
-      (give_keeps Invalid) (λ exits place i other variables operands turns state. refl)
+      op_piece site (give_keeps Invalid)
+      (λ exits place i other variables operands turns state. refl)
   literal_agrees (literal.Str []) met =
-      op_piece site (kept site.string (Str [])) op.ConstEs 0 0 0 as_is (onto site pushed)
-      (kept_keeps site.string (Str []))
+      op_piece site (kept_keeps site.string (Str []))
       (λ exits place i other variables operands turns state. rw empty_kept refl)
-  literal_agrees (literal.Str (c ∷ cs)) met =
-      constant_agrees (number_of numbers (literal.Str (c ∷ cs))) (Str (c ∷ cs)) met.0
+  literal_agrees (literal.Str (c ∷ cs)) met = constant_agrees met.0
   literal_agrees (literal.Bool true) met =
-      op_piece site (give (Boolean true)) op.ConstTrue 0 0 0 as_is (onto site pushed)
-      (give_keeps (Boolean true)) (λ exits place i other variables operands turns state. refl)
+      op_piece site (give_keeps (Boolean true))
+      (λ exits place i other variables operands turns state. refl)
   literal_agrees (literal.Bool false) met =
-      op_piece site (give (Boolean false)) op.ConstFalse 0 0 0 as_is (onto site pushed)
-      (give_keeps (Boolean false)) (λ exits place i other variables operands turns state. refl)
+      op_piece site (give_keeps (Boolean false))
+      (λ exits place i other variables operands turns state. refl)
   literal_agrees literal.Invalid met =
-      op_piece site (give Invalid) op.ConstInvalid 0 0 0 as_is (onto site pushed)
-      (give_keeps Invalid) (λ exits place i other variables operands turns state. refl)
+      op_piece site (give_keeps Invalid)
+      (λ exits place i other variables operands turns state. refl)
 
   -- ---- operators of one operand
 
@@ -123,36 +120,22 @@ module _ {S : Type 0} (site : Site S) (numbers : Numbers) where
 
   -- an integer less 0 is itself
   less_nothing : (z : ℤ) → z -ℤ pos 0 ≡ z
-  less_nothing (pos n) = ap pos (add-zero n)
-  less_nothing (negsuc n) =
-      let one_less : suc n - 1 ≡ n = omega arith in
-      ap (λ (b : Bool). cond b (negsuc (suc n - 1)) (pos (0 - suc n)))
-      (le-leb 1 (suc n) (omega arith))
-      ∙ ap negsuc one_less
+  less_nothing z = grind (arith, common_steps, pos, add-zero, negsuc, le-leb)
 
   -- `+` as `- 0`
   plus_is : (o : Option ℤ)
       → kept_within site.string (on_integers bin.Sub o (Some (pos 0)))
       ≡ Ok (integer_value (option_and_then (λ z. in_range z) o))
-  plus_is None = refl
-  plus_is (Some z) =
-      integer_kept (in_range (z -ℤ pos 0))
-      ∙ ap (λ (z : ℤ). Ok (integer_value (in_range z))) (less_nothing z)
+  plus_is o = grind (arith, common_steps, integer_kept, pos, less_nothing)
 
   -- `+` as `- 0`
   plus_piece : (v : Value)
       → Piece site (give (unary_of un.Plus v)) (unary_code un.Plus) (pushed v) (onto site pushed)
   unfolding effect_of
   plus_piece v =
-      piece_same site (give (Int (pos 0)) >>= λ z. kept site.string (binary_of bin.Sub v z))
-      (give (unary_of un.Plus v)) (unary_code un.Plus) (pushed v) (onto site pushed)
-      (λ variables turns state. ap (λ (k : Result Value ValueFault).
-      kept_by k variables turns state) (plus_is (integer_of v)))
-      (both site (give (Int (pos 0))) (λ z. kept site.string (binary_of bin.Sub v z))
-      (plain op.Const0) (plain op.Sub) (pushed v) (λ z operands. z ∷ v ∷ operands)
-      (onto site pushed) Invalid
-      (op_piece site (give (Int (pos 0))) op.Const0 0 0 0 (pushed v)
-      (onto site (λ z operands. z ∷ v ∷ operands)) (give_keeps (Int (pos 0)))
+      piece_same site (λ variables turns state. ap (λ (k : Result Value ValueFault). kept_by k
+      variables turns state) (plus_is (integer_of v)))
+      (both site {does = give (Int (pos 0))} Invalid (op_piece site (give_keeps (Int (pos 0)))
       (λ exits place i other variables operands turns state. refl))
       (λ z. binary_piece site op.Sub bin.Sub v z refl))
 
@@ -160,21 +143,12 @@ module _ {S : Type 0} (site : Site S) (numbers : Numbers) where
   unary_code_piece : (unop : UnOp) (v : Value)
       → Piece site (give (unary_of unop v)) (unary_code unop) (pushed v) (onto site pushed)
   unary_code_piece un.Plus v = plus_piece v
-  unary_code_piece un.Minus v = unary_piece site op.Uminus un.Minus v refl
-  unary_code_piece un.BitNot v = unary_piece site op.BNot un.BitNot v refl
-  unary_code_piece un.Not v = unary_piece site op.Not un.Not v refl
-  unary_code_piece un.TypeOf v = unary_piece site op.Typeof un.TypeOf v refl
-  unary_code_piece un.IsValid v = unary_piece site op.Isvalid un.IsValid v refl
-  unary_code_piece un.ToBool v = unary_piece site op.Tobool un.ToBool v refl
-  unary_code_piece un.Incr v = unary_piece site op.Incr un.Incr v refl
-  unary_code_piece un.Decr v = unary_piece site op.Decr un.Decr v refl
+  unary_code_piece _ v = unary_piece site refl
 
   -- an operator and its operand
-  unary_agrees : (unop : UnOp) (does : Does Value S) (coded : Coded) → Agrees site does coded
+  unary_agrees : (unop : UnOp) {does : Does Value S} {coded : Coded} → Agrees site does coded
       → Agrees site (does >>= λ v. give (unary_of unop v)) (coded ⨾ unary_code unop)
-  unary_agrees unop does coded agrees =
-      both site does (λ v. give (unary_of unop v)) coded (unary_code unop) as_is pushed
-      (onto site pushed) Invalid agrees (unary_code_piece unop)
+  unary_agrees unop agrees = both site Invalid agrees (unary_code_piece unop)
 
   -- ---- expressions
 
@@ -209,7 +183,7 @@ module _ {S : Type 0} (site : Site S) (numbers : Numbers) where
   operands_of pairs = map (λ (pair : BinOp × Part). (pair.0, pair.1.0)) pairs
 
   -- operators of one precedence
-  chain_agrees : (first : Does Value S) (one : Coded) → Agrees site first one
+  chain_agrees : (first : Does Value S) {one : Coded} → Agrees site first one
       → (pairs : List (BinOp × Part))
       → Met (flat_map (λ (pair : BinOp × List Need). pair.1)
       (map (λ (pair : BinOp × Expr). (pair.0, expr_needs pair.1)) (operands_of pairs)))
@@ -217,13 +191,12 @@ module _ {S : Type 0} (site : Site S) (numbers : Numbers) where
       (map (λ (pair : BinOp × Expr). (pair.0, eval around pair.1)) (operands_of pairs)))
       (chain_code one
       (map (λ (pair : BinOp × Expr). (pair.0, expr_code numbers pair.1)) (operands_of pairs)))
-  chain_agrees first one agrees [] met = agrees
-  chain_agrees first one agrees (pair ∷ pairs) met =
+  chain_agrees first agrees [] met = agrees
+  chain_agrees first agrees (pair ∷ pairs) met =
       let e = pair.1.0 in
       chain_agrees (first >>= λ left. joined site.string pair.0 left (eval around e))
-      (one ⨾ joined_code pair.0 (expr_code numbers e))
-      (agrees_joined site pair.0 first one (eval around e) (expr_code numbers e) agrees
-      (pair.1.1 (met_front (expr_needs e) _ met))) pairs (met_back (expr_needs e) _ met)
+      (agrees_joined site pair.0 agrees (pair.1.1 (met_front (expr_needs e) _ met))) pairs (met_back
+      (expr_needs e) _ met)
 
   -- arguments
   abbrev trees : List Part → List Expr
@@ -241,30 +214,23 @@ module _ {S : Type 0} (site : Site S) (numbers : Numbers) where
   all_piece : (es : List Part)
       → Met (flat_map (λ (needs : List Need). needs) (map expr_needs (trees es)))
       → Piece site (each_of (evals es)) (all_code (codes es)) as_is (onto site popped)
-  all_piece [] met =
-      empty_piece site [] (onto site popped) (λ exits i operands variables turns state. refl)
+  all_piece [] met = empty_piece site (λ exits i operands variables turns state. refl)
   all_piece (e ∷ es) met =
-      both site (eval around e.0) (λ v. each_of (evals es) >>= λ vs. give (v ∷ vs))
-      (expr_code numbers e.0) (all_code (codes es)) as_is pushed (onto site popped) Invalid
-      (e.1 (met_front (expr_needs e.0) _ met))
-      (λ v. as_other site (each_of (evals es)) (λ vs. v ∷ vs) (all_code (codes es)) (pushed v)
-      (λ vs operands. popped vs (v ∷ operands)) popped (turned site v)
-      (above site (each_of (evals es)) (all_code (codes es)) popped (pushed v)
+      both site Invalid (e.1 (met_front (expr_needs e.0) _ met))
+      (λ v. as_other site popped (turned site v) (above site popped
       (all_piece es (met_back (expr_needs e.0) _ met))))
 
   -- a call, behind its arguments
-  call_agrees : (callee : Called) (es : List Part) (form : Exits → ℕ → Form)
+  call_agrees : (callee : Called) (es : List Part) {form : Exits → ℕ → Form}
       → Met (flat_map (λ (needs : List Need). needs) (map expr_needs (trees es)))
       → ((vs : List Value) → length vs ≡ length (evals es)
       → Piece site (calling site.call callee vs) (one form) (popped vs) (onto site pushed))
       → Agrees site (each_of (evals es) >>= λ vs. calling site.call callee vs)
       (all_code (codes es) ⨾ one form)
-  call_agrees callee es form met calls =
-      in_turn site (λ vs. length vs ≡ length (evals es)) (each_of (evals es))
-      (λ vs. calling site.call callee vs) (all_code (codes es)) (one form) as_is
-      (onto site popped) (onto site pushed) (all_piece es met) (all_given site (evals es))
-      (λ exits i. refl) (λ vs. calling_keeps site.call site.falls callee vs)
-      (λ vs many. (calls vs many).follows)
+  call_agrees callee es {form} met calls =
+      in_turn site (λ vs. calling site.call callee vs) (one form) (all_piece es met)
+      (all_given site (evals es)) (λ exits i. refl)
+      (λ vs. calling_keeps site.call site.falls callee vs) (λ vs many. (calls vs many).follows)
 
   -- there are as many codes as meanings
   as_many_codes : (es : List Part) → length (evals es) ≡ length (codes es)
@@ -280,48 +246,33 @@ module _ {S : Type 0} (site : Site S) (numbers : Numbers) where
   -- every construct
   layers : (y : Expr-F Part) → Layer (map-Expr Part Expr (λ e. e.0) y)
   layers (Expr-F.Lit l) met = literal_agrees l met
-  layers (Expr-F.Var v) met = load_piece site (variable_at numbers.names v)
+  layers (Expr-F.Var v) met = load_piece site
   layers (Expr-F.Assign v None e) met =
-      assigned_piece site (variable_at numbers.names v) (eval around e.0) (expr_code numbers e.0)
-      (e.1 met.1)
-  layers (Expr-F.Assign v (Some binop) e) met =
-      changed_piece site (variable_at numbers.names v) binop (eval around e.0)
-      (expr_code numbers e.0) met.1.0 (e.1 met.1.1)
+      assigned_piece site (variable_at numbers.names v) (e.1 met.1)
+  layers (Expr-F.Assign v (Some binop) e) met = changed_piece site binop met.1.0 (e.1 met.1.1)
   layers (Expr-F.Step v up prefix) met =
       step_agrees site (variable_at numbers.names v) up prefix
-  layers (Expr-F.Unary unop e) met =
-      unary_agrees unop (eval around e.0) (expr_code numbers e.0) (e.1 met)
+  layers (Expr-F.Unary unop e) met = unary_agrees unop (e.1 met)
   layers (Expr-F.Chain e pairs) met =
-      chain_agrees (eval around e.0) (expr_code numbers e.0)
-      (e.1 (met_front (expr_needs e.0) _ met)) pairs (met_back (expr_needs e.0) _ met)
+      chain_agrees (eval around e.0) (e.1 (met_front (expr_needs e.0) _ met)) pairs
+      (met_back (expr_needs e.0) _ met)
   layers (Expr-F.Cond c first second) met =
       let rest = met_back (expr_needs c.0) (expr_needs first.0 ++ expr_needs second.0) met in
-      cond_agrees site (eval around c.0) (eval around first.0) (eval around second.0)
-      (expr_code numbers c.0) (expr_code numbers first.0) (expr_code numbers second.0)
+      cond_agrees site
       (c.1 (met_front (expr_needs c.0) (expr_needs first.0 ++ expr_needs second.0) met))
       (first.1 (met_front (expr_needs first.0) (expr_needs second.0) rest))
       (second.1 (met_back (expr_needs first.0) (expr_needs second.0) rest))
   layers (Expr-F.Call f es) met =
-      call_agrees (callee_local numbers.names f) es
-      (λ exits at. Op (instr op.Call (function_at numbers.names f) 0 0)) met.1
-      (λ vs many. local_piece site (function_at numbers.names f) vs
+      call_agrees (callee_local numbers.names f) es met.1 (λ vs many. local_piece site vs
       (met.0 ∙ ap Some (as_many es vs many)))
   layers (Expr-F.External unit f es) met =
-      call_agrees (callee_external numbers.names unit f) es
-      (λ exits at. Op (instr op.CallUrl (url_number numbers unit) (text_number numbers f.name)
-      (length (codes es)))) met.1
-      (λ vs many. subst (λ (n : ℕ).
+      call_agrees (callee_external numbers.names unit f) es met.1 (λ vs many. subst (λ (n : ℕ).
       Piece site (calling site.call (callee_external numbers.names unit f) vs)
-      (one (λ exits at. Op (instr op.CallUrl (url_number numbers unit)
-      (text_number numbers f.name) n)))
-      (popped vs) (onto site pushed))
-      (many ∙ as_many_codes es)
-      (external_piece site (url_number numbers unit) (text_number numbers f.name)
-      (url_of unit.name numbers.names.urls) f.name vs met.0.0 met.0.1))
+      (one (λ exits at. Op (instr op.CallUrl (url_number numbers unit) (text_number numbers f.name)
+      n))) (popped vs) (onto site pushed)) (many ∙ as_many_codes es)
+      (external_piece site vs met.0.0 met.0.1))
   layers (Expr-F.Library l f es) met =
-      call_agrees (callee_library l f) es
-      (λ exits at. Op (instr op.CallLib (numbers_of l f).1 (numbers_of l f).0 0)) met.1
-      (λ vs many. library_piece site (numbers_of l f).0 (numbers_of l f).1 vs
+      call_agrees (callee_library l f) es met.1 (λ vs many. library_piece site vs
       (met.0 ∙ ap Some (as_many es vs many)))
 
   -- every expression and its code agree

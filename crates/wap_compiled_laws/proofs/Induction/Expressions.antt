@@ -6,21 +6,17 @@ use Rattle.std.specs.List.{flat_map, sum, sum_by}
 use Rattle.std.proofs.lemmas.List.{length-map}
 use Rattle.std.proofs.lemmas.List.Sums.{sum_by-cons}
 use Rattle.wap_value.specs.declared.operator.BinOp.{BinOp}
-use Rattle.wap_unit.specs.declared.row.OpName.TheVariants as op
-use Rattle.wap_asm.specs.declared.form.Form.TheVariants.{Op}
 use Rattle.wap_grammar.specs.declared.program.expression.Expr.{Expr, roll-Expr, map-Expr}
 use Rattle.wap_grammar.specs.declared.program.expression.Expr.TheOpen.{Expr-F}
 use Rattle.wap_grammar.specs.declared.program.expression.Expr.TheFolds.{fold-roll-Expr, ind-Expr}
 use Rattle.wap_scope.specs.Names.{Reference, External, references, Refers}
-use Rattle.wap_meaning.specs.Names.{variable_at, function_at, numbers_of, url_of}
-use Rattle.wap_meaning.specs.coding.Coded.{Coded, one, ◌⨾◌, instr, plain, with_operand, all_code}
+use Rattle.wap_meaning.specs.Names.{variable_at, function_at, numbers_of}
+use Rattle.wap_meaning.specs.coding.Coded.{Coded, ◌⨾◌, all_code}
 use Rattle.wap_meaning.specs.coding.Constants.{text_number, url_number}
 use Rattle.wap_meaning.specs.coding.Needs.{Need, expr_needs}
-use Rattle.wap_meaning.specs.coding.Expressions.{unary_code, binary_name, joined_code, chain_code}
-use Rattle.wap_meaning.specs.coding.Expressions.{load_code, store_code, change_name}
+use Rattle.wap_meaning.specs.coding.Expressions.{joined_code, chain_code}
 use Rattle.wap_meaning.specs.coding.Expressions.{expr_code_by, expr_code}
-use Rattle.wap_meaning.specs.compiled.Wide.{unary_wide, binary_wide, expr_wide_by, expr_wide}
-use Rattle.wap_compiled_laws.proofs.Pieces.Sizes.{branches}
+use Rattle.wap_meaning.specs.compiled.Wide.{binary_wide, expr_wide_by, expr_wide}
 use Rattle.wap_compiled_laws.proofs.Induction.Pieces.{higher, Setting}
 use Rattle.wap_compiled_laws.proofs.Induction.Known.{Known, front, behind, Named, KnownOf, KnownBy}
 use Rattle.wap_compiled_laws.proofs.Induction.Known.{unrolled}
@@ -38,12 +34,12 @@ module _ (here : Setting) where
   -- what is known of an expression and of what follows is known of the expression
   known_front : (e : Expr) (needs : List Need) (names : List Reference)
       → KnownAs (expr_needs e ++ needs) (references e ++ names) → KnownOf here e
-  known_front e needs names = front here (Named here) (expr_needs e) needs (references e) names
+  known_front e needs names = front here needs names
 
   -- and of what follows
-  known_back : (e : Expr) (needs : List Need) (names : List Reference)
+  known_back : (e : Expr) {needs : List Need} {names : List Reference}
       → KnownAs (expr_needs e ++ needs) (references e ++ names) → KnownAs needs names
-  known_back e needs names = behind here (Named here) (expr_needs e) needs (references e) names
+  known_back e = behind here (expr_needs e) (references e)
 
   -- where it is known, it holds of the code of an expression
   abbrev Claim : Expr → Type 0
@@ -67,7 +63,7 @@ module _ (here : Setting) where
   sizes_of pairs = map (λ (pair : BinOp × Expr). (pair.0, expr_wide pair.1)) (operands_of pairs)
 
   -- operators of one precedence
-  chain_gives : (inside : Bool) (first : Coded) (n : ℕ) → Gives here inside first n
+  chain_gives : {inside : Bool} (first : Coded) {n : ℕ} → Gives here inside first n
       → (pairs : List (BinOp × Part))
       → KnownAs (flat_map (λ (pair : BinOp × List Need). pair.1)
       (map (λ (pair : BinOp × Expr). (pair.0, expr_needs pair.1)) (operands_of pairs)))
@@ -76,22 +72,13 @@ module _ (here : Setting) where
       → Gives here inside (chain_code first
       (map (λ (pair : BinOp × Expr). (pair.0, expr_code numbers pair.1)) (operands_of pairs)))
       (n + sum_by pair_wide (sizes_of pairs))
-  chain_gives inside first n firsts [] known x =
-      same here inside first x (suc x) n (n + sum_by pair_wide []) (omega arith) (firsts x)
-  chain_gives inside first n firsts (pair ∷ pairs) known x =
+  chain_gives first firsts [] known x = same here (omega arith) (firsts x)
+  chain_gives {inside} first firsts (pair ∷ pairs) known x =
       let e = pair.1.0 in
       let second = joined_code pair.0 (expr_code numbers e) in
-      let codes : List (BinOp × Coded) =
-      map (λ (pair : BinOp × Expr). (pair.0, expr_code numbers pair.1)) (operands_of pairs) in
-      let size : ℕ = binary_wide pair.0 + expr_wide e in
-      same here inside (chain_code (first ⨾ second) codes) x (suc x)
-      (n + size + sum_by pair_wide (sizes_of pairs))
-      (n + sum_by pair_wide (sizes_of (pair ∷ pairs)))
-      (omega (arith, sum_by-cons pair_wide (pair.0, expr_wide e) (sizes_of pairs)))
-      (chain_gives inside (first ⨾ second) (n + size)
-      (λ x. pieces.both inside first second x (suc x) (suc x) n size (firsts x)
-      (joined_holds here inside pair.0 (expr_code numbers e) (expr_wide e)
-      (pair.1.1 inside (known_front e _ _ known)) x)) pairs (known_back e _ _ known) x)
+      same here (omega (arith, sum_by-cons pair_wide (pair.0, expr_wide e) (sizes_of pairs)))
+      (chain_gives (first ⨾ second) (λ x. pieces.both (firsts x) (joined_holds here pair.0
+      (pair.1.1 inside (known_front e _ _ known)))) pairs (known_back e known) x)
 
   -- arguments
   abbrev trees : List Part → List Expr
@@ -102,31 +89,23 @@ module _ (here : Setting) where
   codes_of es = map (expr_code numbers) (trees es)
 
   -- arguments leave as many operands as they are
-  all_hold : (inside : Bool) (es : List Part) (x : ℕ)
+  all_hold : {inside : Bool} (es : List Part) {x : ℕ}
       → KnownAs (flat_map (λ (ns : List Need). ns) (map expr_needs (trees es)))
       (flat_map (λ (rs : List Reference). rs) (map references (trees es)))
       → P inside (all_code (codes_of es)) x (higher (length (codes_of es)) x)
       (sum (map expr_wide (trees es)))
-  all_hold inside [] x known = pieces.none inside x
-  all_hold inside (e ∷ es) x known =
-      let rest = sum (map expr_wide (trees es)) in
-      same here inside (all_code (codes_of (e ∷ es))) x (higher (length (codes_of es)) (suc x))
-      (expr_wide e.0 + rest) (sum (map expr_wide (trees (e ∷ es))))
-      (sym (sum_by-cons (λ (n : ℕ). n) (expr_wide e.0) (map expr_wide (trees es))))
-      (pieces.both inside (expr_code numbers e.0) (all_code (codes_of es)) x (suc x)
-      (higher (length (codes_of es)) (suc x)) (expr_wide e.0) rest
-      (e.1 inside (known_front e.0 _ _ known) x)
-      (all_hold inside es (suc x) (known_back e.0 _ _ known)))
+  all_hold [] known = pieces.none
+  all_hold {inside} (e ∷ es) {x} known =
+      same here (sym (sum_by-cons (λ (n : ℕ). n) (expr_wide e.0) (map expr_wide (trees es))))
+      (pieces.both (e.1 inside (known_front e.0 _ _ known) x) (all_hold es (known_back e.0 known)))
 
   -- a call takes them
-  call_gives : (inside : Bool) (es : List Part) (call : Coded) (n x : ℕ)
+  call_gives : {inside : Bool} (es : List Part) {call : Coded} {n x : ℕ}
       → KnownAs (flat_map (λ (ns : List Need). ns) (map expr_needs (trees es)))
       (flat_map (λ (rs : List Reference). rs) (map references (trees es)))
       → P inside call (higher (length (codes_of es)) x) (suc x) n
       → P inside (all_code (codes_of es) ⨾ call) x (suc x) (sum (map expr_wide (trees es)) + n)
-  call_gives inside es call n x known calls =
-      pieces.both inside (all_code (codes_of es)) call x (higher (length (codes_of es)) x) (suc x)
-      (sum (map expr_wide (trees es))) n (all_hold inside es x known) calls
+  call_gives es known calls = pieces.both (all_hold es known) calls
 
   -- there are as many codes as lists of needs
   as_many : (es : List Expr) → length (map expr_needs es) ≡ length (map (expr_code numbers) es)
@@ -147,86 +126,52 @@ module _ (here : Setting) where
   unfolding expr_code expr_wide
   rolled x layer inside known n =
       subst (λ (coded : Coded). P inside coded n (suc n) (expr_wide (roll-Expr x)))
-      (sym (fold-roll-Expr Coded (expr_code_by numbers) x))
-      (same here inside (expr_code_by numbers (map-Expr Expr Coded (expr_code numbers) x)) n (suc n)
-      (expr_wide_by (map-Expr Expr ℕ expr_wide x)) (expr_wide (roll-Expr x))
-      (sym (fold-roll-Expr ℕ expr_wide_by x))
-      (layer inside (unrolled here x (roll-Expr x) refl known) n))
+      (sym (fold-roll-Expr Coded (expr_code_by numbers) x)) (same here
+      (sym (fold-roll-Expr ℕ expr_wide_by x)) (layer inside (unrolled here x refl known) n))
 
   -- every construct
   layers : (y : Expr-F Part) → Layer (map-Expr Part Expr (λ e. e.0) y)
-  layers (Expr-F.Lit l) inside known x = literal_gives here inside l known.met x
-  layers (Expr-F.Var v) inside known x =
-      load_gives here inside (variable_at numbers.names v) known.met.0 x
+  layers (Expr-F.Lit l) inside known x = literal_gives here l known.met x
+  layers (Expr-F.Var v) inside known x = load_gives here known.met.0 x
   layers (Expr-F.Assign v None e) inside known x =
-      let a = variable_at numbers.names v in
-      pieces.both inside (expr_code numbers e.0) (store_code a ⨾ load_code a) x (suc x) (suc x)
-      (expr_wide e.0) 4
-      (e.1 inside (record { met = known.met.1; said = known.said.1 }) x)
-      (kept_holds here inside a x known.met.0)
+      pieces.both (e.1 inside (record { met = known.met.1; said = known.said.1 }) x)
+      (kept_holds here known.met.0)
   layers (Expr-F.Assign v (Some binop) e) inside known x =
-      let a = variable_at numbers.names v in
-      let kept = store_code a ⨾ load_code a in
-      let operator = plain (binary_name binop) in
-      let n = expr_wide e.0 in
-      same here inside (load_code a ⨾ expr_code numbers e.0 ⨾ operator ⨾ kept) x (suc x)
-      (2 + (n + 5)) (n + 7) (omega arith)
-      (pieces.both inside (load_code a) (expr_code numbers e.0 ⨾ operator ⨾ kept) x (suc x) (suc x)
-      2 (n + 5) (load_gives here inside a known.met.0 x)
-      (pieces.both inside (expr_code numbers e.0) (operator ⨾ kept) (suc x) (suc (suc x)) (suc x)
-      n 5 (e.1 inside (record { met = known.met.1.1; said = known.said.1 }) (suc x))
-      (pieces.both inside operator kept (suc (suc x)) (suc x) (suc x) 1 4
-      (binary_holds here inside binop x known.met.1.0) (kept_holds here inside a x known.met.0))))
+      same here (omega arith) (pieces.both (load_gives here known.met.0 x)
+      (pieces.both (e.1 inside (record { met = known.met.1.1; said = known.said.1 }) (suc x))
+      (pieces.both (binary_holds here binop known.met.1.0) (kept_holds here known.met.0))))
   layers (Expr-F.Step v up true) inside known x =
       let a = variable_at numbers.names v in
-      pieces.both inside (with_operand (change_name up) a) (load_code a) x x (suc x) 2 2
-      (change_holds here inside up a x known.met.0) (load_gives here inside a known.met.0 x)
+      pieces.both (change_holds here inside up a x known.met.0) (load_gives here known.met.0 x)
   layers (Expr-F.Step v up false) inside known x =
       let a = variable_at numbers.names v in
-      pieces.both inside (load_code a) (with_operand (change_name up) a) x (suc x) (suc x) 2 2
-      (load_gives here inside a known.met.0 x) (change_holds here inside up a (suc x) known.met.0)
+      pieces.both (load_gives here known.met.0 x)
+      (change_holds here inside up a (suc x) known.met.0)
   layers (Expr-F.Unary unop e) inside known x =
-      pieces.both inside (expr_code numbers e.0) (unary_code unop) x (suc x) (suc x)
-      (expr_wide e.0) (unary_wide unop) (e.1 inside known x) (unary_holds here inside unop x)
+      pieces.both (e.1 inside known x) (unary_holds here unop)
   layers (Expr-F.Chain e pairs) inside known x =
-      chain_gives inside (expr_code numbers e.0) (expr_wide e.0)
-      (e.1 inside (known_front e.0 _ _ known)) pairs (known_back e.0 _ _ known) x
+      chain_gives (expr_code numbers e.0) (e.1 inside (known_front e.0 _ _ known)) pairs
+      (known_back e.0 known) x
   layers (Expr-F.Cond c first second) inside known x =
-      let one = expr_code numbers first.0 in
-      let two = expr_code numbers second.0 in
-      let rest = known_back c.0 (expr_needs first.0 ++ expr_needs second.0)
-      (references first.0 ++ references second.0) known in
-      let m = expr_wide first.0 in
-      let n = expr_wide second.0 in
-      same here inside (expr_code numbers c.0 ⨾ branches one two) x (suc x)
-      (expr_wide c.0 + (m + n + 6)) (expr_wide c.0 + m + n + 6) (omega arith)
-      (pieces.both inside (expr_code numbers c.0) (branches one two) x (suc x) (suc x)
-      (expr_wide c.0) (m + n + 6)
+      let rest = known_back c.0 known in
+      same here (omega arith) (pieces.both
       (c.1 inside (known_front c.0 (expr_needs first.0 ++ expr_needs second.0)
-      (references first.0 ++ references second.0) known) x)
-      (pieces.either inside one two x (suc x) m n
+      (references first.0 ++ references second.0) known) x) (pieces.either
       (first.1 inside (known_front first.0 (expr_needs second.0) (references second.0) rest) x)
-      (second.1 inside (known_back first.0 (expr_needs second.0) (references second.0) rest) x)))
+      (second.1 inside (known_back first.0 rest) x)))
   layers (Expr-F.Call f es) inside known x =
-      call_gives inside es (with_operand op.Call (function_at numbers.names f)) 2 x
-      (record { met = known.met.1; said = known.said.1 })
-      (pieces.local_op inside (function_at numbers.names f) (length (codes_of es)) x
-      (known.met.0 ∙ ap Some (as_many (trees es))))
+      call_gives es (record { met = known.met.1; said = known.said.1 })
+      (pieces.local_op (function_at numbers.names f) x (known.met.0 ∙ ap Some (as_many (trees es))))
   layers (Expr-F.External u f es) inside known x =
       let a = url_number numbers u in
       let b = text_number numbers f.name in
-      call_gives inside es
-      (one (λ exits at. Op (instr op.CallUrl a b (length (codes_of es))))) 6 x
-      (record { met = known.met.1; said = known.said.1 })
-      (pieces.other_op inside u f a b (length (codes_of es)) x (url_of u.name numbers.names.urls)
-      f.name known.met.0.0 known.met.0.1
+      call_gives es (record { met = known.met.1; said = known.said.1 })
+      (pieces.other_op a b x known.met.0.0 known.met.0.1
       (subst (λ (n : ℕ). Said (Refers (External u f n))) (as_named (trees es)) known.said.0))
   layers (Expr-F.Library l f es) inside known x =
       let a = (numbers_of l f).1 in
       let b = (numbers_of l f).0 in
-      call_gives inside es (one (λ exits at. Op (instr op.CallLib a b 0))) 4 x
-      (record { met = known.met.1; said = known.said.1 })
-      (pieces.library_op inside a b (length (codes_of es)) x
+      call_gives es (record { met = known.met.1; said = known.said.1 }) (pieces.library_op a b x
       (known.met.0 ∙ ap Some (as_many (trees es))))
 
   -- every expression

@@ -30,17 +30,19 @@ module _ (here : Setting) where
   met_back (need ∷ some) other met = met_back some other met.1
 
   -- what is known of two parts is known of the first
-  pub front : {X : Type 0} (Q : X → Type 0) (needs more : List Need) (says after : List X)
+  pub front : {X : Type 0} {Q : X
+      → Type 0} {needs : List Need} (more : List Need) {says : List X} (after : List X)
       → Known Q (needs ++ more) (says ++ after) → Known Q needs says
-  front Q needs more says after known = record {
+  front {Q} {needs} more {says} after known = record {
     met = met_front needs more known.met;
     said = each_front Q says after known.said;
   }
 
   -- and of the second
-  pub behind : {X : Type 0} (Q : X → Type 0) (needs more : List Need) (says after : List X)
+  pub behind : {X : Type 0} {Q : X
+      → Type 0} (needs : List Need) {more : List Need} (says : List X) {after : List X}
       → Known Q (needs ++ more) (says ++ after) → Known Q more after
-  behind Q needs more says after known = record {
+  behind {Q} needs {more} says {after} known = record {
     met = met_back needs more known.met;
     said = each_back Q says after known.said;
   }
@@ -59,9 +61,9 @@ module _ (here : Setting) where
       (references_by (map-Expr Expr (List Reference) references x))
 
   -- what is known of an expression is known of its parts
-  pub unrolled : (x : Expr-F Expr) (e : Expr) → roll-Expr x ≡ e → KnownOf e → KnownBy x
+  pub unrolled : (x : Expr-F Expr) {e : Expr} → roll-Expr x ≡ e → KnownOf e → KnownBy x
   unfolding expr_needs references
-  unrolled x e is known = record {
+  unrolled x is known = record {
     met = subst (AreMet unit numbers)
         (ap expr_needs (sym is) ∙ fold-roll-Expr (List Need) expr_needs_by x) known.met;
     said = subst (AllByRecursion Named)

@@ -13,7 +13,6 @@ use Rattle.wap_asm.specs.Spellings.{operation_of, longest}
 use Rattle.wap_asm.specs.Placing.{wide_size}
 use Rattle.wap_grammar.specs.declared.program.expression.Literal.{Literal}
 use Rattle.wap_grammar.specs.declared.program.expression.Literal.TheVariants as literal
-use Rattle.wap_meaning.specs.Expressions.{value_of}
 use Rattle.wap_meaning.specs.coding.Coded.{Coded, ◌⨾◌, instr, plain, with_operand}
 use Rattle.wap_meaning.specs.coding.Constants.{number_of}
 use Rattle.wap_meaning.specs.coding.Needs.{AreMet, literal_needs}
@@ -37,104 +36,85 @@ module _ (here : Setting) where
   open here use {unit, numbers, P, pieces}
 
   -- a size that is the same
-  pub same : (inside : Bool) (coded : Coded) (from to m n : ℕ) → m ≡ n
-      → P inside coded from to m → P inside coded from to n
-  same inside coded from to m n is holds = subst (P inside coded from to) is holds
+  pub same : {inside : Bool} {coded : Coded} {from to m n : ℕ} → m ≡ n → P inside coded from to m
+      → P inside coded from to n
+  same {inside} {coded} {from} {to} is holds = subst (P inside coded from to) is holds
 
   -- code leaves one operand more
   abbrev pub Gives : Bool → Coded → ℕ → Type 0
   Gives inside coded size = (x : ℕ) → P inside coded x (suc x) size
 
   -- a literal
-  pub literal_gives : (inside : Bool) (l : Literal) → AreMet unit numbers (literal_needs l)
+  pub literal_gives : {inside : Bool} (l : Literal) → AreMet unit numbers (literal_needs l)
       → Gives inside (literal_code numbers l) (literal_wide l)
   unfolding wide_size operation_of longest
-  literal_gives inside (literal.Int z) met x =
-      pieces.constant_op inside (number_of numbers (literal.Int z)) x
-      (constant_within unit (number_of numbers (literal.Int z)) (value_of (literal.Int z)) met.0)
-  literal_gives inside literal.Float met x =
-      pieces.plain_op inside op.ConstInvalid 0 1 x refl
-  literal_gives inside (literal.Str []) met x = pieces.plain_op inside op.ConstEs 0 1 x refl
-  literal_gives inside (literal.Str (c ∷ cs)) met x =
-      pieces.constant_op inside (number_of numbers (literal.Str (c ∷ cs))) x
-      (constant_within unit (number_of numbers (literal.Str (c ∷ cs)))
-      (value_of (literal.Str (c ∷ cs))) met.0)
-  literal_gives inside (literal.Bool true) met x =
-      pieces.plain_op inside op.ConstTrue 0 1 x refl
-  literal_gives inside (literal.Bool false) met x =
-      pieces.plain_op inside op.ConstFalse 0 1 x refl
-  literal_gives inside literal.Invalid met x = pieces.plain_op inside op.ConstInvalid 0 1 x refl
+  literal_gives (literal.Int z) met x =
+      pieces.constant_op (number_of numbers (literal.Int z)) (constant_within unit met.0)
+  literal_gives literal.Float met x = pieces.plain_op op.ConstInvalid x refl
+  literal_gives (literal.Str []) met x = pieces.plain_op op.ConstEs x refl
+  literal_gives (literal.Str (c ∷ cs)) met x =
+      pieces.constant_op (number_of numbers (literal.Str (c ∷ cs))) (constant_within unit met.0)
+  literal_gives (literal.Bool true) met x = pieces.plain_op op.ConstTrue x refl
+  literal_gives (literal.Bool false) met x = pieces.plain_op op.ConstFalse x refl
+  literal_gives literal.Invalid met x = pieces.plain_op op.ConstInvalid x refl
 
   -- an operator of one operand
-  pub unary_holds : (inside : Bool) (unop : UnOp) (x : ℕ)
+  pub unary_holds : {inside : Bool} (unop : UnOp) {x : ℕ}
       → P inside (unary_code unop) (suc x) (suc x) (unary_wide unop)
   unfolding wide_size operation_of longest
-  unary_holds inside un.Plus x =
-      pieces.both inside (plain op.Const0) (plain op.Sub) (suc x) (suc (suc x)) (suc x) 1 1
-      (pieces.plain_op inside op.Const0 0 1 (suc x) refl)
-      (pieces.plain_op inside op.Sub 2 1 x refl)
-  unary_holds inside un.Minus x = pieces.plain_op inside op.Uminus 1 1 x refl
-  unary_holds inside un.BitNot x = pieces.plain_op inside op.BNot 1 1 x refl
-  unary_holds inside un.Not x = pieces.plain_op inside op.Not 1 1 x refl
-  unary_holds inside un.TypeOf x = pieces.plain_op inside op.Typeof 1 1 x refl
-  unary_holds inside un.IsValid x = pieces.plain_op inside op.Isvalid 1 1 x refl
-  unary_holds inside un.ToBool x = pieces.plain_op inside op.Tobool 1 1 x refl
-  unary_holds inside un.Incr x = pieces.plain_op inside op.Incr 1 1 x refl
-  unary_holds inside un.Decr x = pieces.plain_op inside op.Decr 1 1 x refl
+  unary_holds un.Plus {x} =
+      pieces.both (pieces.plain_op op.Const0 (suc x) refl) (pieces.plain_op op.Sub x refl)
+  unary_holds un.Minus {x} = pieces.plain_op op.Uminus x refl
+  unary_holds un.BitNot {x} = pieces.plain_op op.BNot x refl
+  unary_holds un.Not {x} = pieces.plain_op op.Not x refl
+  unary_holds un.TypeOf {x} = pieces.plain_op op.Typeof x refl
+  unary_holds un.IsValid {x} = pieces.plain_op op.Isvalid x refl
+  unary_holds un.ToBool {x} = pieces.plain_op op.Tobool x refl
+  unary_holds un.Incr {x} = pieces.plain_op op.Incr x refl
+  unary_holds un.Decr {x} = pieces.plain_op op.Decr x refl
 
   -- an operator that takes both values
-  pub binary_holds : (inside : Bool) (binop : BinOp) (x : ℕ) → TakesBoth binop
+  pub binary_holds : {inside : Bool} (binop : BinOp) {x : ℕ} → TakesBoth binop
       → P inside (plain (binary_name binop)) (suc (suc x)) (suc x) 1
-  binary_holds inside binop x takes =
-      pieces.plain_op inside (binary_name binop) 2 1 x (binary_is unit binop takes)
+  binary_holds binop {x} takes = pieces.plain_op (binary_name binop) x (binary_is unit binop takes)
 
   -- such an operator, and the operand on its right
-  operator_holds : (inside : Bool) (binop : BinOp) (second : Coded) (n : ℕ) → TakesBoth binop
-      → Gives inside second n → (x : ℕ)
+  operator_holds : {inside : Bool} (binop : BinOp) {second : Coded} {n : ℕ} → TakesBoth binop
+      → Gives inside second n → {x : ℕ}
       → P inside (second ⨾ plain (binary_name binop)) (suc x) (suc x) (1 + n)
-  operator_holds inside binop second n takes gives x =
-      same inside (second ⨾ plain (binary_name binop)) (suc x) (suc x) (n + 1) (1 + n) (omega arith)
-      (pieces.both inside second (plain (binary_name binop)) (suc x) (suc (suc x)) (suc x) n 1
-      (gives (suc x)) (binary_holds inside binop x takes))
+  operator_holds binop takes gives {x} =
+      same (omega arith) (pieces.both (gives (suc x)) (binary_holds binop takes))
 
   -- every operator and the operand on its right
-  pub joined_holds : (inside : Bool) (binop : BinOp) (second : Coded) (n : ℕ)
-      → Gives inside second n → (x : ℕ)
+  pub joined_holds : {inside : Bool} (binop : BinOp) {second : Coded} {n : ℕ}
+      → Gives inside second n → {x : ℕ}
       → P inside (joined_code binop second) (suc x) (suc x) (binary_wide binop + n)
   unfolding wide_size operation_of longest
-  joined_holds inside bin.And second n gives x =
-      pieces.short_circuit inside op.Scand second x n refl (gives x)
-  joined_holds inside bin.Or second n gives x =
-      pieces.short_circuit inside op.Scor second x n refl (gives x)
-  joined_holds inside bin.Comma second n gives x =
-      pieces.both inside (plain op.Pop) second (suc x) x (suc x) 1 n
-      (pieces.plain_op inside op.Pop 1 0 x refl) (gives x)
-  joined_holds inside binop second n gives x = operator_holds inside binop second n tt gives x
+  joined_holds bin.And gives {x} = pieces.short_circuit op.Scand refl (gives x)
+  joined_holds bin.Or gives {x} = pieces.short_circuit op.Scor refl (gives x)
+  joined_holds bin.Comma gives {x} = pieces.both (pieces.plain_op op.Pop x refl) (gives x)
+  joined_holds binop gives = operator_holds binop tt gives
 
   -- a variable
-  pub load_gives : (inside : Bool) (a : ℕ) → a < length numbers.names.variables
+  pub load_gives : {inside : Bool} {a : ℕ} → a < length numbers.names.variables
       → Gives inside (load_code a) 2
   unfolding wide_size operation_of longest
-  load_gives inside a there x = pieces.variable_op inside op.LoadVar a 0 1 x 2 refl there
+  load_gives {a} there x = pieces.variable_op op.LoadVar a x refl there
 
   -- a value that is stored
-  pub store_holds : (inside : Bool) (a x : ℕ) → a < length numbers.names.variables
+  pub store_holds : {inside : Bool} {a x : ℕ} → a < length numbers.names.variables
       → P inside (store_code a) (suc x) x 2
   unfolding wide_size operation_of longest
-  store_holds inside a x there = pieces.variable_op inside op.StoreVar a 1 0 x 2 refl there
+  store_holds {a} {x} there = pieces.variable_op op.StoreVar a x refl there
 
   -- a value that is stored and loaded again
-  pub kept_holds : (inside : Bool) (a x : ℕ) → a < length numbers.names.variables
+  pub kept_holds : {inside : Bool} {a x : ℕ} → a < length numbers.names.variables
       → P inside (store_code a ⨾ load_code a) (suc x) (suc x) 4
-  kept_holds inside a x there =
-      pieces.both inside (store_code a) (load_code a) (suc x) x (suc x) 2 2
-      (store_holds inside a x there) (load_gives inside a there x)
+  kept_holds {x} there = pieces.both (store_holds there) (load_gives there x)
 
   -- a variable that goes up or down
   pub change_holds : (inside up : Bool) (a x : ℕ) → a < length numbers.names.variables
       → P inside (with_operand (change_name up) a) x x 2
   unfolding wide_size operation_of longest
-  change_holds inside true a x there =
-      pieces.variable_op inside op.IncrVar a 0 0 x 2 refl there
-  change_holds inside false a x there =
-      pieces.variable_op inside op.DecrVar a 0 0 x 2 refl there
+  change_holds inside true a x there = pieces.variable_op op.IncrVar a x refl there
+  change_holds inside false a x there = pieces.variable_op op.DecrVar a x refl there

@@ -72,20 +72,19 @@ HasFacts unit form names flow size =
     }
 
 -- it takes and gives what they say
-pub flow_is : (unit : CodeUnit) (form : Instr) (names : Operands) (flow : Flow) (size : ℕ)
+pub flow_is : (unit : CodeUnit) (form : Instr) {names : Operands} {flow : Flow} {size : ℕ}
     → HasFacts unit form names flow size → flow_of unit form ≡ flow
-flow_is unit form names flow size has = ap (λ (f : Facts). f.flow) has
+flow_is unit form {flow} has = ap (λ (f : Facts). f.flow) has
 
 -- it is an operation
-pub operation_is : (unit : CodeUnit) (form : Instr) (names : Operands) (flow : Flow) (size : ℕ)
+pub operation_is : (unit : CodeUnit) (form : Instr) {names : Operands} {flow : Flow} {size : ℕ}
     → HasFacts unit form names flow size → IsOperation form.name
-operation_is unit form names flow size has =
-    (ap (λ (f : Facts). f.spells) has, ap (λ (f : Facts). f.jumps) has)
+operation_is unit form has = (ap (λ (f : Facts). f.spells) has, ap (λ (f : Facts). f.jumps) has)
 
 -- its operands name what they say
-pub names_is : (unit : CodeUnit) (form : Instr) (names : Operands) (flow : Flow) (size : ℕ)
+pub names_is : (unit : CodeUnit) (form : Instr) {names : Operands} {flow : Flow} {size : ℕ}
     → HasFacts unit form names flow size → kind_of form.name ≡ names
-names_is unit form names flow size has = ap (λ (f : Facts). f.names) has
+names_is unit form {names} has = ap (λ (f : Facts). f.names) has
 
 -- ---- pieces
 
@@ -94,60 +93,60 @@ names_is unit form names flow size has = ap (λ (f : Facts). f.names) has
 pub record OfPieces (unit : CodeUnit) (variables : ℕ) (Said : Mention → Type 0) (P : Property)
     : Type 0 where
   -- of no form
-  pub none : (inside : Bool) (x : ℕ) → P inside empty x x 0
+  pub none : {inside : Bool} {x : ℕ} → P inside empty x x 0
   -- of an operation without operands
-  pub plain_op : (inside : Bool) (name : OpName) (takes gives x : ℕ)
+  pub plain_op : {inside : Bool} (name : OpName) {takes gives : ℕ} (x : ℕ)
       → HasFacts unit (instr name 0 0 0) operands.Plain (goes takes gives) 1
       → P inside (plain name) (higher takes x) (higher gives x) 1
   -- of one that leaves the function
-  pub leaving : (inside : Bool) (name : OpName) (takes x y : ℕ)
+  pub leaving : {inside : Bool} (name : OpName) {takes : ℕ} (x : ℕ) {y : ℕ}
       → HasFacts unit (instr name 0 0 0) operands.Plain (leaves takes) 1
       → P inside (plain name) (higher takes x) y 1
   -- of an operation on a variable
-  pub variable_op : (inside : Bool) (name : OpName) (a takes gives x size : ℕ)
+  pub variable_op : {inside : Bool} (name : OpName) (a : ℕ) {takes gives : ℕ} (x : ℕ) {size : ℕ}
       → HasFacts unit (instr name a 0 0) operands.Variable (goes takes gives) size → a < variables
       → P inside (with_operand name a) (higher takes x) (higher gives x) size
   -- of a constant
-  pub constant_op : (inside : Bool) (a x : ℕ) → a < length unit.constants
+  pub constant_op : {inside : Bool} (a : ℕ) {x : ℕ} → a < length unit.constants
       → P inside (with_operand op.LoadConst a) x (suc x) 3
   -- of a call of a function of the unit
-  pub local_op : (inside : Bool) (a count x : ℕ)
+  pub local_op : {inside : Bool} (a : ℕ) {count : ℕ} (x : ℕ)
       → option_map (λ (code : Code). code.args) (slice_get unit.functions a) ≡ Some count
       → P inside (with_operand op.Call a) (higher count x) (suc x) 2
   -- of a call of a function of another unit
-  pub other_op : (inside : Bool) (u f : Id) (a b count x : ℕ) (url name : List ℕ)
+  pub other_op : {inside : Bool} {u f : Id} (a b : ℕ) {count : ℕ} (x : ℕ) {url name : List ℕ}
       → string_at unit a ≡ Some url → string_at unit b ≡ Some name
       → Said (Refers (External u f count))
       → P inside (one (λ exits at. Op (instr op.CallUrl a b count))) (higher count x) (suc x) 6
   -- of a call of a function of a library
-  pub library_op : (inside : Bool) (a b count x : ℕ) → lib_args b a ≡ Some count
+  pub library_op : {inside : Bool} (a b : ℕ) {count : ℕ} (x : ℕ) → lib_args b a ≡ Some count
       → P inside (one (λ exits at. Op (instr op.CallLib a b 0))) (higher count x) (suc x) 4
   -- of one piece after the other
-  pub both : (inside : Bool) (first second : Coded) (x y z m n : ℕ) → P inside first x y m
+  pub both : {inside : Bool} {first second : Coded} {x y z m n : ℕ} → P inside first x y m
       → P inside second y z n → P inside (first ⨾ second) x z (m + n)
   -- of two branches
-  pub either : (inside : Bool) (first second : Coded) (x y m n : ℕ) → P inside first x y m
+  pub either : {inside : Bool} {first second : Coded} {x y m n : ℕ} → P inside first x y m
       → P inside second x y n → P inside (branches first second) (suc x) y (m + n + 6)
   -- of one branch
-  pub branch : (inside : Bool) (body : Coded) (n : ℕ) → P inside body 0 0 n
+  pub branch : {inside : Bool} {body : Coded} {n : ℕ} → P inside body 0 0 n
       → P inside (branch_code body) 1 0 (n + 3)
   -- of a short-circuit
-  pub short_circuit : (inside : Bool) (name : OpName) (second : Coded) (x n : ℕ)
+  pub short_circuit : {inside : Bool} (name : OpName) {second : Coded} {x n : ℕ}
       → HasFacts unit (instr name 0 0 0) operands.Plain short 1 → P inside second x (suc x) n
       → P inside (short_code name second) (suc x) (suc x) (5 + n)
   -- of a loop without condition
-  pub endless : (inside : Bool) (body update : Coded) (m n : ℕ) → P true body 0 0 m
+  pub endless : {inside : Bool} {body update : Coded} {m n : ℕ} → P true body 0 0 m
       → P inside update 0 0 n → P inside (loop_code (λ over. empty) body update) 0 0 (m + n + 3)
   -- of a loop with one
-  pub loop : (inside : Bool) (test body update : Coded) (l m n : ℕ) → P inside test 0 1 l
+  pub loop : {inside : Bool} {test body update : Coded} {l m n : ℕ} → P inside test 0 1 l
       → P true body 0 0 m → P inside update 0 0 n
       → P inside (loop_code (λ over. test ⨾ jump_over op.TjumpFw over) body update) 0 0
       (m + n + (l + 6))
   -- of `break`
-  pub break_out : (inside : Bool) (word : Span) → Said (Jumps word inside)
+  pub break_out : {inside : Bool} {word : Span} → Said (Jumps word inside)
       → P inside (one (λ exits at. exit_form exits (λ labels. labels.0))) 0 0 3
   -- of `continue`
-  pub next_turn : (inside : Bool) (word : Span) → Said (Jumps word inside)
+  pub next_turn : {inside : Bool} {word : Span} → Said (Jumps word inside)
       → P inside (one (λ exits at. exit_form exits (λ labels. labels.1))) 0 0 3
 
 -- a unit, what the names of a function and its constants are there, what its source says, and what

@@ -11,15 +11,11 @@ use Rattle.wap_grammar.specs.declared.program.statement.Stmt.{Stmt, roll-Stmt, m
 use Rattle.wap_grammar.specs.declared.program.statement.Stmt.TheOpen.{Stmt-F}
 use Rattle.wap_grammar.specs.declared.program.statement.Stmt.TheFolds.{fold-roll-Stmt, ind-Stmt}
 use Rattle.wap_scope.specs.Names.{Mention, refers, refers_if, mentions_by, mentions}
-use Rattle.wap_meaning.specs.coding.Coded.{Coded, empty, ◌⨾◌, plain, all_code}
-use Rattle.wap_meaning.specs.coding.Expressions.{expr_code}
-use Rattle.wap_meaning.specs.coding.Statements.{branch_code, test_code, loop_code, update_code}
+use Rattle.wap_meaning.specs.coding.Coded.{Coded, all_code}
 use Rattle.wap_meaning.specs.coding.Statements.{stmt_code_by, stmt_code}
 use Rattle.wap_meaning.specs.coding.Needs.{Need, AreMet, expr_needs, optional_needs, stmt_needs_by}
 use Rattle.wap_meaning.specs.coding.Needs.{stmt_needs}
-use Rattle.wap_meaning.specs.compiled.Wide.{expr_wide, loop_wide}
-use Rattle.wap_compiled_laws.proofs.Pieces.Sizes.{branches}
-use Rattle.wap_compiled_laws.proofs.CodeSizes.Saving.{effect_cost_if, stmt_cost_by, stmt_cost}
+use Rattle.wap_compiled_laws.proofs.CodeSizes.Saving.{stmt_cost_by, stmt_cost}
 use Rattle.wap_compiled_laws.proofs.Induction.Pieces.{Setting}
 use Rattle.wap_compiled_laws.proofs.Induction.Known.{front, behind}
 use Rattle.wap_compiled_laws.proofs.Induction.Effects.{Stated, known_of, Rests, rests_same}
@@ -43,21 +39,16 @@ module _ (here : Setting) where
   trees ss = map (λ (s : Part). s.0) ss
 
   -- statements in order
-  block_rests : (inside : Bool) (ss : List Part)
+  block_rests : {inside : Bool} (ss : List Part)
       → Stated here (flat_map (λ (needs : List Need). needs) (map stmt_needs (trees ss)))
       (flat_map (λ (s : Bool → List Mention). s inside) (map mentions (trees ss)))
       → Rests here inside (all_code (map (stmt_code numbers) (trees ss)))
       (sum (map stmt_cost (trees ss)))
-  block_rests inside [] stated = pieces.none inside 0
-  block_rests inside (s ∷ ss) stated =
-      let rest = sum (map stmt_cost (trees ss)) in
-      rests_same here inside (all_code (map (stmt_code numbers) (trees (s ∷ ss))))
-      (stmt_cost s.0 + rest) (sum (map stmt_cost (trees (s ∷ ss))))
-      (sym (sum_by-cons (λ (n : ℕ). n) (stmt_cost s.0) (map stmt_cost (trees ss))))
-      (rests_both here inside (stmt_code numbers s.0)
-      (all_code (map (stmt_code numbers) (trees ss))) (stmt_cost s.0) rest
-      (s.1 inside (front here Said (stmt_needs s.0) _ (mentions s.0 inside) _ stated))
-      (block_rests inside ss (behind here Said (stmt_needs s.0) _ (mentions s.0 inside) _ stated)))
+  block_rests [] stated = pieces.none
+  block_rests {inside} (s ∷ ss) stated =
+      rests_same here (sym (sum_by-cons (λ (n : ℕ). n) (stmt_cost s.0) (map stmt_cost (trees ss))))
+      (rests_both here (s.1 inside (front here _ _ stated))
+      (block_rests ss (behind here (stmt_needs s.0) (mentions s.0 inside) stated)))
 
   -- it holds of a statement by its parts
   abbrev Layer : Stmt-F Stmt → Type 0
@@ -72,9 +63,7 @@ module _ (here : Setting) where
   unfolding stmt_code stmt_needs mentions stmt_cost
   rolled x layer inside stated =
       subst (λ (coded : Coded). Rests here inside coded (stmt_cost (roll-Stmt x)))
-      (sym (fold-roll-Stmt Coded (stmt_code_by numbers) x))
-      (rests_same here inside (stmt_code_by numbers (map-Stmt Stmt Coded (stmt_code numbers) x))
-      (stmt_cost_by (map-Stmt Stmt ℕ stmt_cost x)) (stmt_cost (roll-Stmt x))
+      (sym (fold-roll-Stmt Coded (stmt_code_by numbers) x)) (rests_same here
       (sym (fold-roll-Stmt ℕ stmt_cost_by x))
       (layer inside (record {
         met = subst (AreMet unit numbers) (fold-roll-Stmt (List Need) stmt_needs_by x) stated.met;
@@ -85,60 +74,33 @@ module _ (here : Setting) where
   -- every construct
   layers : (y : Stmt-F Part) → Layer (map-Stmt Part Stmt (λ s. s.0) y)
   unfolding wide_size operation_of longest
-  layers Stmt-F.Empty inside stated = pieces.none inside 0
-  layers (Stmt-F.Expr e) inside stated = whole_rests here inside e (known_of here e stated)
-  layers (Stmt-F.Block ss) inside stated = block_rests inside ss stated
-  layers (Stmt-F.Vars pairs) inside stated = variables_rest here inside pairs stated
+  layers Stmt-F.Empty inside stated = pieces.none
+  layers (Stmt-F.Expr e) inside stated = whole_rests here e (known_of here e stated)
+  layers (Stmt-F.Block ss) inside stated = block_rests ss stated
+  layers (Stmt-F.Vars pairs) inside stated = variables_rest here pairs stated
   layers (Stmt-F.If c s None) inside stated =
-      pieces.both inside (expr_code numbers c) (branch_code (stmt_code numbers s.0)) 0 1 0
-      (expr_wide c) (stmt_cost s.0 + 3)
-      (gives here inside c (known_of here c (front here Said (expr_needs c) _ (refers c) _ stated)))
-      (pieces.branch inside (stmt_code numbers s.0) (stmt_cost s.0)
-      (s.1 inside (front here Said (stmt_needs s.0) [] (mentions s.0 inside) []
-      (behind here Said (expr_needs c) _ (refers c) _ stated))))
+      pieces.both (gives here c (known_of here c (front here _ _ stated)))
+      (pieces.branch (s.1 inside (front here [] [] (behind here (expr_needs c) (refers c) stated))))
   layers (Stmt-F.If c s (Some other)) inside stated =
-      let one = stmt_code numbers s.0 in
-      let two = stmt_code numbers other.0 in
-      let rest = behind here Said (expr_needs c) (stmt_needs s.0 ++ stmt_needs other.0) (refers c)
-      (mentions s.0 inside ++ mentions other.0 inside) stated in
-      pieces.both inside (expr_code numbers c) (branches one two) 0 1 0 (expr_wide c)
-      (stmt_cost s.0 + stmt_cost other.0 + 6)
-      (gives here inside c (known_of here c (front here Said (expr_needs c) _ (refers c) _ stated)))
-      (pieces.either inside one two 0 0 (stmt_cost s.0) (stmt_cost other.0)
-      (s.1 inside (front here Said (stmt_needs s.0) (stmt_needs other.0) (mentions s.0 inside)
-      (mentions other.0 inside) rest))
-      (other.1 inside (behind here Said (stmt_needs s.0) (stmt_needs other.0) (mentions s.0 inside)
-      (mentions other.0 inside) rest)))
+      let rest = behind here (expr_needs c) (refers c) stated in
+      pieces.both (gives here c (known_of here c (front here _ _ stated))) (pieces.either
+      (s.1 inside (front here (stmt_needs other.0) (mentions other.0 inside) rest))
+      (other.1 inside (behind here (stmt_needs s.0) (mentions s.0 inside) rest)))
   layers (Stmt-F.While c s) inside stated =
-      rests_same here inside (loop_code (test_code numbers (Some c)) (stmt_code numbers s.0) empty)
-      (stmt_cost s.0 + 0 + (expr_wide c + 6)) (stmt_cost s.0 + (expr_wide c + 6)) (omega arith)
-      (loop_rests here inside (Some c) (stmt_code numbers s.0) empty (stmt_cost s.0) 0
-      (front here Said (expr_needs c) _ (refers c) _ stated)
-      (s.1 true (behind here Said (expr_needs c) _ (refers c) _ stated)) (pieces.none inside 0))
+      rests_same here (omega arith) (loop_rests here (Some c) (front here _ _ stated)
+      (s.1 true (behind here (expr_needs c) (refers c) stated)) (pieces.none))
   layers (Stmt-F.For first c update s) inside stated =
-      let l = stmt_cost first.0 in
-      let m = stmt_cost s.0 in
-      let n = effect_cost_if update in
-      let looped = loop_code (test_code numbers c) (stmt_code numbers s.0)
-      (update_code numbers update) in
-      let after_first =
-      behind here Said (stmt_needs first.0) _ (mentions first.0 inside) _ stated in
-      let after_test = behind here Said (optional_needs c) _ (refers_if c) _ after_first in
-      rests_same here inside (stmt_code numbers first.0 ⨾ looped) (l + (m + n + loop_wide c))
-      (l + m + n + loop_wide c) (omega arith)
-      (rests_both here inside (stmt_code numbers first.0) looped l (m + n + loop_wide c)
-      (first.1 inside (front here Said (stmt_needs first.0) _ (mentions first.0 inside) _ stated))
-      (loop_rests here inside c (stmt_code numbers s.0) (update_code numbers update) m n
-      (front here Said (optional_needs c) _ (refers_if c) _ after_first)
-      (s.1 true (behind here Said (optional_needs update) _ (refers_if update) _ after_test))
-      (update_rests here inside update
-      (front here Said (optional_needs update) _ (refers_if update) _ after_test))))
-  layers (Stmt-F.Break word) inside stated = pieces.break_out inside word stated.said.0
-  layers (Stmt-F.Continue word) inside stated = pieces.next_turn inside word stated.said.0
-  layers (Stmt-F.Return None) inside stated = pieces.leaving inside op.ReturnEs 0 0 0 refl
+      let after_first = behind here (stmt_needs first.0) (mentions first.0 inside) stated in
+      let after_test = behind here (optional_needs c) (refers_if c) after_first in
+      rests_same here (omega arith) (rests_both here (first.1 inside (front here _ _ stated))
+      (loop_rests here c (front here _ _ after_first)
+      (s.1 true (behind here (optional_needs update) (refers_if update) after_test))
+      (update_rests here update (front here _ _ after_test))))
+  layers (Stmt-F.Break word) inside stated = pieces.break_out stated.said.0
+  layers (Stmt-F.Continue word) inside stated = pieces.next_turn stated.said.0
+  layers (Stmt-F.Return None) inside stated = pieces.leaving op.ReturnEs 0 refl
   layers (Stmt-F.Return (Some e)) inside stated =
-      pieces.both inside (expr_code numbers e) (plain op.Return) 0 1 0 (expr_wide e) 1
-      (gives here inside e (known_of here e stated)) (pieces.leaving inside op.Return 1 0 0 refl)
+      pieces.both (gives here e (known_of here e stated)) (pieces.leaving op.Return 0 refl)
 
   -- every statement
   of_stmt : (s : Stmt) → Claim s
@@ -149,17 +111,12 @@ module _ (here : Setting) where
   pub of_body : (ss : List Stmt) → AreMet unit numbers (flat_map stmt_needs ss)
       → AllByRecursion Said (flat_map (λ (s : Stmt). mentions s false) ss)
       → P false (all_code (map (stmt_code numbers) ss)) 0 0 (sum_by stmt_cost ss)
-  of_body [] met said = pieces.none false 0
+  of_body [] met said = pieces.none
   of_body (s ∷ ss) met said =
       let needs = flat_map stmt_needs ss in
       let says = flat_map (λ (s : Stmt). mentions s false) ss in
       let stated : Stated here (stmt_needs s ++ needs) (mentions s false ++ says) =
       record { met = met; said = said } in
-      let rest = behind here Said (stmt_needs s) needs (mentions s false) says stated in
-      rests_same here false (all_code (map (stmt_code numbers) (s ∷ ss)))
-      (stmt_cost s + sum_by stmt_cost ss) (sum_by stmt_cost (s ∷ ss))
-      (sym (sum_by-cons stmt_cost s ss))
-      (rests_both here false (stmt_code numbers s) (all_code (map (stmt_code numbers) ss))
-      (stmt_cost s) (sum_by stmt_cost ss)
-      (of_stmt s false (front here Said (stmt_needs s) needs (mentions s false) says stated))
-      (of_body ss rest.met rest.said))
+      let rest = behind here (stmt_needs s) (mentions s false) stated in
+      rests_same here (sym (sum_by-cons stmt_cost s ss)) (rests_both here
+      (of_stmt s false (front here needs says stated)) (of_body ss rest.met rest.said))

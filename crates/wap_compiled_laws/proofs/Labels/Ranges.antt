@@ -1,5 +1,5 @@
 -- What the operands of operations have to name, in a unit and a function with so many variables.
-use Rattle.std.proofs.Common.{◌≡◌, ℕ, ◌<◌, List, length, Option, Some, None, refl, option_and_then}
+use Rattle.std.proofs.Common.{◌≡◌, ℕ, ◌<◌, List, length, Option, Some, option_and_then}
 use Rattle.std.proofs.Common.{option_map, slice_get}
 use Rattle.std.proofs.lemmas.Option.{slice_get_within}
 use Rattle.wap_value.specs.declared.value.Value.{Value}
@@ -13,6 +13,8 @@ use Rattle.wap_unit.specs.declared.instr.Instr.{Instr}
 use Rattle.wap_unit.specs.Libraries.{lib_args}
 use Rattle.wap_unit.specs.Strings.{string_at}
 use Rattle.wap_execution.specs.Frames.{constant_of, constant_at}
+use Rattle.std.proofs.Common.{arith}
+use Rattle.std.proofs.lemmas.Grind.{common_steps}
 
 -- what the operands of an operation name; those of jumps name nothing
 abbrev pub kind_of : OpName → Operands
@@ -40,32 +42,22 @@ AreThere unit count operands.Address instr =
     × ((name : List ℕ) × (string_at unit instr.b ≡ Some name))
 
 -- what has something by its place in a list is within it
-pub then_within : {X Y : Type 0} (f : X → Option Y) (xs : List X) (i : ℕ) (y : Y)
+pub then_within : {X Y : Type 0} (f : X → Option Y) (xs : List X) {i : ℕ} {y : Y}
     → option_and_then f (slice_get xs i) ≡ Some y → i < length xs
-then_within f xs i y is = by (slice_get xs i) refl is
-  where
-    by : (o : Option _) → slice_get xs i ≡ o → option_and_then f o ≡ Some y → i < length xs
-    by None here is = absurd (cc is)
-    by (Some x) here is = slice_get_within xs i x here
+then_within f xs {i} {y} is = grind (arith, common_steps, option_and_then, slice_get_within)
 
 -- the same of what it is mapped to
-pub mapped_within : {X Y : Type 0} (f : X → Y) (xs : List X) (i : ℕ) (y : Y)
+pub mapped_within : {X Y : Type 0} (f : X → Y) (xs : List X) {i : ℕ} {y : Y}
     → option_map f (slice_get xs i) ≡ Some y → i < length xs
-mapped_within f xs i y is = by (slice_get xs i) refl is
-  where
-    by : (o : Option _) → slice_get xs i ≡ o → option_map f o ≡ Some y → i < length xs
-    by None here is = absurd (cc is)
-    by (Some x) here is = slice_get_within xs i x here
+mapped_within f xs {i} {y} is = grind (arith, common_steps, slice_get_within)
 
 -- a constant that has a value is there
-pub constant_within : (unit : CodeUnit) (index : ℕ) (v : Value) → constant_at unit index ≡ Some v
+pub constant_within : (unit : CodeUnit) {index : ℕ} {v : Value} → constant_at unit index ≡ Some v
     → index < length unit.constants
-constant_within unit index v is =
-    then_within (constant_of unit.charset) unit.constants index v is
+constant_within unit is = then_within (constant_of unit.charset) unit.constants is
 
 -- a function that takes so many arguments is there
 pub function_within : (unit : CodeUnit) (index count : ℕ)
     → option_map (λ (code : Code). code.args) (slice_get unit.functions index) ≡ Some count
     → index < length unit.functions
-function_within unit index count is =
-    mapped_within (λ (code : Code). code.args) unit.functions index count is
+function_within unit index count is = mapped_within (λ (code : Code). code.args) unit.functions is

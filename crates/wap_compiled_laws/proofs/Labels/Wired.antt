@@ -1,6 +1,6 @@
 -- What a jump has to know: its label, before or after it by its name. And what an operation has: a
 -- name that is its own, and operands in range.
-use Rattle.std.proofs.Common.{◌≡◌, ℕ, ◌<◌, ◌⊎◌, Bool, true, false, List, Some, slice_get}
+use Rattle.std.proofs.Common.{◌≡◌, ℕ, ◌<◌, Bool, true, false, List, Some, slice_get}
 use Rattle.wap_unit.specs.declared.row.OpName.{OpName}
 use Rattle.wap_unit.specs.declared.row.OpName.TheVariants as op
 use Rattle.wap_unit.specs.declared.instr.Instr.{Instr}
@@ -21,10 +21,10 @@ abbrev pub IsOperation : OpName → Type 0
 IsOperation name = (operation_of name ≡ name) × (is_jump name ≡ false)
 
 -- a jump of this name leads from one index to another
-abbrev pub LeadsTo : OpName → ℕ → ℕ → Type 0
-LeadsTo name k n =
-    ((name ≡ op.JumpFw) × (k < n)) ⊎ ((name ≡ op.TjumpFw) × (k < n))
-    ⊎ ((name ≡ op.JumpBw) × (n < k))
+pub data LeadsTo (k n : ℕ) : OpName → Type 0 where
+  forward : k < n → LeadsTo k n op.JumpFw
+  tests : k < n → LeadsTo k n op.TjumpFw
+  backward : n < k → LeadsTo k n op.JumpBw
 
 module _ (Ranged : Instr → Type 0) (forms : List Form) where
   -- a label stands at its index
@@ -35,5 +35,5 @@ module _ (Ranged : Instr → Type 0) (forms : List Form) where
   -- a label that knows itself
   abbrev pub WiredForm : ℕ → Form → Type 0
   WiredForm k (Op form) = IsOperation form.name × Ranged form
-  WiredForm k (Jump name n) = HasLabel n × LeadsTo name k n
+  WiredForm k (Jump name n) = HasLabel n × LeadsTo k n name
   WiredForm k (Label n) = n ≡ k

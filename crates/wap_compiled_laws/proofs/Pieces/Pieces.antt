@@ -1,21 +1,20 @@
 -- Pieces of placed code do what parts of the source do, and pieces that follow one another what one
 -- part and then the next does.
-use Rattle.std.proofs.Common.{◌≡◌, ℕ, zero, suc, ◌+◌, ◌-◌, ◌<◌, ◌≤◌, Bool, true, false, ltb, cond}
-use Rattle.std.proofs.Common.{List, [], ◌∷◌, ◌++◌, length, Some, None, Ok, Err, refl, sym, ap, ◌∙◌}
+use Rattle.std.proofs.Common.{◌≡◌, ℕ, zero, suc, ◌+◌, ◌-◌, ◌<◌, ◌≤◌, false, ltb}
+use Rattle.std.proofs.Common.{List, [], ◌∷◌, ◌++◌, length, Some, None, Ok, refl, sym, ap, ◌∙◌}
 use Rattle.std.proofs.Common.{append_assoc, subst, arith, length-append, slice_get, le_trans}
 use Rattle.std.proofs.lemmas.Bool.{ltb-false}
 use Rattle.wap_value.specs.declared.value.Value.{Value}
 use Rattle.wap_unit.specs.declared.row.OpName.{OpName}
 use Rattle.wap_unit.specs.declared.row.Row.{Row}
 use Rattle.wap_unit.specs.declared.instr.Instr.{Instr}
-use Rattle.wap_unit.specs.declared.instr.InstrFault.TheVariants.{Operand}
-use Rattle.wap_unit.specs.Instructions.{size, read, read_row}
+use Rattle.wap_unit.specs.Instructions.{size, read_row}
 use Rattle.wap_asm.specs.Spellings.{operation_of}
 use Rattle.wap_execution.specs.Actions.{action_of}
 use Rattle.wap_execution.specs.declared.action.Action.{Action}
 use Rattle.wap_compiled_laws.proofs.Pieces.Actions.{acts_same}
 use Rattle.wap_execution.specs.Frames.{Function, Frame, code_of}
-use Rattle.wap_execution.specs.Effects.{Effect, effect_read, effect_with, effect_by, effect_at}
+use Rattle.wap_execution.specs.Effects.{Effect, effect_read, effect_at}
 use Rattle.wap_execution.specs.Outcomes.{Ended}
 use Rattle.wap_execution.specs.Running.{Onward, at_place, Calls}
 use Rattle.wap_meaning.specs.SourceParts.{Does, ◌>>=◌, give, done}
@@ -28,6 +27,7 @@ use Rattle.wap_compiled_laws.proofs.Pieces.Standing.{at, settled, at_here}
 use Rattle.wap_meaning.proofs.Following.{from_done_where, Gave, gave_both, gave_any, lessened}
 use Rattle.wap_meaning.proofs.Following.{keeps_both}
 use Rattle.wap_meaning.proofs.KeepingParts.{give_keeps}
+use Rattle.std.proofs.lemmas.Grind.{common_steps}
 
 -- ---- forms in a list
 
@@ -87,28 +87,16 @@ sized_both first second one two exits i =
 -- ---- instructions that stand
 
 -- what was read ends in the code, and behind where it begins
-pub read_within : (row : Row) (code : List ℕ) (place : ℕ) (instr : Instr)
+pub read_within : (row : Row) (code : List ℕ) {place : ℕ} {instr : Instr}
     → read_row row code place ≡ Ok instr → place < length code
-read_within row code place instr is =
-    by (ltb (length code - place) (size row)) refl is
-  where
-    by : (short : Bool) → ltb (length code - place) (size row) ≡ short
-        → cond short (Err Operand) (Ok (read row code place)) ≡ Ok instr → place < length code
-    by true short is = absurd (cc is)
-    by false short is =
-        let room = ltb-false (length code - place) (size row) short in omega arith
+read_within row code {place} {instr} is = grind (arith, common_steps, ltb-false)
 
 -- the instruction decides the effect
-pub effect_stands : (string : ℕ) (frame : Frame) (operation : OpName) (instr : Instr)
+pub effect_stands : (string : ℕ) (frame : Frame) {operation : OpName} {instr : Instr}
     → Stands (code_of frame.function) frame.place operation instr
     → effect_at string frame ≡ effect_read string frame (action_of operation) instr
 unfolding effect_at
-effect_stands string frame operation instr stands =
-    let code = code_of frame.function in
-    ap (effect_by string frame) stands.has_row
-    ∙ ap (λ (o : OpName). effect_with string frame (action_of o)
-    (read_row stands.row code frame.place)) stands.of_operation
-    ∙ ap (effect_with string frame (action_of operation)) stands.reads
+effect_stands string frame {operation} stands = grind (arith, common_steps)
 
 -- a function whose code is placed forms, how many variables it has, how long Strings may be, and
 -- what its calls come to
@@ -150,11 +138,10 @@ module _ {S : Type 0} (site : Site S) where
       × (slice_get site.forms labels.1 ≡ Some (Label labels.1)) × (end ≤ labels.1)
 
   -- what stands behind an end stands behind an earlier one
-  pub nearer : (exits : Exits) (some other : ℕ) → some ≤ other → Reaches exits other
+  pub nearer : (exits : Exits) {some other : ℕ} → some ≤ other → Reaches exits other
       → Reaches exits some
-  nearer None some other less reach = tt
-  nearer (Some labels) some other less reach =
-      (reach.0, le_trans less reach.1, reach.2, le_trans less reach.3)
+  nearer None less reach = tt
+  nearer (Some labels) less reach = (reach.0, le_trans less reach.1, reach.2, le_trans less reach.3)
 
   -- a piece of code does what a part does, with what it takes on the operands; it has as many forms
   -- as it says, and the part keeps turns and variables
@@ -170,11 +157,11 @@ module _ {S : Type 0} (site : Site S) where
         ≡ done (does variables turns state) (after exits (i + coded.size) operands)
 
   -- no code does what changes nothing
-  pub empty_piece : {A : Type 0} (a : A) (after : After A)
+  pub empty_piece : {A : Type 0} {a : A} {after : After A}
       → ((exits : Exits) (i : ℕ) (operands variables : List Value) (turns : ℕ) (state : S)
       → spot i variables operands turns state ≡ after exits i operands a variables turns state)
       → Piece (give a) empty (λ operands. operands) after
-  empty_piece a after same = record {
+  empty_piece {a} same = record {
     sized = λ exits i. refl;
     falls = give_keeps a;
     follows = λ exits i reach holds variables fits operands turns state.
@@ -185,9 +172,9 @@ module _ {S : Type 0} (site : Site S) where
 
   -- one piece after the other does one part after the other, by what becomes of what the first
   -- gives, which has a property
-  pub in_turn : {A B : Type 0} (P : A → Type 0) (does : Does A S) (next : A → Does B S)
-      (first second : Coded) (pop : List Value → List Value) (middle : After A) (after : After B)
-      → Piece does first pop middle
+  pub in_turn : {A B : Type 0} {P : A → Type 0} {does : Does A S} (next : A → Does B S)
+      {first : Coded} (second : Coded) {pop : List Value → List Value} {middle : After A}
+      {after : After B} → Piece does first pop middle
       → ((variables : List Value) (turns : ℕ) (state : S)
       → Gave (λ a vs left. P a) (does variables turns state))
       → Sized second → ((a : A) → Keeps (next a))
@@ -198,16 +185,15 @@ module _ {S : Type 0} (site : Site S) where
       → middle exits i operands a variables turns state
       ≡ done (next a variables turns state) (after exits (i + second.size) operands))
       → Piece (does >>= next) (first ⨾ second) pop after
-  in_turn P does next first second pop middle after one gives sized falls two = record {
+  in_turn {P} {does} next {first} second {middle} {after} one gives sized falls two = record {
     sized = sized_both first second one.sized sized;
     falls = keeps_both does next one.falls falls;
     follows = λ exits i reach holds variables fits operands turns state.
         let e : i + first.size + second.size ≡ i + (first.size + second.size) = omega arith in
         let some = first.forms exits i in
         let other = second.forms exits (i + first.size) in
-        one.follows exits i (nearer exits (i + first.size) (i + (first.size + second.size))
-        (omega arith) reach) (front site.forms i some other holds) variables fits operands turns
-        state
+        one.follows exits i (nearer exits (omega arith) reach) (front site.forms i some other
+        holds) variables fits operands turns state
         ∙ from_done_where
         (λ a vs left. ((left ≤ turns) × (length vs ≡ length variables)) × P a)
         (does variables turns state) next (middle exits (i + first.size) operands)
@@ -224,57 +210,46 @@ module _ {S : Type 0} (site : Site S) where
   }
 
   -- the same, where the second goes on with what the first gives on the operands
-  pub both : {A B : Type 0} (does : Does A S) (next : A → Does B S) (first second : Coded)
-      (pop : List Value → List Value) (push : A → List Value → List Value) (after : After B)
+  pub both : {A B : Type 0} {does : Does A S} {next : A → Does B S} {first second : Coded}
+      {pop : List Value → List Value} {push : A → List Value → List Value} {after : After B}
       (any : A)
       → Piece does first pop (onto push) → ((a : A) → Piece (next a) second (push a) after)
       → Piece (does >>= next) (first ⨾ second) pop after
-  both does next first second pop push after any one two =
-      in_turn (λ a. Unit {0}) does next first second pop (onto push) after one
-      (λ variables turns state. gave_any (does variables turns state)) (two any).sized
-      (λ a. (two a).falls) (λ a _. (two a).follows)
+  both {does} {next} {second} any one two =
+      in_turn next second one (λ variables turns state. gave_any (does variables turns state))
+      (two any).sized (λ a. (two a).falls) (λ a _. (two a).follows)
 
   -- what stands at a form
-  pub stands_here : (i : ℕ) (name : OpName) (instr : Instr)
+  pub stands_here : {i : ℕ} (name : OpName) {instr : Instr}
       → Stands (code_of site.function) (site.pos i) (operation_of name) instr
-      → (variables operands : List Value) (turns : ℕ) (state : S) (end : Ended S)
+      → (variables operands : List Value) (turns : ℕ) (state : S) {end : Ended S}
       → settle (effect_read site.string
       (at_place site.function (site.pos i) variables operands) (action_of name) instr)
       turns state ≡ end
       → spot i variables operands turns state ≡ end
-  stands_here i name instr stands variables operands turns state end so =
-      at_here site.string site.call site.falls site.function (site.pos i) variables operands turns
-      state
-      (effect_read site.string (at_place site.function (site.pos i) variables operands)
-      (action_of name) instr)
-      (read_within stands.row (code_of site.function) (site.pos i) instr stands.reads)
-      (effect_stands site.string (at_place site.function (site.pos i) variables operands)
-      (operation_of name) instr stands
+  stands_here {i} name {instr} stands variables operands turns state so =
+      at_here site.string site.call site.falls site.function variables operands turns state
+      (read_within stands.row (code_of site.function) stands.reads)
+      (effect_stands site.string (at_place site.function (site.pos i) variables operands) stands
       ∙ ap (λ (action : Action). effect_read site.string
       (at_place site.function (site.pos i) variables operands) action instr) (acts_same name))
       ∙ so
 
   -- an instruction that doesn't jump
-  pub op_here : (i : ℕ) (form : Instr) → slice_get site.forms i ≡ Some (Op form)
-      → (variables operands : List Value) (turns : ℕ) (state : S) (end : Ended S)
+  pub op_here : (i : ℕ) {form : Instr} → slice_get site.forms i ≡ Some (Op form)
+      → (variables operands : List Value) (turns : ℕ) (state : S) {end : Ended S}
       → ((name : OpName) → settle (effect_read site.string
       (at_place site.function (site.pos i) variables operands) (action_of form.name)
       (record { name = name; a = form.a; b = form.b; c = form.c; next = site.pos (i + 1) }))
       turns state ≡ end)
       → spot i variables operands turns state ≡ end
-  op_here i form is variables operands turns state end so =
+  op_here i {form} is variables operands turns state so =
       let found = site.placed.ops i form is in
-      stands_here i form.name (record {
-        name = found.0;
-        a = form.a;
-        b = form.b;
-        c = form.c;
-        next = site.pos (i + 1);
-      }) found.1 variables operands turns state end (so found.0)
+      stands_here form.name found.1 variables operands turns state (so found.0)
 
   -- an instruction that doesn't jump does what its effect settles to
-  pub op_piece : {A : Type 0} (does : Does A S) (name : OpName) (a b c : ℕ)
-      (pop : List Value → List Value) (after : After A) → Keeps does
+  pub op_piece : {A : Type 0} {does : Does A S} {name : OpName} {a b c : ℕ}
+      {pop : List Value → List Value} {after : After A} → Keeps does
       → ((exits : Exits) (place i : ℕ) (other : OpName) (variables operands : List Value)
       (turns : ℕ) (state : S)
       → settle (effect_read site.string (at_place site.function place variables (pop operands))
@@ -282,11 +257,10 @@ module _ {S : Type 0} (site : Site S) where
       (record { name = other; a = a; b = b; c = c; next = site.pos i })) turns state
       ≡ done (does variables turns state) (after exits i operands))
       → Piece does (one (λ exits at. Op (instr name a b c))) pop after
-  op_piece does name a b c pop after falls so = record {
+  op_piece {pop} falls so = record {
     sized = λ exits i. refl;
     falls = falls;
     follows = λ exits i reach holds variables fits operands turns state.
-        op_here i (instr name a b c) holds.0 variables (pop operands) turns state
-        (done (does variables turns state) (after exits (i + 1) operands))
+        op_here i holds.0 variables (pop operands) turns state
         (λ other. so exits (site.pos i) (i + 1) other variables operands turns state);
   }

@@ -2,9 +2,9 @@
 use Rattle.std.proofs.Common.{◌≡◌, ◌≢◌, ℕ, zero, suc, ◌+◌, ◌-◌, ◌<◌, ◌≤◌, ◌⊎◌, Bool, true, false}
 use Rattle.std.proofs.Common.{◌&&◌, ◌||◌, not, eqb, cond, List, [], ◌∷◌, length, Option, Some}
 use Rattle.std.proofs.Common.{None, Ok, Err, refl, sym, ap, ◌∙◌, subst, arith, slice_get}
-use Rattle.std.proofs.Common.{inl, inr, is_some, option_map, unwrap_or}
+use Rattle.std.proofs.Common.{inl, inr, option_map, unwrap_or}
 use Rattle.std.proofs.lemmas.Bool.{eq-eqb, lt-ltb, le-ltb}
-use Rattle.std.proofs.lemmas.Bool.Decides.{eqb_tells}
+use Rattle.std.proofs.lemmas.Bool.Decides.{eqb_tells, leb_tells}
 use Rattle.std.proofs.lemmas.Option.{slice_get-get_or, slice_get_within}
 use Rattle.std.specs.Prelude.{slice_index}
 use Rattle.std.specs.List.{list_any, list_all}
@@ -15,13 +15,12 @@ use Rattle.wap_unit.specs.declared.row.OpName.TheVariants as op
 use Rattle.wap_unit.specs.declared.row.Operands.{Operands}
 use Rattle.wap_unit.specs.declared.row.Operands.TheVariants as operands
 use Rattle.wap_unit.specs.declared.row.After.{After}
-use Rattle.wap_unit.specs.declared.row.After.TheVariants.{On, Forward, Backward, ForwardOrOn, Leave}
 use Rattle.wap_unit.specs.declared.row.Row.{Row}
 use Rattle.wap_unit.specs.declared.instr.Instr.{Instr}
 use Rattle.wap_unit.specs.Instructions.{has_code, row_of, read_row}
 use Rattle.wap_unit.specs.Rows.{rows}
 use Rattle.wap_unit.specs.Libraries.{lib_args}
-use Rattle.wap_unit.specs.Strings.{string_at, is_string}
+use Rattle.wap_unit.specs.Strings.{string_at}
 use Rattle.wap_asm.specs.declared.form.Form.{Form}
 use Rattle.wap_asm.specs.declared.form.Form.TheVariants.{Op, Jump, Label}
 use Rattle.wap_verify.specs.declared.step.Step.{Step}
@@ -29,18 +28,20 @@ use Rattle.wap_verify.specs.declared.step.Way.{Way}
 use Rattle.wap_verify.specs.declared.fault.VerifyFault.TheVariants as fault
 use Rattle.wap_verify.specs.CodePlaces.{values_taken, operand_fault, step_of, pair, pair_at}
 use Rattle.wap_verify.specs.CodePlaces.{jump_by, jump_read, is_conditional_forward, is_pair}
-use Rattle.wap_verify.specs.CodePlaces.{fine_at, checked, instr_read, step_by, step_at}
+use Rattle.wap_verify.specs.CodePlaces.{fine_at, step_at}
 use Rattle.wap_verify.specs.Sound.{Runs, leads_within, has_target, is_aimed, IsSplit}
 use Rattle.wap_compiled_laws.proofs.Pragmas.{names_string}
 use Rattle.wap_compiled_laws.proofs.Pieces.Pieces.{read_within}
 use Rattle.wap_compiled_laws.proofs.Depths.Flow.{Flow, goes, leaves, short, flow_of}
-use Rattle.wap_compiled_laws.proofs.Depths.Fine.{AllFine, OpFine}
+use Rattle.wap_compiled_laws.proofs.Depths.Fine.{OpFine}
 use Rattle.wap_compiled_laws.proofs.Labels.Ranges.{kind_of, AreThere}
-use Rattle.wap_compiled_laws.proofs.Soundness.Sound.{jump_stands}
-use Rattle.wap_compiled_laws.proofs.Soundness.Spelled.{Stands, IsPlaced, IsWired}
-use Rattle.wap_compiled_laws.proofs.Soundness.Table.{same_at, Says, IsAs, row_is_as}
+use Rattle.wap_compiled_laws.proofs.Soundness.Spelled.{Stands, JumpAt}
+use Rattle.wap_compiled_laws.proofs.Soundness.Table.{same_at, Says}
+use Rattle.wap_compiled_laws.proofs.Soundness.Stepping.{stands_as}
+use Rattle.wap_compiled_laws.proofs.Labels.Wired.{LeadsTo, forward, tests, backward}
 use Rattle.wap_compiled_laws.proofs.Soundness.Reached.{says_of, flow_same, IsFirst, label_first}
-use Rattle.wap_compiled_laws.proofs.Soundness.Reached.{op_fits}
+use Rattle.wap_compiled_laws.proofs.Soundness.Reached.{Walk, op_fits}
+use Rattle.std.proofs.lemmas.Grind.{common_steps}
 
 -- ---- operands
 
@@ -48,8 +49,8 @@ use Rattle.wap_compiled_laws.proofs.Soundness.Reached.{op_fits}
 row_kind : (code : ℕ) (row : Row) → row_of code ≡ Some row → row.operands ≡ kind_of row.operation
 unfolding row_of
 row_kind code row is =
-    same_at (λ (r : Row). r.operands) (λ (r : Row). kind_of r.operation) rows (has_code code) row
-    refl is
+    same_at (λ (r : Row). r.operands) (λ (r : Row). kind_of r.operation) rows (has_code code) refl
+    is
 
 module _ (unit : CodeUnit) (index : ℕ) (function : Code) where
   -- how many variables the function has
@@ -59,40 +60,16 @@ module _ (unit : CodeUnit) (index : ℕ) (function : Code) where
   -- operands that name what is there have no fault
   no_fault : (at : ℕ) (kind : Operands) (instr : Instr) → AreThere unit variables kind instr
       → operand_fault unit index function at kind instr ≡ None
-  no_fault at operands.Plain instr there = refl
-  no_fault at operands.Variable instr there =
-      ap (λ (b : Bool). cond b None (Some (fault.Variable index at)))
-      (lt-ltb instr.a variables there)
-  no_fault at operands.Constant instr there =
-      ap (λ (b : Bool). cond b None (Some (fault.Constant index at)))
-      (lt-ltb instr.a (length unit.constants) there)
-  no_fault at operands.Function instr there =
-      ap (λ (b : Bool). cond b None (Some (fault.Function index at)))
-      (lt-ltb instr.a (length unit.functions) there)
-  no_fault at operands.Library instr there =
-      ap (λ (o : Option ℕ). cond (is_some o) None (Some (fault.Library index at))) there.1
-  no_fault at operands.Address instr there =
-      ap (λ (b : Bool). cond (b && is_string unit instr.b) None (Some (fault.Constant index at)))
-      (names_string unit instr.a there.0.0 there.0.1)
-      ∙ ap (λ (b : Bool). cond b None (Some (fault.Constant index at)))
-      (names_string unit instr.b there.1.0 there.1.1)
+  no_fault at kind instr h3 = grind (arith, common_steps, lt-ltb, variables, names_string)
 
   -- an instruction that stands, and whose operands are there, is a step
-  step_is : (at : ℕ) (operation : OpName) (instr : Instr)
+  step_is : {at : ℕ} {operation : OpName} {instr : Instr}
       (stands : Stands function.code at operation instr)
       → AreThere unit variables (kind_of operation) instr
       → step_at unit index function at ≡ fine_at unit index function at stands.row instr
   unfolding step_at
-  step_is at operation instr stands there =
-      let row = stands.row in
-      let kind : row.operands ≡ kind_of operation =
-      row_kind (slice_index function.code at) row stands.has_row
-      ∙ ap kind_of stands.of_operation in
-      ap (step_by unit index function at) stands.has_row
-      ∙ ap (instr_read unit index function at row) stands.reads
-      ∙ ap (checked unit index function at row instr)
-      (no_fault at row.operands instr
-      (subst (λ (k : Operands). AreThere unit variables k instr) (sym kind) there))
+  step_is {at} {operation} {instr} stands there =
+      grind (arith, common_steps, kind_of, row_kind, no_fault, variables)
 
   -- a step from a place, with the next place, whose jump leads to a target
   record HasStep (at next : ℕ) (target : Option ℕ) : Type 0 where
@@ -103,8 +80,8 @@ module _ (unit : CodeUnit) (index : ℕ) (function : Code) where
     aims : option_map (λ (way : Way). way.to) step.jump ≡ target
 
   -- of an instruction that is no pair
-  plain_step : (at : ℕ) (operation : OpName) (instr : Instr)
-      (stands : Stands function.code at operation instr) (after : After) (target : Option ℕ)
+  plain_step : {at : ℕ} (operation : OpName) (instr : Instr)
+      (stands : Stands function.code at operation instr) {after : After} {target : Option ℕ}
       → AreThere unit variables (kind_of operation) instr → stands.row.after ≡ after
       → is_pair after ≡ false
       → ((takes gives : ℕ) → (step_of after at instr takes gives).strays ≡ false)
@@ -113,12 +90,12 @@ module _ (unit : CodeUnit) (index : ℕ) (function : Code) where
       → ((takes gives : ℕ) → (step_of after at instr takes gives).next ≡ instr.next)
       → HasStep at instr.next target
   unfolding fine_at
-  plain_step at operation instr stands after target there is single strays aims nexts =
+  plain_step {at} operation instr stands {after} there is single strays aims nexts =
       let row = stands.row in
       let values = values_taken unit row.takes row.operands instr in
       record {
         step = step_of after at instr values row.gives;
-        is = step_is at operation instr stands there
+        is = step_is stands there
             ∙ ap (λ (a : After). cond (is_pair a)
             (pair_at index function.code at instr.next values)
             (Ok (step_of a at instr values row.gives))) is
@@ -130,23 +107,22 @@ module _ (unit : CodeUnit) (index : ℕ) (function : Code) where
       }
 
   -- of a short-circuit with its jump
-  pair_step : (at : ℕ) (operation : OpName) (instr jump : Instr)
+  pair_step : {at : ℕ} {operation : OpName} {instr jump : Instr}
       (stands : Stands function.code at operation instr)
       → AreThere unit variables (kind_of operation) instr
       → Says unit stands.row instr short
       → Stands function.code instr.next op.TjumpFw jump
       → HasStep at jump.next (Some (jump.next + jump.a))
   unfolding fine_at pair_at
-  pair_step at operation instr jump stands there so second =
+  pair_step {at} {instr} {jump} stands there so second =
       let row = stands.row in
       let values = values_taken unit row.takes row.operands instr in
-      let other = subst (λ o. IsAs unit second.row o jump) second.of_operation
-      (row_is_as unit (slice_index function.code instr.next) second.row second.has_row jump) in
+      let other = stands_as unit second in
       let within : instr.next < length function.code =
-      read_within second.row function.code instr.next jump second.reads in
+      read_within second.row function.code second.reads in
       record {
         step = pair values jump;
-        is = step_is at operation instr stands there
+        is = step_is stands there
             ∙ ap (λ (a : After). cond (is_pair a)
             (pair_at index function.code at instr.next values)
             (Ok (step_of a at instr values row.gives))) so.0
@@ -164,14 +140,14 @@ module _ (unit : CodeUnit) (index : ℕ) (function : Code) where
         aims = refl;
       }
 
-module _ (unit : CodeUnit) (index : ℕ) (function : Code) (forms : List Form) (pos : ℕ → ℕ)
-    (placed : IsPlaced function.code forms pos) (wired : IsWired forms) (d : ℕ → ℕ)
-    (begins : d 0 ≡ 0) (all : AllFine (flow_of unit) forms d 0 (length forms))
-    (ranged : (k : ℕ) (form : Instr) → slice_get forms k ≡ Some (Op form)
-    → AreThere unit (function.args + function.locals) (kind_of form.name) form) where
+module _ (site : Walk)
+    (ranged : (k : ℕ) (form : Instr) → slice_get site.forms k ≡ Some (Op form)
+    → AreThere site.unit (site.function.args + site.function.locals) (kind_of form.name) form) where
+  open site use {unit, index, function, forms, pos, placed, wired, d}
+
   -- no second part of a pair stands at a form
   abbrev First : ℕ → Type 0
-  First = IsFirst unit index function forms pos placed wired d begins all
+  First = IsFirst site
 
   -- how long the code is
   abbrev end : ℕ
@@ -225,31 +201,26 @@ module _ (unit : CodeUnit) (index : ℕ) (function : Code) (forms : List Form) (
         there_too (kind_of form.name) form (read_as k form here) refl refl (ranged k form here)
 
     -- its row is as its flow says
-    says : (flow : Flow) → flow_of unit form ≡ flow → Says unit found.row (read_as k form here) flow
-    says flow flows =
+    says : {flow : Flow} → flow_of unit form ≡ flow → Says unit found.row (read_as k form here) flow
+    says flows =
         subst (Says unit found.row (read_as k form here))
         (flow_same unit form.name (placed.ops k form here).0 form.name form.a form.b form.c
         (pos (k + 1)) form.next ∙ flows)
         (says_of unit found.row form.name (read_as k form here) (wired.plain k form here)
-        (subst (λ (name : OpName). IsAs unit found.row name (read_as k form here))
-        found.of_operation
-        (row_is_as unit (slice_index function.code (pos k)) found.row found.has_row
-        (read_as k form here))))
+        (stands_as unit found))
 
     -- it goes on behind itself
-    goes_step : (takes gives : ℕ) → flow_of unit form ≡ goes takes gives
+    goes_step : {takes gives : ℕ} → flow_of unit form ≡ goes takes gives
         → Has (pos k) (pos (k + 1)) None
-    goes_step takes gives flows =
-        plain_step unit index function (pos k) form.name (read_as k form here) found On None named
-        (says (goes takes gives) flows).0 refl (λ takes gives. refl) (λ takes gives. refl)
-        (λ takes gives. refl)
+    goes_step {takes} {gives} flows =
+        plain_step unit index function form.name (read_as k form here) found named (says flows).0
+        refl (λ takes gives. refl) (λ takes gives. refl) (λ takes gives. refl)
 
     -- or leaves the function
-    leaves_step : (takes : ℕ) → flow_of unit form ≡ leaves takes → Has (pos k) (pos (k + 1)) None
-    leaves_step takes flows =
-        plain_step unit index function (pos k) form.name (read_as k form here) found Leave None
-        named (says (leaves takes) flows).0 refl (λ takes gives. refl) (λ takes gives. refl)
-        (λ takes gives. refl)
+    leaves_step : {takes : ℕ} → flow_of unit form ≡ leaves takes → Has (pos k) (pos (k + 1)) None
+    leaves_step {takes} flows =
+        plain_step unit index function form.name (read_as k form here) found named (says flows).0
+        refl (λ takes gives. refl) (λ takes gives. refl) (λ takes gives. refl)
 
     -- or is one with the jump behind it
     short_step : flow_of unit form ≡ short
@@ -257,72 +228,41 @@ module _ (unit : CodeUnit) (index : ℕ) (function : Code) (forms : List Form) (
         × Has (pos k) (pos (k + 1 + 1)) (Some (pos n))
     short_step flows =
         let pairs = subst (OpFine (flow_of unit) forms d k) flows
-        (op_fits unit index function forms pos placed wired d begins all (suc k) k form
-        (omega arith)
-        here) in
-        let wires = wired.jumps (k + 1) pairs.0 op.TjumpFw pairs.1 in
-        let further : k + 1 < pairs.0 = elim wires.1 [
-          | inl first ↦ first.1
-          | inr rest ↦ elim rest [
-            | inl second ↦ second.1
-            | inr third ↦ absurd (let name = third.0 in cc)
-          ]
-        ] in
-        let jump =
-        placed.jumps_on (k + 1) pairs.0 pairs.0 op.TjumpFw pairs.1 wires.0 further in (
+        (op_fits site (suc k) (omega arith) here) in
+        let jump = placed.jumps (k + 1) pairs.0 op.TjumpFw pairs.1 in (
           pairs.0,
           pairs.1,
-          subst (λ (t : ℕ). Has (pos k) (pos (k + 1 + 1)) (Some t)) jump.3
-              (subst (λ (n : ℕ). Has (pos k) n (Some (jump.0.next + jump.0.a))) jump.2
-              (pair_step unit index function (pos k) form.name (read_as k form here) jump.0 found
-              named (says short flows) jump.1)),
+          subst (λ (t : ℕ). Has (pos k) (pos (k + 1 + 1)) (Some t)) jump.lands
+              (subst (λ (n : ℕ). Has (pos k) n (Some (jump.instr.next + jump.instr.a))) jump.ends
+              (pair_step unit index function found named (says flows) jump.stands)),
         )
 
   -- a jump goes on behind itself, or at its label
-  jump_step : (k n : ℕ) (name : OpName) → slice_get forms k ≡ Some (Jump name n)
+  jump_step : {k n : ℕ} {name : OpName} → slice_get forms k ≡ Some (Jump name n)
       → Has (pos k) (pos (k + 1)) (Some (pos n))
-  jump_step k n name here =
-      let wires = wired.jumps k n name here in
-      elim wires.1 [
-        | inl first ↦
-            let jumps = subst (λ (o : OpName). slice_get forms k ≡ Some (Jump o n)) first.0 here in
-            let found = placed.jumps_on k n n op.JumpFw jumps wires.0 first.1 in
-            let as_row = subst (λ (o : OpName). IsAs unit found.1.row o found.0)
-            found.1.of_operation (row_is_as unit (slice_index function.code (pos k)) found.1.row
-            found.1.has_row found.0) in
-            subst (λ (t : ℕ). Has (pos k) (pos (k + 1)) (Some t)) found.3
-            (subst (λ (m : ℕ). Has (pos k) m (Some (found.0.next + found.0.a))) found.2
-            (plain_step unit index function (pos k) op.JumpFw found.0 found.1 Forward
-            (Some (found.0.next + found.0.a)) tt as_row.0 refl (λ takes gives. refl)
-            (λ takes gives. refl) (λ takes gives. refl)))
-        | inr rest ↦ elim rest [
-          | inl second ↦
-              let jumps = subst (λ (o : OpName). slice_get forms k ≡ Some (Jump o n)) second.0
-              here in
-              let found = placed.jumps_on k n n op.TjumpFw jumps wires.0 second.1 in
-              let as_row = subst (λ (o : OpName). IsAs unit found.1.row o found.0)
-              found.1.of_operation (row_is_as unit (slice_index function.code (pos k)) found.1.row
-              found.1.has_row found.0) in
-              subst (λ (t : ℕ). Has (pos k) (pos (k + 1)) (Some t)) found.3
-              (subst (λ (m : ℕ). Has (pos k) m (Some (found.0.next + found.0.a))) found.2
-              (plain_step unit index function (pos k) op.TjumpFw found.0 found.1 ForwardOrOn
-              (Some (found.0.next + found.0.a)) tt as_row.0 refl (λ takes gives. refl)
-              (λ takes gives. refl) (λ takes gives. refl)))
-          | inr third ↦
-              let jumps = subst (λ (o : OpName). slice_get forms k ≡ Some (Jump o n)) third.0
-              here in
-              let found = placed.jumps_back k n n op.JumpBw jumps wires.0 third.1 in
-              let as_row = subst (λ (o : OpName). IsAs unit found.1.row o found.0)
-              found.1.of_operation (row_is_as unit (slice_index function.code (pos k)) found.1.row
-              found.1.has_row found.0) in
-              subst (λ (t : ℕ). Has (pos k) (pos (k + 1)) (Some t)) found.4
-              (subst (λ (m : ℕ). Has (pos k) m (Some (pos k - found.0.a))) found.2
-              (plain_step unit index function (pos k) op.JumpBw found.0 found.1 Backward
-              (Some (pos k - found.0.a)) tt as_row.0 refl
-              (λ takes gives. le-ltb (pos k) found.0.a found.3)
-              (λ takes gives. refl) (λ takes gives. refl)))
-        ]
-      ]
+  jump_step {k} {n} {name} here = by (wired.jumps k n name here).1 (placed.jumps k n name here)
+    where
+      by : {name : OpName} → LeadsTo k n name → JumpAt function.code pos k n name
+          → Has (pos k) (pos (k + 1)) (Some (pos n))
+      by (forward less) jump =
+          subst (λ (t : ℕ). Has (pos k) (pos (k + 1)) (Some t)) jump.lands
+          (subst (λ (m : ℕ). Has (pos k) m (Some (jump.instr.next + jump.instr.a))) jump.ends
+          (plain_step unit index function op.JumpFw jump.instr jump.stands tt
+          (stands_as unit jump.stands).0 refl (λ takes gives. refl) (λ takes gives. refl)
+          (λ takes gives. refl)))
+      by (tests less) jump =
+          subst (λ (t : ℕ). Has (pos k) (pos (k + 1)) (Some t)) jump.lands
+          (subst (λ (m : ℕ). Has (pos k) m (Some (jump.instr.next + jump.instr.a))) jump.ends
+          (plain_step unit index function op.TjumpFw jump.instr jump.stands tt
+          (stands_as unit jump.stands).0 refl (λ takes gives. refl) (λ takes gives. refl)
+          (λ takes gives. refl)))
+      by (backward less) jump =
+          subst (λ (t : ℕ). Has (pos k) (pos (k + 1)) (Some t)) jump.lands.1
+          (subst (λ (m : ℕ). Has (pos k) m (Some (pos k - jump.instr.a))) jump.ends
+          (plain_step unit index function op.JumpBw jump.instr jump.stands tt
+          (stands_as unit jump.stands).0 refl
+          (λ takes gives. le-ltb (pos k) jump.instr.a jump.lands.0) (λ takes gives. refl)
+          (λ takes gives. refl)))
 
   -- ---- the places
 
@@ -353,9 +293,9 @@ module _ (unit : CodeUnit) (index : ℕ) (function : Code) (forms : List Form) (
       never other (subst (λ n. slice_get forms n ≡ Some (Op other)) same there)
 
   -- behind an operation that is no short-circuit
-  first_op : (k : ℕ) (form : Instr) → slice_get forms k ≡ Some (Op form)
-      → flow_of unit form ≢ short → First (k + 1)
-  first_op k form here never before other after there flows =
+  first_op : (k : ℕ) {form : Instr} → slice_get forms k ≡ Some (Op form) → flow_of unit form ≢ short
+      → First (k + 1)
+  first_op k {form} here never before other after there flows =
       let same : before ≡ k = omega arith in
       let both : Some (Op form) ≡ Some (Op other) =
       sym here ∙ subst (λ n. slice_get forms n ≡ Some (Op other)) same there in
@@ -366,42 +306,36 @@ module _ (unit : CodeUnit) (index : ℕ) (function : Code) (forms : List Form) (
       op_or _ = form
 
   -- behind a short-circuit and its jump
-  first_pair : (k n : ℕ) → slice_get forms (k + 1) ≡ Some (Jump op.TjumpFw n)
+  first_pair : (k : ℕ) {n : ℕ} → slice_get forms (k + 1) ≡ Some (Jump op.TjumpFw n)
       → First (k + 1 + 1)
-  first_pair k n jump =
-      first_behind (k + 1) (λ other there. let both = sym jump ∙ there in cc)
+  first_pair k jump = first_behind (k + 1) (λ other there. cc)
 
   -- a form that stands somewhere stands inside
-  inside : (k : ℕ) (form : Form) → slice_get forms k ≡ Some form → k < length forms
-  inside k form here = slice_get_within forms k form here
+  inside : {k : ℕ} {form : Form} → slice_get forms k ≡ Some form → k < length forms
+  inside {k} {form} here = slice_get_within forms k form here
 
-  -- where no form stands the code ends
-  ends_at : (k : ℕ) → k ≤ length forms → slice_get forms k ≡ None → pos k ≡ end
-  ends_at k within none =
-      elim (eqb_tells k (length forms)) [
-        | inl same ↦ ap pos same.1 ∙ placed.ends
-        | inr apart ↦
-            let away = apart.1 in
-            absurd (let some = slice_get-get_or forms k (Label 0) (omega arith) in
-            let both = sym none ∙ some in cc)
-      ]
+  -- where no form stands there is none left
+  none_left : (k : ℕ) → slice_get forms k ≡ None → length forms ≤ k
+  none_left k none = elim (leb_tells (length forms) k) [
+    | inl past ↦ past.1
+    | inr before ↦
+        absurd (cc (slice_get-get_or forms k (Label 0) (omega arith)))
+  ]
 
-  -- behind the last form it ends
+  -- behind the last form the code ends
   ends_last : (k : ℕ) → length forms ≤ k → k ≤ length forms → pos k ≡ end
   ends_last k least most =
       let same : k ≡ length forms = omega arith in ap pos same ∙ placed.ends
 
   -- what stands at a form stands inside the code
-  op_within : (k : ℕ) (form : Instr) → slice_get forms k ≡ Some (Op form) → pos k < end
-  op_within k form here =
-      let found = (placed.ops k form here).1 in
-      read_within found.row function.code (pos k) (read_as k form here) found.reads
+  op_within : {k : ℕ} {form : Instr} → slice_get forms k ≡ Some (Op form) → pos k < end
+  op_within {k} {form} here = grind (arith, common_steps, found, read_within)
 
   -- and so does a jump
-  jump_within : (k n : ℕ) (name : OpName) → slice_get forms k ≡ Some (Jump name n) → pos k < end
-  jump_within k n name here =
-      let found = jump_stands function.code forms pos placed wired k n name here in
-      read_within found.1.row function.code (pos k) found.0 found.1.reads
+  jump_within : {k n : ℕ} {name : OpName} → slice_get forms k ≡ Some (Jump name n) → pos k < end
+  jump_within {k} {n} {name} here =
+      let found = placed.jumps k n name here in
+      read_within found.stands.row function.code found.stands.reads
 
   -- ---- jumps lead to them
 
@@ -410,13 +344,13 @@ module _ (unit : CodeUnit) (index : ℕ) (function : Code) (forms : List Form) (
   Lands at places = (at ≡ end) ⊎ (list_any (λ place. eqb place at) places ≡ true)
 
   -- the first is among them
-  lands_first : (at other : ℕ) (places : List ℕ) → other ≡ at → Lands at (other ∷ places)
-  lands_first at other places same =
+  lands_first : {at other : ℕ} (places : List ℕ) → other ≡ at → Lands at (other ∷ places)
+  lands_first {at} {other} places same =
       inr (ap (λ (b : Bool). b || list_any (λ place. eqb place at) places) (eq-eqb other at same))
 
   -- what is among those behind it is too
-  lands_later : (at other : ℕ) (places : List ℕ) → Lands at places → Lands at (other ∷ places)
-  lands_later at other places lands = elim lands [
+  lands_later : {at : ℕ} (other : ℕ) (places : List ℕ) → Lands at places → Lands at (other ∷ places)
+  lands_later {at} other places lands = elim lands [
     | inl last ↦ inl last
     | inr among ↦ inr (by (eqb other at) among)
   ]
@@ -432,14 +366,23 @@ module _ (unit : CodeUnit) (index : ℕ) (function : Code) (forms : List Form) (
       → Lands (pos j) (walk fuel k)
 
   -- the place of a form further on that is no second part of a pair
-  covers : (fuel k j : ℕ) → length forms ≤ k + fuel → k ≤ j → j ≤ length forms → First j
+  covers : (fuel : ℕ) {k j : ℕ} → length forms ≤ k + fuel → k ≤ j → j ≤ length forms → First j
       → Lands (pos j) (walk fuel k)
   unfolding walk behind_op by_form
-  covers zero k j enough least most first = inl (ends_last j (omega arith) most)
-  covers (suc fuel) k j enough least most first =
-      by (λ next j enough least most first. covers fuel next j enough least most first)
-      (slice_get forms k) refl
+  covers zero {j} enough least most first = inl (ends_last j (omega arith) most)
+  covers (suc fuel) {k} {j} enough least most first =
+      by (λ next j enough least most first. covers fuel enough least most first) (slice_get forms k)
+      refl
     where
+      -- at the place itself, or further on
+      from_here : (places : List ℕ) → (k < j → Lands (pos j) places)
+          → Lands (pos j) (pos k ∷ places)
+      from_here places further = elim (eqb_tells k j) [
+        | inl same ↦ lands_first places (ap pos same.1)
+        | inr apart ↦
+            lands_later (pos k) places (further (let away = apart.1 in omega arith))
+      ]
+
       behind_flow : Covers fuel → (form : Instr) → slice_get forms k ≡ Some (Op form) →
           (flow : Flow)
           → flow_of unit form ≡ flow → k < j
@@ -458,40 +401,21 @@ module _ (unit : CodeUnit) (index : ℕ) (function : Code) (forms : List Form) (
       by : Covers fuel → (form : Option Form) → slice_get forms k ≡ form
           → Lands (pos j) (by_form k form (walk fuel))
       by rest None here =
-          let last = ends_at k (omega arith) here in
-          inl (elim (eqb_tells k j) [
-            | inl same ↦ ap pos (sym same.1) ∙ last
-            | inr apart ↦
-                let away = apart.1 in
-                absurd (let some = slice_get-get_or forms k (Label 0) (omega arith) in
-                let both = sym here ∙ some in cc)
-          ])
+          let past = none_left k here in inl (ends_last j (omega arith) most)
       by rest (Some (Op form)) here =
-          elim (eqb_tells k j) [
-            | inl same ↦
-                lands_first (pos j) (pos k) (behind_op k (flow_of unit form) (walk fuel))
-                (ap pos same.1)
-            | inr apart ↦
-                let away = apart.1 in
-                lands_later (pos j) (pos k) (behind_op k (flow_of unit form) (walk fuel))
-                (behind_flow rest form here (flow_of unit form) refl (omega arith))
-          ]
+          from_here (behind_op k (flow_of unit form) (walk fuel))
+          (behind_flow rest form here (flow_of unit form) refl)
       by rest (Some (Jump name n)) here =
-          elim (eqb_tells k j) [
-            | inl same ↦ lands_first (pos j) (pos k) (walk fuel (k + 1)) (ap pos same.1)
-            | inr apart ↦
-                let away = apart.1 in
-                lands_later (pos j) (pos k) (walk fuel (k + 1))
-                (rest (k + 1) j (omega arith) (omega arith) most first)
-          ]
+          from_here (walk fuel (k + 1))
+          (λ less. rest (k + 1) j (omega arith) (omega arith) most first)
       by rest (Some (Label n)) here =
           elim (eqb_tells k j) [
             | inl same ↦
-                let less = inside k (Label n) here in
+                let less = inside here in
                 let e : pos (k + 1) ≡ pos j = placed.labels k n here ∙ ap pos same.1 in
                 subst (λ (p : ℕ). Lands p (walk fuel (k + 1))) e
                 (rest (k + 1) (k + 1) (omega arith) (omega arith) (omega arith)
-                (first_behind k (λ other there. let both = sym here ∙ there in cc)))
+                (first_behind k (λ other there. cc)))
             | inr apart ↦
                 let away = apart.1 in rest (k + 1) j (omega arith) (omega arith) most first
           ]
@@ -507,36 +431,20 @@ module _ (unit : CodeUnit) (index : ℕ) (function : Code) (forms : List Form) (
   -- a label's place is the end, or one of them
   label_lands : (n : ℕ) → slice_get forms n ≡ Some (Label n) → Lands (pos n) places
   label_lands n here =
-      let less = inside n (Label n) here in
-      covers (length forms) 0 n (omega arith) (omega arith) (omega arith)
-      (label_first unit index function forms pos placed wired d begins all n n here)
+      let less = inside here in
+      covers (length forms) (omega arith) (omega arith) (omega arith) (label_first site here)
 
   -- where a jump lands
-  way_lands : (target : ℕ) → Lands target places → (way : Option Way)
+  way_lands : {target : ℕ} → Lands target places → (way : Option Way)
       → option_map (λ (way : Way). way.to) way ≡ Some target
       → leads_within places end way ≡ true
-  way_lands target lands None is = absurd (cc is)
-  way_lands target lands (Some way) is =
-      let to : way.to ≡ target = ap (λ (o : Option ℕ). unwrap_or o target) is in
-      elim lands [
-        | inl last ↦
-            ap (λ (b : Bool). b || list_any (λ place. eqb place way.to) places)
-            (eq-eqb way.to end (to ∙ last))
-        | inr among ↦
-            by way.to (eqb way.to end)
-            (subst (λ n. list_any (λ place. eqb place n) places ≡ true) (sym to) among)
-      ]
-    where
-      by : (way : ℕ) (b : Bool) → list_any (λ place. eqb place way) places ≡ true
-          → (b || list_any (λ place. eqb place way) places) ≡ true
-      by way true among = refl
-      by way false among = among
+  way_lands h0 way h2 = grind (arith, common_steps, places, eq-eqb, end)
 
   -- a step without a jump, and one whose jump lands
-  aimed_step : (at next : ℕ) (target : Option ℕ) → Has at next target
+  aimed_step : {at next : ℕ} {target : Option ℕ} → Has at next target
       → ((t : ℕ) → target ≡ Some t → Lands t places)
       → is_aimed unit index function places at ≡ true
-  aimed_step at next target has lands =
+  aimed_step {target} has lands =
       ap (has_target places end) has.is
       ∙ ap (λ (b : Bool). not b && leads_within places end has.step.jump) has.stays
       ∙ by has.step.jump has.aims
@@ -544,7 +452,7 @@ module _ (unit : CodeUnit) (index : ℕ) (function : Code) (forms : List Form) (
       by : (way : Option Way) → option_map (λ (way : Way). way.to) way ≡ target
           → leads_within places end way ≡ true
       by None is = refl
-      by (Some way) is = way_lands way.to (lands way.to (sym is)) (Some way) refl
+      by (Some way) is = way_lands (lands way.to (sym is)) (Some way) refl
 
   -- ---- the code is instructions at these places
 
@@ -554,9 +462,9 @@ module _ (unit : CodeUnit) (index : ℕ) (function : Code) (forms : List Form) (
     aimed : list_all (is_aimed unit index function places) some ≡ true
 
   -- a step at a place, and those behind it
-  one_more : (at next : ℕ) (target : Option ℕ) (some : List ℕ) → Has at next target → at < end
+  one_more : {at next : ℕ} {target : Option ℕ} {some : List ℕ} → Has at next target → at < end
       → ((t : ℕ) → target ≡ Some t → Lands t places) → Walks next some → Walks at (at ∷ some)
-  one_more at next target some has within lands walks = record {
+  one_more {some} has within lands walks = record {
     runs = (
       refl,
       within,
@@ -569,7 +477,7 @@ module _ (unit : CodeUnit) (index : ℕ) (function : Code) (forms : List Form) (
       ),
     );
     aimed = ap (λ (b : Bool). b && list_all (is_aimed unit index function places) some)
-        (aimed_step at next target has lands) ∙ walks.aimed;
+        (aimed_step has lands) ∙ walks.aimed;
   }
 
   -- no jump lands anywhere
@@ -577,9 +485,9 @@ module _ (unit : CodeUnit) (index : ℕ) (function : Code) (forms : List Form) (
   none_lands t is = absurd (cc is)
 
   -- a jump lands at its label
-  label_of : (n : ℕ) → slice_get forms n ≡ Some (Label n) → (t : ℕ) → Some (pos n) ≡ Some t
+  label_of : {n : ℕ} → slice_get forms n ≡ Some (Label n) → (t : ℕ) → Some (pos n) ≡ Some t
       → Lands t places
-  label_of n there t is =
+  label_of {n} there t is =
       subst (λ (p : ℕ). Lands p places) (ap (λ (o : Option ℕ). unwrap_or o t) is)
       (label_lands n there)
 
@@ -601,41 +509,32 @@ module _ (unit : CodeUnit) (index : ℕ) (function : Code) (forms : List Form) (
           → (flow : Flow) → flow_of unit form ≡ flow
           → Walks (pos k) (pos k ∷ behind_op k flow (walk fuel))
       op_walks rest form here (goes takes gives) flows =
-          let less = inside k (Op form) here in
-          one_more (pos k) (pos (k + 1)) None (walk fuel (k + 1))
-          (goes_step k form here takes gives flows) (op_within k form here) none_lands
-          (rest (k + 1) (omega arith) (omega arith)
-          (first_op k form here (λ same. let both = sym flows ∙ same in cc)))
+          let less = inside here in
+          one_more (goes_step k form here flows) (op_within here) none_lands
+          (rest (k + 1) (omega arith) (omega arith) (first_op k here (λ same. cc)))
       op_walks rest form here (leaves takes) flows =
-          let less = inside k (Op form) here in
-          one_more (pos k) (pos (k + 1)) None (walk fuel (k + 1))
-          (leaves_step k form here takes flows) (op_within k form here) none_lands
-          (rest (k + 1) (omega arith) (omega arith)
-          (first_op k form here (λ same. let both = sym flows ∙ same in cc)))
+          let less = inside here in
+          one_more (leaves_step k form here flows) (op_within here) none_lands
+          (rest (k + 1) (omega arith) (omega arith) (first_op k here (λ same. cc)))
       op_walks rest form here short flows =
           let jump = short_step k form here flows in
-          let less = inside (k + 1) (Jump op.TjumpFw jump.0) jump.1 in
-          one_more (pos k) (pos (k + 1 + 1)) (Some (pos jump.0)) (walk fuel (k + 1 + 1)) jump.2
-          (op_within k form here)
-          (label_of jump.0 (wired.jumps (k + 1) jump.0 op.TjumpFw jump.1).0)
-          (rest (k + 1 + 1) (omega arith) (omega arith) (first_pair k jump.0 jump.1))
+          let less = inside jump.1 in
+          one_more jump.2 (op_within here)
+          (label_of (wired.jumps (k + 1) jump.0 op.TjumpFw jump.1).0)
+          (rest (k + 1 + 1) (omega arith) (omega arith) (first_pair k jump.1))
 
       by : WalksFrom fuel → (form : Option Form) → slice_get forms k ≡ form
           → Walks (pos k) (by_form k form (walk fuel))
-      by rest None here = record { runs = ends_at k within here; aimed = refl }
+      by rest None here = record { runs = ends_last k (none_left k here) within; aimed = refl }
       by rest (Some (Op form)) here = op_walks rest form here (flow_of unit form) refl
       by rest (Some (Jump name n)) here =
-          let less = inside k (Jump name n) here in
-          one_more (pos k) (pos (k + 1)) (Some (pos n)) (walk fuel (k + 1))
-          (jump_step k n name here) (jump_within k n name here)
-          (label_of n (wired.jumps k n name here).0)
-          (rest (k + 1) (omega arith) (omega arith)
-          (first_behind k (λ other there. let both = sym here ∙ there in cc)))
+          let less = inside here in
+          one_more (jump_step here) (jump_within here) (label_of (wired.jumps k n name here).0)
+          (rest (k + 1) (omega arith) (omega arith) (first_behind k (λ other there. cc)))
       by rest (Some (Label n)) here =
-          let less = inside k (Label n) here in
+          let less = inside here in
           subst (λ (p : ℕ). Walks p (walk fuel (k + 1))) (placed.labels k n here)
-          (rest (k + 1) (omega arith) (omega arith)
-          (first_behind k (λ other there. let both = sym here ∙ there in cc)))
+          (rest (k + 1) (omega arith) (omega arith) (first_behind k (λ other there. cc)))
 
   -- the code splits
   pub split : IsSplit unit index function

@@ -13,15 +13,17 @@ use Rattle.wap_unit.specs.Rows.{rows}
 use Rattle.wap_verify.specs.CodePlaces.{values_taken}
 use Rattle.wap_compiled_laws.proofs.Depths.Flow.{Flow, goes, leaves, short, flow_by}
 use Rattle.wap_unit.specs.declared.row.OpName.TheVariants as op
+use Rattle.std.proofs.Common.{arith}
+use Rattle.std.proofs.lemmas.Grind.{common_steps}
 
 -- what comes to the same at each of some rows does so at one that is found
-pub same_at : {A : Type 0} (f g : Row → A) (all : List Row) (test : Row → Bool) (row : Row)
+pub same_at : {A : Type 0} (f g : Row → A) (all : List Row) (test : Row → Bool) {row : Row}
     → map f all ≡ map g all → find test all ≡ Some row → f row ≡ g row
-same_at f g [] test row same is = absurd (cc is)
-same_at f g (first ∷ all) test row same is =
+same_at f g [] test same is = absurd (cc is)
+same_at f g (first ∷ all) test {row} same is =
     let heads : f first ≡ g first = cc both in
     let tails : map f all ≡ map g all = cc both in
-    by (test first) is heads (same_at f g all test row tails)
+    by (test first) is heads (same_at f g all test tails)
   where
     both : f first ∷ map f all ≡ g first ∷ map g all
     both = same
@@ -76,35 +78,31 @@ module _ (unit : CodeUnit) where
   name_says instr name = flow_says (flow_by unit name instr)
 
   -- what is the same is so part by part
-  parts : (some other : After × ℕ × ℕ) → some ≡ other
+  parts : {some other : After × ℕ × ℕ} → some ≡ other
       → (some.0 ≡ other.0) × (some.1 ≡ other.1) × (some.2 ≡ other.2)
-  parts some other is = (
-    ap (λ (t : After × ℕ × ℕ). t.0) is,
-    ap (λ (t : After × ℕ × ℕ). t.1) is,
-    ap (λ (t : After × ℕ × ℕ). t.2) is,
-  )
+  parts is = grind (arith, common_steps)
 
   -- a row that says what a flow does is as it says
   says_as : (row : Row) (instr : Instr) (flow : Flow) → row_says instr row ≡ flow_says flow
       → Says row instr flow
-  says_as row instr (goes takes gives) is = parts (row_says instr row) (On, takes, gives) is
-  says_as row instr (leaves takes) is = parts (row_says instr row) (Leave, takes, 0) is
-  says_as row instr short is = parts (row_says instr row) (Pair, 1, 0) is
+  says_as row instr (goes takes gives) is = parts is
+  says_as row instr (leaves takes) is = parts is
+  says_as row instr short is = parts is
 
   -- and so is one that says what an operation does
   is_as : (row : Row) (name : OpName) (instr : Instr) → row_says instr row ≡ name_says instr name
       → IsAs row name instr
-  is_as row op.JumpFw instr is = parts (row_says instr row) (Forward, 0, 0) is
-  is_as row op.JumpBw instr is = parts (row_says instr row) (Backward, 0, 0) is
-  is_as row op.TjumpFw instr is = parts (row_says instr row) (ForwardOrOn, 1, 0) is
-  is_as row op.TjumpBw instr is = parts (row_says instr row) (BackwardOrOn, 1, 0) is
+  is_as row op.JumpFw instr is = parts is
+  is_as row op.JumpBw instr is = parts is
+  is_as row op.TjumpFw instr is = parts is
+  is_as row op.TjumpBw instr is = parts is
   is_as row name instr is = says_as row instr (flow_by unit name instr) is
 
   -- the row of a byte is as its operation's flow says
-  pub row_is_as : (code : ℕ) (row : Row) → row_of code ≡ Some row → (instr : Instr)
+  pub row_is_as : (code : ℕ) {row : Row} → row_of code ≡ Some row → (instr : Instr)
       → IsAs row row.operation instr
   unfolding row_of
-  row_is_as code row is instr =
+  row_is_as code {row} is instr =
       is_as row row.operation instr
-      (same_at (row_says instr) (λ (r : Row). name_says instr r.operation) rows (has_code code) row
-      refl is)
+      (same_at (row_says instr) (λ (r : Row). name_says instr r.operation) rows (has_code code) refl
+      is)

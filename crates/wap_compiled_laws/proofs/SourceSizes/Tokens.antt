@@ -1,16 +1,14 @@
 -- The tokens of a source: how long they are together, and what strings and names stand for.
-use Rattle.std.proofs.Common.{◌≡◌, ℕ, zero, suc, ◌+◌, ◌-◌, ◌<◌, ◌≤◌, ◌⊎◌, inl, inr, Bool, true}
-use Rattle.std.proofs.Common.{false, cond, ◌==◌, nat_le, List, [], ◌∷◌, ◌++◌, length, take}
-use Rattle.std.proofs.Common.{drop, Option, Some, None, unwrap_or, encode_utf8_all, refl, sym, ap}
+use Rattle.std.proofs.Common.{◌≡◌, ℕ, zero, suc, ◌+◌, ◌-◌, ◌<◌, ◌≤◌, Bool, true}
+use Rattle.std.proofs.Common.{false, cond, List, [], ◌∷◌, ◌++◌, length, take}
+use Rattle.std.proofs.Common.{drop, Option, Some, None, unwrap_or, encode_utf8_all, refl, sym}
 use Rattle.std.proofs.Common.{subst, ◌∙◌, arith, length-append, append_assoc}
-use Rattle.std.specs.Char.{is_ascii_alphabetic, is_ascii_digit}
-use Rattle.std.specs.Int.{is_in_range}
+use Rattle.std.specs.Char.{is_ascii_alphabetic}
 use Rattle.std.specs.List.{AllByRecursion, list_all, sum_by}
 use Rattle.std.specs.Map.{lookup}
 use Rattle.std.specs.Str.{all_scalars}
-use Rattle.std.proofs.Math.Seq.{drop-append_seam, take-append_seam}
 use Rattle.std.proofs.Math.Utf8.{scalar, low_scalar}
-use Rattle.std.proofs.lemmas.Bool.{and_parts, and_from, leb-true, eqb-true}
+use Rattle.std.proofs.lemmas.Bool.{and_parts, and_from}
 use Rattle.std.proofs.lemmas.List.Elements.{recursion_from_All}
 use Rattle.std.proofs.lemmas.List.Sums.{sum_by-cons}
 use Rattle.std.proofs.lemmas.Str.{len_utf8_ascii}
@@ -23,7 +21,6 @@ use Rattle.wap_lex.specs.declared.token.Kind.TheVariants as kind
 use Rattle.wap_lex.specs.declared.token.Token.{Token}
 use Rattle.wap_lex.specs.declared.shape.Shape.{Shape}
 use Rattle.wap_lex.specs.declared.shape.Shape.TheVariants as shape
-use Rattle.wap_lex.specs.Numbers as numbers
 use Rattle.wap_lex.specs.Numbers.{IsInteger, IsFloat}
 use Rattle.wap_lex.specs.Strings.{IsString, quoted}
 use Rattle.wap_lex.specs.Marks.{marks, is_mark}
@@ -36,7 +33,9 @@ use Rattle.wap_grammar.specs.Values.{text_of}
 use Rattle.wap_grammar.specs.Lexemes.{word_rows, word_spelled, word_of_kind, text_in, lexeme_of}
 use Rattle.wap_grammar.specs.Lexemes.{lexemes_of}
 use Rattle.wap_grammar.proofs.Texts.{Textual, texts_of}
-use Rattle.wap_compiled_laws.proofs.SourceSizes.Strings.{or_cases, text_short}
+use Rattle.wap_compiled_laws.proofs.SourceSizes.Strings.{text_short}
+use Rattle.std.proofs.lemmas.Bool.Decides.{nat_tests}
+use Rattle.std.proofs.lemmas.Grind.{common_steps}
 
 -- so many bytes at most
 take_few : (n : ℕ) (xs : List ℕ) → length (take n xs) ≤ n
@@ -51,11 +50,11 @@ weight l = l.span.to - l.span.from
 -- ---- all tokens together
 
 -- tokens have no more bytes than the source
-pub tokens_weigh : (src : List ℕ) (at : ℕ) (bytes : List ℕ) (tokens : List Token)
+pub tokens_weigh : (src : List ℕ) {at : ℕ} {bytes : List ℕ} {tokens : List Token}
     → Lexes at bytes tokens → sum_by weight (lexemes_of src tokens) ≤ length bytes
-tokens_weigh src at bytes tokens (ends at') = omega arith
-tokens_weigh src at bytes tokens' (piece at' s text more tokens is small left) =
-    by (kind_of s text) (tokens_weigh src (at + length text) more tokens left)
+tokens_weigh src (ends at') = omega arith
+tokens_weigh src {at} (piece at' s text more tokens is small left) =
+    by (kind_of s text) (tokens_weigh src left)
   where
     by : (k : Option Kind) → sum_by weight (lexemes_of src tokens) ≤ length more
         → sum_by weight (lexemes_of src (token_before k at (at + length text) tokens))
@@ -83,15 +82,10 @@ pub record IsSound (src : List ℕ) (token : Token) : Type 0 where
       → is_name (take (token.to - token.from) (drop token.from src)) ≡ true
 
 -- the text of a token
-here_is : (src before text rest : List ℕ) (at : ℕ) → at ≡ length before
-    → src ≡ before ++ (text ++ rest) → take (at + length text - at) (drop at src) ≡ text
-here_is src before text rest at place is =
-    let count : at + length text - at ≡ length text = omega arith in
-    ap (λ (n : ℕ). take n (drop at src)) count
-    ∙ ap (λ (n : ℕ). take (length text) (drop n src)) place
-    ∙ ap (λ (z : List ℕ). take (length text) (drop (length before) z)) is
-    ∙ ap (take (length text)) (drop-append_seam before (text ++ rest))
-    ∙ take-append_seam text rest
+here_is : {src : List ℕ} (before : List ℕ) {text : List ℕ} (rest : List ℕ) {at : ℕ}
+    → at ≡ length before → src ≡ before ++ (text ++ rest)
+    → take (at + length text - at) (drop at src) ≡ text
+here_is {src} before {text} rest {at} place is = grind (arith, common_steps)
 
 -- no token is empty
 word_some : (text : List ℕ) → is_name text ≡ true → 1 ≤ length text
@@ -103,21 +97,14 @@ unfolding marks
 mark_some [] is = absurd cc
 mark_some (c ∷ text) is = omega arith
 
-integer_some : (text : List ℕ) → IsInteger text → 1 ≤ length text
-integer_some text (numbers.IsInteger.decimal first digits a b c) = omega arith
-integer_some text (numbers.IsInteger.octal digits a) = omega arith
-integer_some text (numbers.IsInteger.hexadecimal x digits a b c) = omega arith
+integer_some : {text : List ℕ} → IsInteger text → 1 ≤ length text
+integer_some h0 = grind (arith, common_steps)
 
-float_some : (text : List ℕ) → IsFloat text → 1 ≤ length text
-float_some text (numbers.IsFloat.pointed whole fraction a b c) =
-    omega (arith, length-append whole (46 ∷ fraction))
-float_some text (numbers.IsFloat.scaled whole exponent a b c) =
-    omega (arith, length-append whole exponent, b)
-float_some text (numbers.IsFloat.both whole fraction exponent a b c d) =
-    omega (arith, length-append whole (46 ∷ (fraction ++ exponent)))
+float_some : {text : List ℕ} → IsFloat text → 1 ≤ length text
+float_some h0 = grind (arith, common_steps, length-append)
 
-string_two : (text : List ℕ) → IsString text → 2 ≤ length text
-string_two text (quoted quote items a b) = omega (arith, length-append items (quote ∷ []))
+string_two : {text : List ℕ} → IsString text → 2 ≤ length text
+string_two (quoted quote items a b) = omega (arith, length-append items (quote ∷ []))
 
 module _ (src : List ℕ) where
   -- a token at a place
@@ -125,9 +112,9 @@ module _ (src : List ℕ) where
   at_place k at text = record { kind = k; from = at; to = at + length text }
 
   -- one that is neither a string nor a name
-  other : (k : Kind) (at : ℕ) (text : List ℕ) → 1 ≤ length text → (k ≡ kind.Str → ⊥)
+  other : {k : Kind} {at : ℕ} (text : List ℕ) → 1 ≤ length text → (k ≡ kind.Str → ⊥)
       → (k ≡ kind.Name → ⊥) → IsSound src (at_place k at text)
-  other k at text some no_string no_name = record {
+  other text some no_string no_name = record {
     some = omega (arith, some);
     two = λ e. absurd (no_string e);
     name = λ e. absurd (no_name e);
@@ -136,44 +123,43 @@ module _ (src : List ℕ) where
   word_sound : (b : Bool) (at : ℕ) (text : List ℕ) → is_name text ≡ true
       → take (at + length text - at) (drop at src) ≡ text
       → IsSound src (at_place (cond b kind.Reserved kind.Name) at text)
-  word_sound true at text is here =
-      other kind.Reserved at text (word_some text is) (λ e. absurd cc) (λ e. absurd cc)
+  word_sound true at text is here = other text (word_some text is) (λ e. absurd cc) (λ e. absurd cc)
   word_sound false at text is here = record {
     some = omega (arith, word_some text is);
     two = λ e. absurd cc;
     name = λ e. subst (λ (t : List ℕ). is_name t ≡ true) (sym here) is;
   }
 
-  with_shape : (s : Shape) (at : ℕ) (text : List ℕ) (tokens : List Token) → IsShape s text
+  with_shape : (s : Shape) (at : ℕ) {text : List ℕ} (tokens : List Token) → IsShape s text
       → take (at + length text - at) (drop at src) ≡ text → AllByRecursion (IsSound src) tokens
       → AllByRecursion (IsSound src) (token_before (kind_of s text) at (at + length text) tokens)
-  with_shape shape.Blank at text tokens is here others = others
-  with_shape shape.Comment at text tokens is here others = others
-  with_shape shape.Word at text tokens is here others =
+  with_shape shape.Blank at tokens is here others = others
+  with_shape shape.Comment at tokens is here others = others
+  with_shape shape.Word at {text} tokens is here others =
       (word_sound (is_reserved text) at text is here, others)
-  with_shape shape.Integer at text tokens is here others =
-      (other kind.Int at text (integer_some text is) (λ e. absurd cc) (λ e. absurd cc), others)
-  with_shape shape.Float at text tokens is here others =
-      (other kind.Float at text (float_some text is) (λ e. absurd cc) (λ e. absurd cc), others)
-  with_shape shape.Mark at text tokens is here others =
-      (other kind.Mark at text (mark_some text is) (λ e. absurd cc) (λ e. absurd cc), others)
-  with_shape shape.Str at text tokens is here others = (
+  with_shape shape.Integer at {text} tokens is here others =
+      (other text (integer_some is) (λ e. absurd cc) (λ e. absurd cc), others)
+  with_shape shape.Float at {text} tokens is here others =
+      (other text (float_some is) (λ e. absurd cc) (λ e. absurd cc), others)
+  with_shape shape.Mark at {text} tokens is here others =
+      (other text (mark_some text is) (λ e. absurd cc) (λ e. absurd cc), others)
+  with_shape shape.Str at tokens is here others = (
     record {
-      some = omega (arith, string_two text is);
-      two = λ e. omega (arith, string_two text is);
+      some = omega (arith, string_two is);
+      two = λ e. omega (arith, string_two is);
       name = λ e. absurd cc;
     },
     others,
   )
 
-  lexed : (at : ℕ) (bytes : List ℕ) (tokens : List Token) → Lexes at bytes tokens
+  lexed : {at : ℕ} {bytes : List ℕ} {tokens : List Token} → Lexes at bytes tokens
       → (before : List ℕ) → at ≡ length before → src ≡ before ++ bytes
       → AllByRecursion (IsSound src) tokens
-  lexed at bytes tokens (ends at') before place is = tt
-  lexed at bytes tokens (piece at' s text rest others fits range left) before place is =
-      with_shape s at text others fits.fits (here_is src before text rest at place is)
-      (lexed (at + length text) rest others left (before ++ text)
-      (omega (arith, place, length-append before text)) (is ∙ sym (append_assoc before text rest)))
+  lexed (ends at') before place is = tt
+  lexed {at} (piece at' s text rest others fits range left) before place is =
+      with_shape s at others fits.fits (here_is before rest place is)
+      (lexed left (before ++ text) (omega (arith, place, length-append before text))
+      (is ∙ sym (append_assoc before text rest)))
 
 -- ---- as the grammar sees them
 
@@ -207,57 +193,32 @@ spelled_plain : (text : List ℕ) → is_plain (word_spelled text) ≡ true
 unfolding word_spelled
 spelled_plain text = found_plain (is_same_text text) word_rows all_plain
 
-no_plain : (w : Word) → is_plain w ≡ true → (w ≡ word.Str → ⊥) × (w ≡ word.Name → ⊥)
+no_plain : {w : Word} → is_plain w ≡ true → (w ≡ word.Str → ⊥) × (w ≡ word.Name → ⊥)
 unfolding is_plain
-no_plain w is =
-    (λ e. absurd (unlike (sym is ∙ ap is_plain e)), λ e. absurd (unlike (sym is ∙ ap is_plain e)))
-  where
-    unlike : true ≡ false → ⊥
-    unlike e = absurd cc
+no_plain is = grind (arith, common_steps, is_plain)
 
 string_kind : (k : Kind) (text : List ℕ) → word_of_kind k text ≡ word.Str → k ≡ kind.Str
-string_kind kind.Name text is = absurd cc
-string_kind kind.Reserved text is =
-    absurd ((no_plain (word_spelled text) (spelled_plain text)).0 is)
-string_kind kind.Int text is = absurd cc
-string_kind kind.Float text is = absurd cc
+string_kind kind.Reserved text is = absurd ((no_plain (spelled_plain text)).0 is)
 string_kind kind.Str text is = refl
-string_kind kind.Mark text is = absurd ((no_plain (word_spelled text) (spelled_plain text)).0 is)
+string_kind kind.Mark text is = absurd ((no_plain (spelled_plain text)).0 is)
+string_kind _ text is = absurd cc
 
 name_kind : (k : Kind) (text : List ℕ) → word_of_kind k text ≡ word.Name → k ≡ kind.Name
 name_kind kind.Name text is = refl
-name_kind kind.Reserved text is =
-    absurd ((no_plain (word_spelled text) (spelled_plain text)).1 is)
-name_kind kind.Int text is = absurd cc
-name_kind kind.Float text is = absurd cc
-name_kind kind.Str text is = absurd cc
-name_kind kind.Mark text is = absurd ((no_plain (word_spelled text) (spelled_plain text)).1 is)
+name_kind kind.Reserved text is = absurd ((no_plain (spelled_plain text)).1 is)
+name_kind kind.Mark text is = absurd ((no_plain (spelled_plain text)).1 is)
+name_kind _ text is = absurd cc
 
 -- ---- texts
 
 alphabetic_low : (c : ℕ) → is_ascii_alphabetic c ≡ true → c < 128
-alphabetic_low c is = by (or_cases (is_in_range 65 90 c) (is_in_range 97 122 c) is)
-  where
-    last : (low high : ℕ) → is_in_range low high c ≡ true → c ≤ high
-    last low high is = leb-true c high (and_parts (nat_le low c) (nat_le c high) is).1
-
-    by : (is_in_range 65 90 c ≡ true) ⊎ (is_in_range 97 122 c ≡ true) → c < 128
-    by (inl is) = omega (arith, last 65 90 is)
-    by (inr is) = omega (arith, last 97 122 is)
+alphabetic_low c is = grind (arith, nat_tests)
 
 begins_low : (c : ℕ) → begins_name c ≡ true → c < 128
-begins_low c is = by (or_cases (is_ascii_alphabetic c) (c == 95) is)
-  where
-    by : (is_ascii_alphabetic c ≡ true) ⊎ ((c == 95) ≡ true) → c < 128
-    by (inl is) = alphabetic_low c is
-    by (inr is) = omega (arith, eqb-true c 95 is)
+begins_low c is = grind (arith, nat_tests, alphabetic_low)
 
 continues_low : (c : ℕ) → continues_name c ≡ true → c < 128
-continues_low c is = by (or_cases (begins_name c) (is_ascii_digit c) is)
-  where
-    by : (begins_name c ≡ true) ⊎ (is_ascii_digit c ≡ true) → c < 128
-    by (inl is) = begins_low c is
-    by (inr is) = omega (arith, leb-true c 57 (and_parts (nat_le 48 c) (nat_le c 57) is).1)
+continues_low c is = grind (arith, nat_tests, begins_low)
 
 -- characters of US-ASCII are characters, of one byte each
 rest_ascii : (t : List ℕ) → list_all continues_name t ≡ true
@@ -325,8 +286,8 @@ all_sound src [] sound textual = tt
 all_sound src (token ∷ tokens) sound textual =
     (one src token sound.0 textual.0, all_sound src tokens sound.1 textual.1)
 
-pub lexemes_sound : (src : List ℕ) (tokens : List Token) → AreTokens src tokens
+pub lexemes_sound : {src : List ℕ} {tokens : List Token} → AreTokens src tokens
     → AllByRecursion (Sound src) (lexemes_of src tokens)
-lexemes_sound src tokens are =
-    all_sound src tokens (lexed src 0 src tokens are.lexed [] refl refl)
+lexemes_sound {src} {tokens} are =
+    all_sound src tokens (lexed src are.lexed [] refl refl)
     (recursion_from_All (Textual src) tokens (texts_of src tokens are))

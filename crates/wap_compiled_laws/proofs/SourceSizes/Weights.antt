@@ -1,6 +1,6 @@
 -- What a program needs has no more bytes than the tokens that it is drawn from.
-use Rattle.std.proofs.Common.{◌≡◌, ℕ, ◌+◌, ◌-◌, ◌≤◌, Bool, true, false, cond, nat_le, List, []}
-use Rattle.std.proofs.Common.{◌∷◌, length, Option, Some, None, encode_utf8_all, refl, sym}
+use Rattle.std.proofs.Common.{◌≡◌, ℕ, ◌+◌, ◌-◌, ◌≤◌, true, nat_le, List}
+use Rattle.std.proofs.Common.{length, Option, Some, None, encode_utf8_all, refl, sym}
 use Rattle.std.proofs.Common.{subst, arith, pos}
 use Rattle.std.specs.List.{AllByRecursion, sum_by}
 use Rattle.std.specs.Str.{all_scalars}
@@ -11,120 +11,80 @@ use Rattle.wap_grammar.specs.declared.program.program.Span.{Span}
 use Rattle.wap_grammar.specs.declared.program.program.Use.{Use}
 use Rattle.wap_grammar.specs.declared.program.program.Use.TheVariants.{Url, Access, Agent, Note}
 use Rattle.wap_grammar.specs.declared.program.expression.Literal.{Literal}
-use Rattle.wap_grammar.specs.declared.program.expression.Literal.TheVariants as literal
-use Rattle.wap_lex.specs.Numbers.{integer_value, integer_limit}
 use Rattle.wap_grammar.specs.declared.lexeme.Lexeme.{Lexeme}
 use Rattle.wap_grammar.specs.declared.word.Word.{Word}
-use Rattle.wap_grammar.specs.declared.word.Word.TheVariants as word
-use Rattle.wap_grammar.specs.declared.word.Sign.TheVariants as signs
-use Rattle.wap_grammar.specs.Spellings.{token, name, sign, Several}
+use Rattle.wap_grammar.specs.Spellings.{token, name, Several}
 use Rattle.wap_grammar.specs.Spellings as spelled
 use Rattle.wap_grammar.specs.Values.{text_of, integer_of, literal_of}
-use Rattle.wap_grammar.specs.Lexemes.{text_in}
 use Rattle.wap_grammar.specs.Programs.{IsAccess, IsProperty, IsUse}
 use Rattle.wap_grammar.specs.Programs as formed
-use Rattle.wap_meaning.specs.coding.Needs.{Need, Constant, Operator, Variable, Local, Other}
-use Rattle.wap_meaning.specs.coding.Needs.{Library}
+use Rattle.wap_meaning.specs.coding.Needs.{Need, Constant, Other}
 use Rattle.wap_meaning.proofs.NeedsLemmas.Programs.{draws_use}
-use Rattle.wap_meaning.specs.needs.Drawn.{use_needs, StandsFor, Drawn, no_more, skip, here}
+use Rattle.wap_meaning.specs.needs.Drawn.{StandsFor, Drawn, no_more, skip, here}
 use Rattle.wap_compiled_laws.proofs.SourceSizes.Sizes.{text_size, CanBeSaid}
 use Rattle.wap_compiled_laws.proofs.SourceSizes.Tokens.{weight, Sound}
+use Rattle.std.proofs.lemmas.Grind.{common_steps}
 
 -- ---- one need
 
 -- how many bytes the text of a need has
 abbrev pub need_size : Need → ℕ
 need_size (Constant l) = text_size l
-need_size (Operator o) = 0
-need_size (Variable v) = 0
-need_size (Local f count) = 0
 need_size (Other u f) = length (encode_utf8_all f.name)
-need_size (Library l f count) = 0
+need_size _ = 0
 
 -- its literal or its name can be spelled
 abbrev pub IsSaid : Need → Type 0
 IsSaid (Constant l) = CanBeSaid l
-IsSaid (Operator o) = Unit {0}
-IsSaid (Variable v) = Unit {0}
-IsSaid (Local f count) = Unit {0}
 IsSaid (Other u f) = all_scalars f.name ≡ true
-IsSaid (Library l f count) = Unit {0}
+IsSaid _ = Unit {0}
 
 module _ (src : List ℕ) where
   -- a literal, by its token
-  integer_said : (text : List ℕ) (l : Literal) (most : ℕ) → integer_of text ≡ Some l
+  integer_said : (text : List ℕ) {l : Literal} {most : ℕ} → integer_of text ≡ Some l
       → CanBeSaid l × (text_size l ≤ most)
-  integer_said text l most is = by (nat_le (integer_value text) integer_limit) refl is
-    where
-      by : (b : Bool) → nat_le (integer_value text) integer_limit ≡ b
-          → cond b (Some (literal.Int (pos (integer_value text)))) None ≡ Some l
-          → CanBeSaid l × (text_size l ≤ most)
-      by true less is =
-          subst (λ (l : Literal). CanBeSaid l × (text_size l ≤ most))
-          (same_Some (literal.Int (pos (integer_value text))) l is)
-          (omega (arith, leb-true (integer_value text) integer_limit less), omega arith)
-      by false less is = absurd (cc is)
+  integer_said text {l} {most} is =
+      grind (arith, common_steps, nat_le, pos, text_size, same_Some, leb-true)
 
-  literal_said : (w : Word) (span : Span) (l : Literal) → literal_of src span w ≡ Some l
+  literal_said : (w : Word) {span : Span} {l : Literal} → literal_of src span w ≡ Some l
       → Sound src (token w span) → CanBeSaid l × (text_size l ≤ span.to - span.from)
   unfolding literal_of
-  literal_said word.Int span l is sound =
-      integer_said (text_in src span) l (span.to - span.from) is
-  literal_said word.Float span l is sound =
-      subst (λ (l : Literal). CanBeSaid l × (text_size l ≤ span.to - span.from))
-      (same_Some literal.Float l is) (tt, omega arith)
-  literal_said word.Str span l is sound =
-      subst (λ (l : Literal). CanBeSaid l × (text_size l ≤ span.to - span.from))
-      (same_Some (literal.Str (text_of src span)) l is)
-      (sound.scalars refl, omega (arith, sound.string refl))
-  literal_said word.True span l is sound =
-      subst (λ (l : Literal). CanBeSaid l × (text_size l ≤ span.to - span.from))
-      (same_Some (literal.Bool true) l is) (tt, omega arith)
-  literal_said word.False span l is sound =
-      subst (λ (l : Literal). CanBeSaid l × (text_size l ≤ span.to - span.from))
-      (same_Some (literal.Bool false) l is) (tt, omega arith)
-  literal_said word.Invalid span l is sound =
-      subst (λ (l : Literal). CanBeSaid l × (text_size l ≤ span.to - span.from))
-      (same_Some literal.Invalid l is) (tt, omega arith)
-  literal_said _ span l is sound = absurd (cc is)
+  literal_said w h1 h2 = grind (arith, common_steps, integer_said, text_size, same_Some)
 
   -- a need, by its token
   need_said : (t : Lexeme) (n : Need) → StandsFor src t n → Sound src t
       → IsSaid n × (need_size n ≤ weight t)
-  need_said t (Constant l) is sound = literal_said t.word t.span l is sound
-  need_said t (Operator o) is sound = (tt, omega arith)
-  need_said t (Variable v) is sound = (tt, omega arith)
-  need_said t (Local f count) is sound = (tt, omega arith)
+  need_said t (Constant l) is sound = literal_said t.word is sound
   need_said t (Other u f) is sound = (
     subst (λ (name : List ℕ). all_scalars name ≡ true) (sym is.1) (sound.names is.0),
     subst (λ (name : List ℕ). length (encode_utf8_all name) ≤ weight t) (sym is.1)
         (sound.name is.0),
   )
-  need_said t (Library l f count) is sound = (tt, omega arith)
+  need_said t _ is sound = (tt, omega arith)
 
   -- ---- what is drawn
 
   -- what is drawn from tokens can be spelled, in no more bytes than they have
-  pub drawn_said : (x : List Lexeme) (ns : List Need) (y : List Lexeme)
+  pub drawn_said : {x : List Lexeme} {ns : List Need} {y : List Lexeme}
       → AllByRecursion (Sound src) x → Drawn src x ns y
       → AllByRecursion IsSaid ns × (sum_by need_size ns + sum_by weight y ≤ sum_by weight x)
-  drawn_said x ns y sound (no_more x') = (tt, omega arith)
-  drawn_said x' ns y sound (skip l x ns' y' rest) =
-      let more = drawn_said x ns y sound.1 rest in
+  drawn_said sound (no_more x') = (tt, omega arith)
+  drawn_said sound (skip l x ns' y' rest) =
+      let more = drawn_said sound.1 rest in
       (more.0, omega (arith, more.1, sum_by-cons weight l x))
-  drawn_said x' ns' y sound (here l n x ns y' is rest) =
-      let more = drawn_said x ns y sound.1 rest in
+  drawn_said sound (here l n x ns y' is rest) =
+      let more = drawn_said sound.1 rest in
       let one = need_said l n is sound.0 in (
         (one.0, more.0),
         omega (arith, one.1, more.1, sum_by-cons weight l x, sum_by-cons need_size n ns),
       )
 
   -- tokens after those from which something is drawn
-  pub sound_after : (x : List Lexeme) (ns : List Need) (y : List Lexeme)
+  pub sound_after : {x : List Lexeme} {ns : List Need} {y : List Lexeme}
       → AllByRecursion (Sound src) x → Drawn src x ns y → AllByRecursion (Sound src) y
-  sound_after x ns y sound (no_more x') = sound
-  sound_after x' ns y sound (skip l x ns' y' rest) = sound_after x ns y sound.1 rest
-  sound_after x' ns' y sound (here l n x ns y' is rest) = sound_after x ns y sound.1 rest
+  sound_after sound (no_more x') = sound
+  sound_after sound (skip l x ns' y' rest) = sound_after sound.1 rest
+  sound_after sound (here l n x ns y' is rest) = sound_after sound.1 rest
 
   -- ---- pragmas
 
@@ -151,111 +111,34 @@ module _ (src : List ℕ) where
   use_bytes Note = 0
 
   -- a string's token
-  text_weighs : (t : Span) → Sound src (formed.text t) → bytes_in (text_of src t) + 2
+  text_weighs : {t : Span} → Sound src (formed.text t) → bytes_in (text_of src t) + 2
       ≤ t.to - t.from
-  text_weighs t sound = sound.string refl
+  text_weighs sound = sound.string refl
 
-  access_weighs : (x : List Lexeme) (a : Option (List ℕ) × Option (List ℕ)) (y : List Lexeme)
+  access_weighs : {x : List Lexeme} {a : Option (List ℕ) × Option (List ℕ)} {y : List Lexeme}
       → AllByRecursion (Sound src) x → IsAccess src x a y
       → text_bytes_if a.0 + text_bytes_if a.1 + sum_by weight y ≤ sum_by weight x + 2
-  access_weighs x' a y sound (formed.domain w d x) =
-      omega (
-        arith,
-        text_weighs d sound.1.0,
-        sound.0.some,
-        sum_by-cons weight (sign signs.Domain w) (formed.text d ∷ y),
-        sum_by-cons weight (formed.text d) y,
-      )
-  access_weighs x' a y sound (formed.path w d x) =
-      omega (
-        arith,
-        text_weighs d sound.1.0,
-        sound.0.some,
-        sum_by-cons weight (sign signs.Path w) (formed.text d ∷ y),
-        sum_by-cons weight (formed.text d) y,
-      )
-  access_weighs x' a y sound (formed.both first d second p x) =
-      omega (
-        arith,
-        text_weighs d sound.1.0,
-        text_weighs p sound.1.1.1.0,
-        sound.0.some,
-        sound.1.1.0.some,
-        sum_by-cons weight (sign signs.Domain first)
-            (formed.text d ∷ sign signs.Path second ∷ formed.text p ∷ y),
-        sum_by-cons weight (formed.text d) (sign signs.Path second ∷ formed.text p ∷ y),
-        sum_by-cons weight (sign signs.Path second) (formed.text p ∷ y),
-        sum_by-cons weight (formed.text p) y,
-      )
+  access_weighs h0 h1 = grind (arith, common_steps, text_weighs, sum_by-cons, weight)
 
-  property_weighs : (x : List Lexeme) (a : List ℕ × List ℕ × Option (List ℕ)) (y : List Lexeme)
+  property_weighs : {x : List Lexeme} {a : List ℕ × List ℕ × Option (List ℕ)} {y : List Lexeme}
       → AllByRecursion (Sound src) x → IsProperty src x a y
       → property_bytes a.0 a.1 a.2 + sum_by weight y ≤ sum_by weight x + 4
-  property_weighs x' a y sound (formed.plain n c x) =
-      omega (
-        arith,
-        text_weighs n sound.0,
-        text_weighs c sound.1.0,
-        sum_by-cons weight (formed.text n) (formed.text c ∷ y),
-        sum_by-cons weight (formed.text c) y,
-      )
-  property_weighs x' a y sound (formed.schemed n c s x) =
-      omega (
-        arith,
-        text_weighs n sound.0,
-        text_weighs c sound.1.0,
-        text_weighs s sound.1.1.0,
-        sum_by-cons weight (formed.text n) (formed.text c ∷ formed.text s ∷ y),
-        sum_by-cons weight (formed.text c) (formed.text s ∷ y),
-        sum_by-cons weight (formed.text s) y,
-      )
+  property_weighs h0 h1 = grind (arith, common_steps, text_weighs, sum_by-cons, weight)
 
   -- a pragma
-  use_weighs : (x : List Lexeme) (u : Use) (y : List Lexeme) → AllByRecursion (Sound src) x
+  use_weighs : {x : List Lexeme} {u : Use} {y : List Lexeme} → AllByRecursion (Sound src) x
       → IsUse src x u y → use_bytes u + sum_by weight y ≤ sum_by weight x
-  use_weighs x' u' y sound (formed.url w kind u t end x) =
-      omega (
+  use_weighs h0 h1 =
+      grind (
         arith,
-        text_weighs t sound.1.1.1.0,
-        sum_by-cons weight (sign signs.Use w)
-            (sign signs.Url kind ∷ name u ∷ formed.text t ∷ sign signs.Semicolon end ∷ y),
-        sum_by-cons weight (sign signs.Url kind)
-            (name u ∷ formed.text t ∷ sign signs.Semicolon end ∷ y),
-        sum_by-cons weight (name u) (formed.text t ∷ sign signs.Semicolon end ∷ y),
-        sum_by-cons weight (formed.text t) (sign signs.Semicolon end ∷ y),
-        sum_by-cons weight (sign signs.Semicolon end) y,
-      )
-  use_weighs x' u' y sound (formed.access w kind end x y' d p is) =
-      omega (
-        arith,
-        access_weighs x (d, p) (sign signs.Semicolon end ∷ y) sound.1.1 is,
-        sound.0.some,
-        sound.1.0.some,
-        sum_by-cons weight (sign signs.Use w) (sign signs.Access kind ∷ x),
-        sum_by-cons weight (sign signs.Access kind) x,
-        sum_by-cons weight (sign signs.Semicolon end) y,
-      )
-  use_weighs x' u' y sound (formed.name_meta w kind of end x y' n c s is) =
-      (drawn_said x' [] y sound
-      (draws_use src x' u' y (formed.name_meta w kind of end x y n c s is))).1
-  use_weighs x' u' y sound (formed.http_equiv w kind http equiv end x y' n c s is) =
-      (drawn_said x' [] y sound
-      (draws_use src x' u' y (formed.http_equiv w kind http equiv end x y n c s is))).1
-  use_weighs x' u' y sound (formed.user_agent w kind user agent end x y' n c s is) =
-      omega (
-        arith,
-        property_weighs x (n, c, s) (sign signs.Semicolon end ∷ y) sound.1.1.1.1 is,
-        sound.0.some,
-        sound.1.0.some,
-        sound.1.1.0.some,
-        sound.1.1.1.0.some,
-        sum_by-cons weight (sign signs.Use w)
-            (sign signs.Meta kind ∷ sign signs.User user ∷ sign signs.Agent agent ∷ x),
-        sum_by-cons weight (sign signs.Meta kind)
-            (sign signs.User user ∷ sign signs.Agent agent ∷ x),
-        sum_by-cons weight (sign signs.User user) (sign signs.Agent agent ∷ x),
-        sum_by-cons weight (sign signs.Agent agent) x,
-        sum_by-cons weight (sign signs.Semicolon end) y,
+        common_steps,
+        text_weighs,
+        sum_by-cons,
+        weight,
+        access_weighs,
+        drawn_said,
+        draws_use,
+        property_weighs,
       )
 
   -- pragmas
@@ -266,7 +149,7 @@ module _ (src : List ℕ) where
   uses_weigh x us z sound (spelled.more x' y z' u others is rest) =
       omega (
         arith,
-        use_weighs x u y sound is,
-        uses_weigh y others z (sound_after x (use_needs u) y sound (draws_use src x u y is)) rest,
+        use_weighs sound is,
+        uses_weigh y others z (sound_after sound (draws_use src x u y is)) rest,
         sum_by-cons use_bytes u others,
       )

@@ -47,6 +47,7 @@ use Rattle.wap_compiled_laws.proofs.SourceSizes.Weights.{need_size, IsSaid, draw
 use Rattle.wap_compiled_laws.proofs.SourceSizes.Weights.{use_bytes, uses_weigh}
 use Rattle.wap_compiled_laws.proofs.SpellingLemmas.Distinct.{Known, pool_size}
 use Rattle.wap_compiled_laws.proofs.BodiesLemmas.Pooled.{in_more}
+use Rattle.std.proofs.lemmas.Grind.{common_steps}
 
 -- ---- what the grammar says of a program
 
@@ -64,35 +65,33 @@ module _ (src : List ℕ) (Statement : Spelling Stmt)
   abbrev draws : Draws src function_needs (IsFunction src Statement)
   draws = draws_function src Statement statement
 
-  name_said : (x : List Lexeme) (f : Function) (v : List Lexeme) → AllByRecursion (Sound src) x
+  name_said : {x : List Lexeme} {f : Function} {v : List Lexeme} → AllByRecursion (Sound src) x
       → IsFunction src Statement x f v → all_scalars f.name.name ≡ true
-  name_said x f' v sound (formed.function f left opened closed x' y z u v' out ps ss head params
-      body tail) =
-      (sound_after src x [] (name f ∷ _) sound (passes_head src x out (name f ∷ _) head)).0.names
-      refl
+  name_said {x} sound (formed.function f left opened closed x' y z u v' out ps ss head params
+      body tail) = (sound_after src sound (passes_head src x out (name f ∷ _) head)).0.names refl
 
-  names_said : (x : List Lexeme) (fs : List Function) (y : List Lexeme)
+  names_said : {x : List Lexeme} {fs : List Function} {y : List Lexeme}
       → AllByRecursion (Sound src) x → Several (IsFunction src Statement) x fs y
       → AllByRecursion (λ (f : Function). all_scalars f.name.name ≡ true) fs
-  names_said x fs y sound (spelled.none x') = tt
-  names_said x fs z sound (spelled.more x' y z' f others is rest) = (
-    name_said x f y sound is,
-    names_said y others z (sound_after src x (function_needs f) y sound (draws x f y is)) rest,
+  names_said sound (spelled.none x') = tt
+  names_said {x} sound (spelled.more x' y z' f others is rest) = (
+    name_said sound is,
+    names_said (sound_after src sound (draws x f y is)) rest,
   )
 
-  facts : (x : List Lexeme) (p : Program) → AllByRecursion (Sound src) x
+  facts : {x : List Lexeme} {p : Program} → AllByRecursion (Sound src) x
       → IsProgramOf src Statement x p → Facts src p (sum_by weight x)
-  facts x p sound (formed.program x' y us f fs uses functions) =
+  facts {x} sound (formed.program x' y us f fs uses functions) =
       let first = several src use_needs (IsUse src) (draws_use src) x us y uses in
-      let after = sound_after src x (flat_map use_needs us) y sound first in
+      let after = sound_after src sound first in
       let second = several src function_needs (IsFunction src Statement) draws y (f ∷ fs) []
       functions in
-      let said = drawn_said src y (flat_map function_needs (f ∷ fs)) [] after second in
+      let said = drawn_said src after second in
       record {
         some = omega arith;
-        uses = (drawn_said src x (flat_map use_needs us) y sound first).0;
+        uses = (drawn_said src sound first).0;
         said = said.0;
-        names = names_said y (f ∷ fs) [] after functions;
+        names = names_said after functions;
         size = omega (arith, said.1, uses_weigh src x us y sound uses);
       }
 
@@ -112,14 +111,12 @@ pooled_each P (l ∷ ls) constants all more =
 -- the literals of pragmas
 use_said : (u : Use) → AllByRecursion IsSaid (use_needs u)
     → AllByRecursion CanBeSaid (use_literals u)
-use_said (Url name url) said = tt
-use_said (Access None None span) said = tt
 use_said (Access (Some domain) None span) said = (said.0, tt)
 use_said (Access None (Some path) span) said = (said.0, tt)
 use_said (Access (Some domain) (Some path) span) said = (said.0, (said.1.0, tt))
 use_said (Agent name content None) said = (said.0, (said.1.0, tt))
 use_said (Agent name content (Some scheme)) said = (said.0, (said.1.0, (said.1.1.0, tt)))
-use_said Note said = tt
+use_said _ said = tt
 
 uses_said : (us : List Use) → AllByRecursion IsSaid (flat_map use_needs us)
     → AllByRecursion CanBeSaid (flat_map use_literals us)
@@ -190,20 +187,14 @@ use_texts Note = []
 -- the texts of a need, but for URLs
 abbrev need_texts : Need → List Literal
 need_texts (Constant l) = l ∷ []
-need_texts (Operator o) = []
-need_texts (Variable v) = []
-need_texts (Local f count) = []
 need_texts (Other u f) = literal.Str f.name ∷ []
-need_texts (Library l f count) = []
+need_texts _ = []
 
 -- a literal that is there is known
 known_first : (l : Literal) (xs : List Literal) → Known (l ∷ xs) l
-known_first (literal.Int z) xs = inr refl
 known_first (literal.Str t) xs =
     inl (ap (λ (b : Bool). b || is_in (literal.Str t) xs) ((bytes_decides t t).1 refl))
-known_first literal.Float xs = inr refl
-known_first (literal.Bool truth) xs = inr refl
-known_first literal.Invalid xs = inr refl
+known_first _ xs = inr refl
 
 -- what is known stays known
 known_left : (l : Literal) (xs ys : List Literal) → Known xs l → Known (xs ++ ys) l
@@ -300,12 +291,9 @@ module _ (p : Program) where
   need_known : (f : Function) (n : Need)
       → AllByRecursion (Either texts (need_texts n)) (literals_of (names_in p f) n)
   need_known f (Constant l) = (inr (known_first l []), tt)
-  need_known f (Operator o) = tt
-  need_known f (Variable v) = tt
-  need_known f (Local g count) = tt
   need_known f (Other u g) =
       (inl (url_known u.name p.uses), (inr (known_first (literal.Str g.name) []), tt))
-  need_known f (Library l g count) = tt
+  need_known f _ = tt
 
   needs_known : (f : Function) (ns : List Need)
       → AllByRecursion (Either texts (flat_map need_texts ns))
@@ -314,10 +302,8 @@ module _ (p : Program) where
   needs_known f (n ∷ ns) =
       let rest = flat_map need_texts ns in
       each_both (Either texts (need_texts n ++ rest)) (literals_of (names_in p f) n)
-      (flat_map (literals_of (names_in p f)) ns)
-      (each_then (Either texts (need_texts n)) (Either texts (need_texts n ++ rest))
-      (either_left texts (need_texts n) rest) (literals_of (names_in p f) n) (need_known f n))
-      (each_then (Either texts rest) (Either texts (need_texts n ++ rest))
+      (flat_map (literals_of (names_in p f)) ns) (each_then (either_left texts (need_texts n) rest)
+      (literals_of (names_in p f) n) (need_known f n)) (each_then
       (either_right texts (need_texts n) rest) (flat_map (literals_of (names_in p f)) ns)
       (needs_known f ns))
 
@@ -332,11 +318,10 @@ module _ (p : Program) where
       subst (λ (ys : List Literal). AllByRecursion (Either texts ys)
       (function_literals p f ++ flat_map (function_literals p) fs)) (sym whole)
       (each_both (Either texts (first ++ rest)) (function_literals p f)
-      (flat_map (function_literals p) fs)
-      (each_then (Either texts first) (Either texts (first ++ rest)) (either_left texts first rest)
+      (flat_map (function_literals p) fs) (each_then (either_left texts first rest)
       (function_literals p f) (needs_known f (function_needs f)))
-      (each_then (Either texts rest) (Either texts (first ++ rest)) (either_right texts first rest)
-      (flat_map (function_literals p) fs) (functions_known fs)))
+      (each_then (either_right texts first rest) (flat_map (function_literals p) fs)
+      (functions_known fs)))
 
   -- the texts of its needs
   abbrev others : List Literal
@@ -348,8 +333,7 @@ module _ (p : Program) where
       each_both (Known (texts ++ others)) (flat_map use_literals p.uses)
       (flat_map (function_literals p) p.functions)
       (all_left (flat_map use_literals p.uses) texts others
-      (flat_known use_texts use_literals use_known p.uses))
-      (each_then (Either texts others) (Known (texts ++ others))
+      (flat_known use_texts use_literals use_known p.uses)) (each_then
       (λ l known. either_both l texts others known) (flat_map (function_literals p) p.functions)
       (functions_known p.functions))
 
@@ -376,32 +360,7 @@ needs_size (n ∷ ns) =
 -- a pragma has no more bytes than its texts and what names them
 use_size : (src : List ℕ) (number : List ℕ → ℕ) (u : Use)
     → sum_by text_size (use_texts u) + sum_by pragma_size (pragmas_of number u) ≤ use_bytes src u
-use_size src number (Url name url) = omega (arith, sum_by-cons text_size (literal.Str url) [])
-use_size src number (Access None None span) = omega arith
-use_size src number (Access (Some domain) None span) =
-    omega (arith, sum_by-cons text_size (literal.Str domain) [])
-use_size src number (Access None (Some path) span) =
-    omega (arith, sum_by-cons text_size (literal.Str path) [])
-use_size src number (Access (Some domain) (Some path) span) =
-    omega (
-      arith,
-      sum_by-cons text_size (literal.Str domain) (literal.Str path ∷ []),
-      sum_by-cons text_size (literal.Str path) [],
-    )
-use_size src number (Agent name content None) =
-    omega (
-      arith,
-      sum_by-cons text_size (literal.Str name) (literal.Str content ∷ []),
-      sum_by-cons text_size (literal.Str content) [],
-    )
-use_size src number (Agent name content (Some scheme)) =
-    omega (
-      arith,
-      sum_by-cons text_size (literal.Str name) (literal.Str content ∷ literal.Str scheme ∷ []),
-      sum_by-cons text_size (literal.Str content) (literal.Str scheme ∷ []),
-      sum_by-cons text_size (literal.Str scheme) [],
-    )
-use_size src number Note = omega arith
+use_size src number u = grind (arith, common_steps, sum_by-cons, text_size)
 
 uses_size : (src : List ℕ) (number : List ℕ → ℕ) (us : List Use)
     → sum_by text_size (flat_map use_texts us)
@@ -425,8 +384,7 @@ module _ (source : List ℕ) (p : Program) (is : IsAccepted source p) where
   its_facts : Facts source p (sum_by weight (lexemes_of source is.spells.tokens))
   its_facts =
       facts source (IsStatement source LEVEL_LIMIT) (draws_statement source LEVEL_LIMIT)
-      (lexemes_of source is.spells.tokens) p
-      (lexemes_sound source is.spells.tokens is.spells.are_tokens) is.spells.spells
+      (lexemes_sound is.spells.are_tokens) is.spells.spells
 
   can_be_spelled : CanBeSpelled p
   unfolding pool literals_needed compiled
@@ -446,17 +404,17 @@ module _ (source : List ℕ) (p : Program) (is : IsAccepted source p) where
           needs_size (flat_map function_needs p.functions),
           uses_size source (text_place (pool p)) p.uses,
           its_facts.size,
-          tokens_weigh source 0 source is.spells.tokens is.spells.are_tokens.lexed,
+          tokens_weigh source is.spells.are_tokens.lexed,
           is.short,
         );
       }
 
-pub accepted_unit : (source : List ℕ) (p : Program) → IsAccepted source p
+pub accepted_unit : {source : List ℕ} {p : Program} → IsAccepted source p
     → IsUnit (spelling (compiled p)) (compiled p) × (length (spelling (compiled p)) < 2 ^ 32)
-accepted_unit source p is =
+accepted_unit {source} {p} is =
     is_spelled p is.scoped (operators source is.spells.tokens p (LEVEL_LIMIT, is.spells.spells))
     is.room (can_be_spelled source p is)
 
 pub accepted_spelling : (source : List ℕ) (p : Program) → IsAccepted source p
     → HasSpelling (compiled p)
-accepted_spelling source p is = (spelling (compiled p), (accepted_unit source p is).0)
+accepted_spelling source p is = (spelling (compiled p), (accepted_unit is).0)

@@ -7,10 +7,10 @@ use Rattle.wap_unit.specs.declared.row.Slot.{Slot}
 use Rattle.wap_unit.specs.declared.row.Slot.TheVariants.{Absent, Low, Byte, Word}
 use Rattle.wap_unit.specs.declared.row.Row.{Row}
 use Rattle.wap_asm.specs.Spelling.{limit, slot_bytes, spelling}
-use Rattle.wap_asm.specs.Spellings.{operation_of, spelling_of, row_bytes}
+use Rattle.wap_asm.specs.Spellings.{spelling_of, row_bytes}
 use Rattle.wap_asm.specs.declared.form.Form.{Form}
 use Rattle.wap_asm.specs.declared.form.Form.TheVariants.{Op, Jump, Label}
-use Rattle.wap_asm.specs.Placing.{between, target, form_bytes, bytes_at, wide, settled, placed}
+use Rattle.wap_asm.specs.Placing.{form_bytes, bytes_at, wide, settled, placed}
 use Rattle.wap_asm.specs.Placed.{ArePlaceable}
 use Rattle.wap_asm.specs.inside.Passes.{HasRoom, HasSpelling}
 use Rattle.wap_asm.proofs.BytesLaws.{op_spelling, jump_spelling, has_room}
@@ -24,8 +24,8 @@ slot_fits Byte n less = (less, tt)
 slot_fits Word n less = (omega (arith, less), (omega arith, tt))
 
 -- an instruction whose operands have room
-row_fits : (row : Row) (a b c : ℕ) → HasRoom row a b c → AreBytes (spelling row a b c)
-row_fits row a b c room = (
+row_fits : {row : Row} {a b c : ℕ} → HasRoom row a b c → AreBytes (spelling row a b c)
+row_fits {row} {a} {b} {c} room = (
   room.code_fits,
   bytes_both (slot_bytes row.a a) (slot_bytes row.b b ++ slot_bytes row.c c)
       (slot_fits row.a a room.a_fits)
@@ -34,24 +34,21 @@ row_fits row a b c room = (
 )
 
 -- one that has a spelling
-spelled_fits : (operation : OpName) (a b c : ℕ) → HasSpelling operation a b c
+spelled_fits : {operation : OpName} {a b c : ℕ} → HasSpelling operation a b c
     → AreBytes (row_bytes (spelling_of operation a b c) a b c)
-spelled_fits operation a b c has = by (spelling_of operation a b c) refl
+spelled_fits {operation} {a} {b} {c} has = by (spelling_of operation a b c) refl
   where
     by : (o : Option Row) → spelling_of operation a b c ≡ o → AreBytes (row_bytes o a b c)
     by None is = tt
-    by (Some row) is = row_fits row a b c (has_room operation a b c row has is)
+    by (Some row) is = row_fits (has_room operation a b c row has is)
 
 module _ (forms : List Form) (placeable : ArePlaceable forms) (few : wide forms ≤ 65535) where
   -- each form
   form_fits : (i : ℕ) (form : Form) → slice_get forms i ≡ Some form
       → AreBytes (form_bytes forms (settled forms) i form)
-  form_fits i (Op instr) here =
-      spelled_fits (operation_of instr.name) instr.a instr.b instr.c
-      (op_spelling forms i instr placeable here)
+  form_fits i (Op instr) here = spelled_fits (op_spelling forms i instr placeable here)
   form_fits i (Jump name label) here =
-      spelled_fits (operation_of name) (between (settled forms) i (target forms label)) 0 0
-      (jump_spelling forms i label name placeable few here)
+      spelled_fits (jump_spelling forms i label name placeable few here)
   form_fits i (Label label) here = tt
 
   -- those from an index on

@@ -88,9 +88,9 @@ module _ (some : List Literal) where
       omega (arith, sum_by-append text_size pool (l ∷ []), sum_by-cons text_size l [])
 
   -- one that is not in the pool yet
-  taken : (pool : List Literal) (l : Literal) → Paid pool → is_in l pool ≡ false
+  taken : {pool : List Literal} (l : Literal) → Paid pool → is_in l pool ≡ false
       → is_in l some ≡ true → Paid (pool ++ l ∷ [])
-  taken pool l paid new there = record {
+  taken {pool} l paid new there = record {
     left = without l paid.left;
     kept = λ k among. by k (same_literal l k) refl (paid.kept k among);
     size = omega (
@@ -119,9 +119,9 @@ module _ (some : List Literal) where
       by k false is (inr left) = inr (stays l k paid.left is left)
 
   -- one without a text
-  empty_taken : (pool : List Literal) (l : Literal) → Paid pool → text_size l ≡ 0
+  empty_taken : {pool : List Literal} (l : Literal) → Paid pool → text_size l ≡ 0
       → Paid (pool ++ l ∷ [])
-  empty_taken pool l paid none = record {
+  empty_taken {pool} l paid none = record {
     left = paid.left;
     kept = λ k among. by k (paid.kept k among);
     size = omega (arith, one_size pool l, none, paid.size);
@@ -133,18 +133,18 @@ module _ (some : List Literal) where
       by k (inr left) = inr left
 
   -- any
-  next_paid : (pool : List Literal) (l : Literal) → Paid pool → Known l → Paid (with_literal pool l)
-  next_paid pool l paid known = by (is_in l pool) refl known
+  next_paid : {pool : List Literal} (l : Literal) → Paid pool → Known l → Paid (with_literal pool l)
+  next_paid {pool} l paid known = by (is_in l pool) refl known
     where
       by : (b : Bool) → is_in l pool ≡ b → Known l → Paid (cond b pool (pool ++ l ∷ []))
       by true is known = paid
-      by false is (inl there) = taken pool l paid is there
-      by false is (inr none) = empty_taken pool l paid none
+      by false is (inl there) = taken l paid is there
+      by false is (inr none) = empty_taken l paid none
 
   all_paid : (ls pool : List Literal) → AllByRecursion Known ls → Paid pool → Paid (pooled pool ls)
   all_paid [] pool known paid = paid
   all_paid (l ∷ ls) pool known paid =
-      all_paid ls (with_literal pool l) known.1 (next_paid pool l paid known.0)
+      all_paid ls (with_literal pool l) known.1 (next_paid l paid known.0)
 
   -- the pool of such literals
   pub pool_size : (ls : List Literal) → AllByRecursion Known ls

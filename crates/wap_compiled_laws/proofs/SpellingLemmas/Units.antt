@@ -10,13 +10,13 @@ use Rattle.std.proofs.Math.Nat.{mul-suc}
 use Rattle.std.proofs.lemmas.List.{length-map, length-append}
 use Rattle.std.proofs.lemmas.List.Elements.{recursion_from_All}
 use Rattle.std.proofs.lemmas.List.Sums.{sum_by-cons}
-use Rattle.wap_base.specs.Numbers.{IsMb, mb_spelling}
+use Rattle.wap_base.specs.Numbers.{mb_spelling}
 use Rattle.wap_unit.specs.declared.unit.Pragma.{Pragma}
 use Rattle.wap_unit.specs.declared.unit.Pragma.TheVariants as pragma
 use Rattle.wap_asm.specs.Placing.{wide}
 use Rattle.wap_asm.proofs.PlacedLaws.{no_longer}
 use Rattle.wap_grammar.specs.declared.program.program.Use.{Use}
-use Rattle.wap_grammar.specs.declared.program.program.Use.TheVariants.{Url, Access, Agent, Note}
+use Rattle.wap_grammar.specs.declared.program.program.Use.TheVariants.{Access, Agent}
 use Rattle.wap_grammar.specs.declared.program.program.Function.{Function}
 use Rattle.wap_grammar.specs.declared.program.program.Program.{Program}
 use Rattle.wap_grammar.specs.declared.program.expression.Literal.{Literal}
@@ -25,7 +25,7 @@ use Rattle.wap_scope.specs.Scoped.{IsScoped}
 use Rattle.wap_scope.proofs.AcceptedLemmas.Places.{all_by_places}
 use Rattle.wap_meaning.proofs.Variables.{variables_first}
 use Rattle.wap_meaning.specs.coding.Constants.{constant_for}
-use Rattle.wap_unit.specs.Sequences.{InTurn, IsRow, IsCounted}
+use Rattle.wap_unit.specs.Sequences.{IsRow, IsCounted}
 use Rattle.wap_unit.specs.Units.{IsConstant, AreConstants, IsPragma, IsName, IsFunction}
 use Rattle.wap_unit.specs.Units.{AreFunctions, IsBody, IsUnit}
 use Rattle.wap_unit.specs.Spelling.{counted, constant_spelling, pragma_spelling, name_spelling}
@@ -87,13 +87,7 @@ constants_written [] said few = record { is = refl; are = tt; short = omega arit
 constants_written (l ∷ ls) said few =
     let sum = sum_by-cons text_size l ls in
     let rest = constants_written ls said.1 (omega (arith, few, sum)) in
-    let whole = in_turn (λ bytes. IsConstant 106 bytes (constant_for l))
-    (λ bytes. IsRow (IsConstant 106) bytes (map constant_for ls))
-    (constant_spelling (constant_for l)) (flat_map constant_spelling (map constant_for ls))
-    (6 + text_size l) (sum_by (λ (l : Literal). 6 + text_size l) ls)
-    (constant_written l said.0 (omega (arith, few, sum)))
-    rest
-    in
+    let whole = in_turn (constant_written l said.0 (omega (arith, few, sum))) rest in
     record {
       is = whole.is;
       are = whole.are;
@@ -109,8 +103,6 @@ module _ (constants : List Literal) (few : length constants ≤ 65536) where
 
   use_small : (x : Use) → AllByRecursion (InPool constants) (use_literals x)
       → AllByRecursion HasSmall (pragmas_of (text_place constants) x)
-  use_small (Url name url) all = tt
-  use_small (Access None None span) all = tt
   use_small (Access (Some domain) None span) all = (small domain all.0, tt)
   use_small (Access None (Some path) span) all = (small path all.0, tt)
   use_small (Access (Some domain) (Some path) span) all =
@@ -118,7 +110,7 @@ module _ (constants : List Literal) (few : length constants ≤ 65536) where
   use_small (Agent name content None) all = ((small name all.0, small content all.1.0), tt)
   use_small (Agent name content (Some scheme)) all =
       ((small name all.0, small content all.1.0, small scheme all.1.1.0), tt)
-  use_small Note all = tt
+  use_small _ all = tt
 
   uses_small : (uses : List Use) → AllByRecursion (InPool constants) (flat_map use_literals uses)
       → AllByRecursion HasSmall (flat_map (pragmas_of (text_place constants)) uses)
@@ -161,7 +153,7 @@ module _ (count : ℕ) (few : count < 256) where
           (cond (out && short) (Some (index, f.name.name)) None)
           (filter_map entry_of (enumerate_from (index + 1) fs)))
       by true true is rest = (
-        name_written count (index, f.name.name) (omega (arith, within)) few scalars.0
+        name_written (omega (arith, within)) few scalars.0
             (ltb-true (length (encode_utf8_all f.name.name)) 256 is),
         rest,
       )
@@ -196,7 +188,7 @@ module _ (p : Program) (scoped : IsScoped p) (takes : AllTake p) (room : HasRoom
       (λ (f : Function). function_wide f ≤ 65535) room.code in
       let size = wide_exact p scoped takes room.constants f among in
       let wide_less : wide (forms_of p f) ≤ 65535 = omega (arith, size, less) in
-      function_written (compiled_function p f) (omega (arith, variables_first f, few))
+      function_written (omega (arith, variables_first f, few))
       (omega (arith, variables_first f, few))
       (placed_bytes (forms_of p f) (placeable p scoped takes room.constants f among) wide_less)
       (omega (arith, no_longer (forms_of p f), wide_less))
@@ -210,11 +202,7 @@ module _ (p : Program) (scoped : IsScoped p) (takes : AllTake p) (room : HasRoom
       (flat_map function_spelling (map (compiled_function p) fs)) (65542 * length fs)
   all_written [] fine = record { is = refl; are = tt; short = omega arith }
   all_written (f ∷ fs) fine =
-      let whole = in_turn (λ bytes. IsFunction bytes (compiled_function p f))
-      (λ bytes. IsRow IsFunction bytes (map (compiled_function p) fs))
-      (function_spelling (compiled_function p f))
-      (flat_map function_spelling (map (compiled_function p) fs)) 65542 (65542 * length fs)
-      fine.0 (all_written fs fine.1) in
+      let whole = in_turn fine.0 (all_written fs fine.1) in
       record { is = whole.is; are = whole.are; short = omega (arith, whole.short) }
 
   functions_written : Written
@@ -238,14 +226,7 @@ module _ (p : Program) (scoped : IsScoped p) (takes : AllTake p) (room : HasRoom
   constants_part =
       let constants = map constant_for (pool p) in
       let many : length constants ≡ length (pool p) = length-map (pool p) constant_for in
-      in_turn (λ count. IsMb count (length constants))
-      (InTurn (λ set. IsMb set 106) (λ bytes. IsRow (IsConstant 106) bytes constants))
-      (mb_spelling (length constants)) (mb_spelling 106 ++ flat_map constant_spelling constants) 5
-      (5 + sum_by (λ (l : Literal). 6 + text_size l) (pool p))
-      (number (length constants) (omega (arith, many, room.constants)))
-      (in_turn (λ set. IsMb set 106) (λ bytes. IsRow (IsConstant 106) bytes constants)
-      (mb_spelling 106) (flat_map constant_spelling constants) 5
-      (sum_by (λ (l : Literal). 6 + text_size l) (pool p)) (number 106 (omega arith))
+      in_turn (number (omega (arith, many, room.constants))) (in_turn (number (omega arith))
       (constants_written (pool p) can.literals (omega (arith, can.short))))
 
   -- pragmas have a byte each at least
@@ -268,9 +249,7 @@ module _ (p : Program) (scoped : IsScoped p) (takes : AllTake p) (room : HasRoom
   unfolding compiled
   pragmas_part =
       let ps = flat_map (pragmas_of (text_place (pool p))) p.uses in
-      in_turn (λ count. IsMb count (length ps)) (λ bytes. IsRow IsPragma bytes ps)
-      (mb_spelling (length ps)) (flat_map pragma_spelling ps) 5 (sum_by pragma_size ps)
-      (number (length ps) (omega (arith, some_bytes ps, can.short)))
+      in_turn (number (omega (arith, some_bytes ps, can.short)))
       (pragmas_written ps (uses_small (pool p) room.constants p.uses (in_uses p)))
 
   -- the names and the functions
@@ -286,10 +265,7 @@ module _ (p : Program) (scoped : IsScoped p) (takes : AllTake p) (room : HasRoom
       let named = row (IsName (length fs)) name_spelling (λ name. 257) names
       (names_from (length fs) (omega (arith, many, few)) 0 p.functions (omega (arith, many))
       can.names) in
-      let each = in_turn (λ bytes. IsRow (IsName (length fs)) bytes names)
-      (λ bytes. IsRow IsFunction bytes fs) (flat_map name_spelling names)
-      (flat_map function_spelling fs) (sum_by (λ (name : ℕ × List ℕ). 257) names)
-      (65542 * length p.functions) named (functions_written p scoped takes room) in
+      let each = in_turn named (functions_written p scoped takes room) in
       record {
         is = record {
           rows = flat_map name_spelling names ++ flat_map function_spelling fs;
@@ -306,17 +282,8 @@ module _ (p : Program) (scoped : IsScoped p) (takes : AllTake p) (room : HasRoom
       (2 ^ 31 + 17200000)
   unfolding body_spelling compiled
   body_part =
-      let u = compiled p in
-      let size = sum_by (λ (l : Literal). 6 + text_size l) (pool p) in
-      let inner = in_turn (λ bytes. IsCounted IsPragma bytes u.pragmas)
-      (λ bytes. AreFunctions bytes u.names u.functions) (counted pragma_spelling u.pragmas)
-      (functions_spelling u.names u.functions) (5 + sum_by pragma_size u.pragmas) 16780000
-      pragmas_part functions_part in
-      let whole = in_turn (λ bytes. AreConstants bytes 106 u.constants)
-      (InTurn (λ bytes. IsCounted IsPragma bytes u.pragmas)
-      (λ bytes. AreFunctions bytes u.names u.functions)) (constants_spelling 106 u.constants)
-      (counted pragma_spelling u.pragmas ++ functions_spelling u.names u.functions) (5 + (5 + size))
-      (5 + sum_by pragma_size u.pragmas + 16780000) constants_part inner in
+      let inner = in_turn pragmas_part functions_part in
+      let whole = in_turn constants_part inner in
       record {
         is = whole.is;
         are = whole.are;
@@ -330,7 +297,7 @@ module _ (p : Program) (scoped : IsScoped p) (takes : AllTake p) (room : HasRoom
   is_spelled =
       let u = compiled p in
       let body = body_spelling u in
-      let size = number (length body) (omega (arith, body_part.short)) in (
+      let size = number (omega (arith, body_part.short)) in (
         record {
           bytes_are =
               (omega arith, bytes_both (mb_spelling (length body)) body size.are body_part.are);

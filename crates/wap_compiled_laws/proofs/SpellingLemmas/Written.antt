@@ -1,12 +1,12 @@
 -- Parts of a unit that are spelled by bytes, and by how many at most.
 use Rattle.std.proofs.Common.{◌≡◌, ℕ, zero, suc, ◌+◌, ◌/◌, ◌%◌, ◌^◌, ◌<◌, ◌≤◌, Bool, true, false}
 use Rattle.std.proofs.Common.{cond, eqb, ltb, List, [], ◌∷◌, ◌++◌, length, refl, sym, ap, ◌∙◌}
-use Rattle.std.proofs.Common.{arith, pos, negsuc, inl, inr}
+use Rattle.std.proofs.Common.{arith, pos, negsuc}
 use Rattle.std.specs.Prelude.{encode_utf8_all, FitsSigned}
 use Rattle.std.specs.List.{flat_map, AllByRecursion, sum_by}
 use Rattle.std.specs.Str.{all_scalars}
 use Rattle.std.specs.Int.{w8, w16, w32, cast_signed, cast_unsigned, from_be_bytes, to_be_bytes}
-use Rattle.std.proofs.Math.Utf8.{encode, scalar, scalar_cases}
+use Rattle.std.proofs.Math.Utf8.{encode, scalar}
 use Rattle.std.proofs.lemmas.Bool.{ltb-true, and_parts}
 use Rattle.std.proofs.Math.Facts.{Fits-of_z}
 use Rattle.std.proofs.lemmas.Int.{to_z-of_z}
@@ -21,18 +21,16 @@ use Rattle.wap_unit.specs.declared.unit.Constant.TheVariants.{Int8, Int16, Int32
 use Rattle.wap_unit.specs.declared.unit.Pragma.{Pragma}
 use Rattle.wap_unit.specs.declared.unit.Pragma.TheVariants.{Domain, Path, Property, Scheme}
 use Rattle.wap_unit.specs.declared.unit.Code.{Code}
-use Rattle.wap_unit.specs.declared.kind.TheConstants.{INT8, INT16, INT32}
-use Rattle.wap_unit.specs.declared.kind.TheConstants.{DOMAIN, PATH, PROPERTY, SCHEME}
 use Rattle.wap_grammar.specs.declared.program.expression.Literal.{Literal}
-use Rattle.wap_grammar.specs.declared.program.expression.Literal.TheVariants.{Int, Str, Invalid}
-use Rattle.wap_grammar.specs.declared.program.expression.Literal.TheVariants.{Float, Bool as Truth}
+use Rattle.wap_grammar.specs.declared.program.expression.Literal.TheVariants.{Int, Str}
 use Rattle.wap_meaning.specs.coding.Constants.{integer_constant, constant_for}
 use Rattle.wap_compiled_laws.proofs.SourceSizes.Sizes.{text_size, CanBeSaid}
 use Rattle.wap_unit.specs.Sequences.{InTurn, After, IsSized, IsRow}
-use Rattle.wap_unit.specs.Units.{IsUtf8Text, IsBits, IsConstant, IsPair, IsPragma, IsName}
+use Rattle.wap_unit.specs.Units.{IsUtf8Text, IsConstant, IsPair, IsPragma, IsName}
 use Rattle.wap_unit.specs.Units.{IsFunction}
 use Rattle.wap_unit.specs.Spelling.{sized, constant_spelling, pragma_spelling, name_spelling}
 use Rattle.wap_unit.specs.Spelling.{function_spelling}
+use Rattle.std.proofs.lemmas.Grind.{common_steps}
 
 -- numbers below 256
 abbrev pub AreBytes : List ℕ → Type 0
@@ -50,18 +48,18 @@ pub record Written (Is : List ℕ → Type 0) (bytes : List ℕ) (most : ℕ) : 
   pub short : length bytes ≤ most
 
 -- one part, and what follows it
-pub in_turn : (First Second : List ℕ → Type 0) (a b : List ℕ) (m n : ℕ) → Written First a m
+pub in_turn : {First Second : List ℕ → Type 0} {a b : List ℕ} {m n : ℕ} → Written First a m
     → Written Second b n → Written (InTurn First Second) (a ++ b) (m + n)
-in_turn First Second a b m n one two = record {
+in_turn {a} {b} one two = record {
   is = record { front = a; back = b; split = refl; first = one.is; second = two.is };
   are = bytes_both a b one.are two.are;
   short = omega (arith, length-append a b, one.short, two.short);
 }
 
 -- a byte, and what follows it
-pub behind : (byte : ℕ) (Is : List ℕ → Type 0) (rest : List ℕ) (n : ℕ) → byte < 256
+pub behind : {byte : ℕ} {Is : List ℕ → Type 0} {rest : List ℕ} {n : ℕ} → byte < 256
     → Written Is rest n → Written (After byte Is) (byte ∷ rest) (suc n)
-behind byte Is rest n less one = record {
+behind {rest} less one = record {
   is = (rest, refl, one.is);
   are = (less, one.are);
   short = omega (arith, one.short);
@@ -74,8 +72,7 @@ pub row : {A : Type 0} (Is : List ℕ → A → Type 0) (spell : A → List ℕ)
 row Is spell size [] all = record { is = refl; are = tt; short = omega arith }
 row Is spell size (x ∷ xs) all =
     let rest = row Is spell size xs all.1 in
-    let whole = in_turn (λ bytes. Is bytes x) (λ bytes. IsRow Is bytes xs) (spell x)
-    (flat_map spell xs) (size x) (sum_by size xs) all.0 rest in
+    let whole = in_turn all.0 rest in
     record {
       is = whole.is;
       are = whole.are;
@@ -90,13 +87,7 @@ carried_none (suc allowed) = refl
 
 carried_more : (allowed n : ℕ)
     → length (carried (suc allowed) n) ≤ suc (length (carried allowed (n / 128)))
-carried_more allowed n = by (eqb n 0)
-  where
-    by : (b : Bool) → length (cond b [] (carried allowed (n / 128) ++ (128 + n % 128) ∷ []))
-        ≤ suc (length (carried allowed (n / 128)))
-    by true = omega arith
-    by false =
-        omega (arith, length-append (carried allowed (n / 128)) ((128 + n % 128) ∷ []))
+carried_more allowed n = grind (arith, common_steps, length-append)
 
 carried_bytes : (allowed n : ℕ) → AreBytes (carried allowed n)
 carried_bytes zero n = tt
@@ -109,8 +100,8 @@ carried_bytes (suc allowed) n = by (eqb n 0) (carried_bytes allowed (n / 128))
         bytes_both (carried allowed (n / 128)) ((128 + n % 128) ∷ []) rest (omega arith, tt)
 
 -- a number below 2^32 has five bytes at most
-pub number : (n : ℕ) → n < 2 ^ 32 → Written (λ bytes. IsMb bytes n) (mb_spelling n) 5
-number n less =
+pub number : {n : ℕ} → n < 2 ^ 32 → Written (λ bytes. IsMb bytes n) (mb_spelling n) 5
+number {n} less =
     let is = (IsShortest-mb_spelling n less).spells in
     record {
       is = is;
@@ -120,9 +111,9 @@ number n less =
     }
 
 -- one below 2^16 has three
-pub small_number : (n : ℕ) → n < 65536 → Written (λ bytes. IsMb bytes n) (mb_spelling n) 3
-small_number n less =
-    let whole = number n (omega (arith, less)) in
+pub small_number : {n : ℕ} → n < 65536 → Written (λ bytes. IsMb bytes n) (mb_spelling n) 3
+small_number {n} less =
+    let whole = number (omega (arith, less)) in
     let third : n / 128 / 128 / 128 ≡ 0 = omega (arith, less) in
     let none : length (carried 2 (n / 128 / 128 / 128)) ≡ 0 =
     ap (λ (m : ℕ). length (carried 2 m)) third ∙ ap length (carried_none 2) in
@@ -158,10 +149,7 @@ character_bytes c less = by (ltb c 128) (ltb c 2048) (ltb c 65536) refl refl ref
 
 -- a character is no greater than the last
 scalar_below : (c : ℕ) → scalar c ≡ true → c < 1114112
-scalar_below c is = elim (scalar_cases c is) [
-  | inl low ↦ omega (arith, low)
-  | inr high ↦ high.1
-]
+scalar_below c is = grind (arith, common_steps)
 
 -- the bytes of a text
 pub text_bytes : (t : List ℕ) → all_scalars t ≡ true → AreBytes (encode_utf8_all t)
@@ -172,19 +160,17 @@ text_bytes (c ∷ t) scalars =
     (text_bytes t both.1)
 
 -- they are the text
-pub utf8_text : (t : List ℕ) → all_scalars t ≡ true → IsUtf8Text (encode_utf8_all t) t
-utf8_text t scalars = record {
+pub utf8_text : {t : List ℕ} → all_scalars t ≡ true → IsUtf8Text (encode_utf8_all t) t
+utf8_text {t} scalars = record {
   utf8 = is_utf8-from_IsUtf8 (encode_utf8_all t) (t, (scalars, refl));
   characters = sym (chars-encodes t scalars);
 }
 
 -- bytes after their number
-pub sized_written : (content : List ℕ) → AreBytes content → length content < 2 ^ 32
+pub sized_written : {content : List ℕ} → AreBytes content → length content < 2 ^ 32
     → Written (λ bytes. IsSized bytes content) (sized content) (5 + length content)
-sized_written content are less =
-    in_turn (λ front. IsMb front (length content)) (λ back. back ≡ content)
-    (mb_spelling (length content)) content 5 (length content) (number (length content) less)
-    (record { is = refl; are = are; short = omega arith })
+sized_written are less =
+    in_turn (number less) (record { is = refl; are = are; short = omega arith })
 
 -- ---- constants
 
@@ -199,8 +185,7 @@ byte_written n less =
     let m = cast_unsigned w8 (pos n) in
     let small : m < 2 ^ 8 = (Fits-of_z fits).fits in
     let back : from_be_bytes w8 (to_be_bytes w8 m) ≡ m = omega (arith, small) in
-    behind INT8 (IsBits 1 (λ value. pos n ≡ cast_signed w8 (from_be_bytes w8 value)))
-    (to_be_bytes w8 m) 5 (omega arith) (record {
+    behind (omega arith) (record {
       is = (refl, sym (ap (cast_signed w8) back ∙ to_z-of_z w8 (pos n) fits));
       are = (omega arith, tt);
       short = omega arith;
@@ -212,8 +197,7 @@ word_written n less =
     let fits : FitsSigned w16 (pos n) = omega (arith, less) in
     let m = cast_unsigned w16 (pos n) in
     let small : m < 2 ^ 16 = (Fits-of_z fits).fits in
-    behind INT16 (IsBits 2 (λ value. pos n ≡ cast_signed w16 (from_be_bytes w16 value)))
-    (to_be_bytes w16 m) 5 (omega arith) (record {
+    behind (omega arith) (record {
       is = (
         refl,
         sym (ap (cast_signed w16) (from_be_bytes-to_be_bytes_2 m small)
@@ -229,8 +213,7 @@ long_written n less =
     let fits : FitsSigned w32 (pos n) = omega (arith, less) in
     let m = cast_unsigned w32 (pos n) in
     let small : m < 2 ^ 32 = (Fits-of_z fits).fits in
-    behind INT32 (IsBits 4 (λ value. pos n ≡ cast_signed w32 (from_be_bytes w32 value)))
-    (to_be_bytes w32 m) 5 (omega arith) (record {
+    behind (omega arith) (record {
       is = (
         refl,
         sym (ap (cast_signed w32) (from_be_bytes-to_be_bytes_4 m small)
@@ -257,31 +240,22 @@ pub constant_written : (l : Literal) → CanBeSaid l → text_size l < 2 ^ 32
     → Written (IsIt (constant_for l)) (constant_spelling (constant_for l)) (6 + text_size l)
 constant_written (Int (pos n)) said few = integer_written n said
 constant_written (Int (negsuc n)) said few = absurd said
-constant_written (Str []) said few =
-    record { is = refl; are = (omega arith, tt); short = omega arith }
 constant_written (Str (c ∷ cs)) said few =
     let content = encode_utf8_all (c ∷ cs) in
-    let whole = sized_written content (text_bytes (c ∷ cs) said) few in
+    let whole = sized_written (text_bytes (c ∷ cs) said) few in
     record {
-      is = (sized content, refl, (content, whole.is, utf8_text (c ∷ cs) said));
+      is = (sized content, refl, (content, whole.is, utf8_text said));
       are = (omega arith, whole.are);
       short = omega (arith, whole.short);
     }
-constant_written Float said few =
-    record { is = refl; are = (omega arith, tt); short = omega arith }
-constant_written (Truth truth) said few =
-    record { is = refl; are = (omega arith, tt); short = omega arith }
-constant_written Invalid said few =
-    record { is = refl; are = (omega arith, tt); short = omega arith }
+constant_written _ said few = record { is = refl; are = (omega arith, tt); short = omega arith }
 
 -- ---- pragmas
 
 -- two numbers
-pair_written : (a b : ℕ) → a < 65536 → b < 65536
+pair_written : {a b : ℕ} → a < 65536 → b < 65536
     → Written (λ bytes. IsPair bytes a b) (mb_spelling a ++ mb_spelling b) 6
-pair_written a b one two =
-    in_turn (λ front. IsMb front a) (λ back. IsMb back b) (mb_spelling a) (mb_spelling b) 3 3
-    (small_number a one) (small_number b two)
+pair_written one two = in_turn (small_number one) (small_number two)
 
 -- how many bytes a pragma has at most
 abbrev pub pragma_size : Pragma → ℕ
@@ -299,44 +273,34 @@ HasSmall (Scheme name content scheme) = (name < 65536) × (content < 65536) × (
 
 pub pragma_written : (p : Pragma) → HasSmall p
     → Written (λ bytes. IsPragma bytes p) (pragma_spelling p) (pragma_size p)
-pragma_written (Domain text) small =
-    behind DOMAIN (λ rest. IsMb rest text) (mb_spelling text) 3 (omega arith)
-    (small_number text small)
-pragma_written (Path text) small =
-    behind PATH (λ rest. IsMb rest text) (mb_spelling text) 3 (omega arith)
-    (small_number text small)
-pragma_written (Property name content) small =
-    behind PROPERTY (λ rest. IsPair rest name content) (mb_spelling name ++ mb_spelling content) 6
-    (omega arith) (pair_written name content small.0 small.1)
+pragma_written (Domain text) small = behind (omega arith) (small_number small)
+pragma_written (Path text) small = behind (omega arith) (small_number small)
+pragma_written (Property name content) small = behind (omega arith) (pair_written small.0 small.1)
 pragma_written (Scheme name content scheme) small =
-    behind SCHEME (InTurn (λ front. IsMb front name) (λ back. IsPair back content scheme))
-    (mb_spelling name ++ (mb_spelling content ++ mb_spelling scheme)) 9 (omega arith)
-    (in_turn (λ front. IsMb front name) (λ back. IsPair back content scheme) (mb_spelling name)
-    (mb_spelling content ++ mb_spelling scheme) 3 6 (small_number name small.0)
-    (pair_written content scheme small.1 small.2))
+    behind (omega arith) (in_turn (small_number small.0) (pair_written small.1 small.2))
 
 -- ---- names and functions
 
 -- a name, with one byte for its length
-pub name_written : (count : ℕ) (name : ℕ × List ℕ) → name.0 < count → count < 256
+pub name_written : {count : ℕ} {name : ℕ × List ℕ} → name.0 < count → count < 256
     → all_scalars name.1 ≡ true → length (encode_utf8_all name.1) < 256
     → Written (λ bytes. IsName count bytes name) (name_spelling name) 257
-name_written count name within few scalars short = record {
+name_written {name} within few scalars short = record {
   is = record {
     content = encode_utf8_all name.1;
     spelled = refl;
     within = within;
-    text = utf8_text name.1 scalars;
+    text = utf8_text scalars;
   };
   are = (omega (arith, within, few), (short, text_bytes name.1 scalars));
   short = omega (arith, short);
 }
 
 -- a function of fewer than 2^16 bytes
-pub function_written : (f : Code) → f.args < 256 → f.locals < 256 → AreBytes f.code
+pub function_written : {f : Code} → f.args < 256 → f.locals < 256 → AreBytes f.code
     → length f.code ≤ 65535 → Written (λ bytes. IsFunction bytes f) (function_spelling f) 65542
-function_written f few fewer are short =
-    let code = sized_written f.code are (omega (arith, short)) in
+function_written {f} few fewer are short =
+    let code = sized_written are (omega (arith, short)) in
     record {
       is = record { rest = sized f.code; spelled = refl; code = code.is };
       are = (few, (fewer, code.are));

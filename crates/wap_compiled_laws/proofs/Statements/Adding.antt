@@ -17,7 +17,7 @@ use Rattle.wap_grammar.specs.declared.program.expression.Expr.{Expr}
 use Rattle.wap_execution.specs.declared.action.Action.TheVariants.{AssignVariable}
 use Rattle.wap_execution.specs.Actions.{action_of}
 use Rattle.wap_execution.specs.Effects.{Called, stored, effect_of}
-use Rattle.wap_execution.specs.Outcomes.{Outcome, value, exit, fatal, waits, stuck}
+use Rattle.wap_execution.specs.Outcomes.{Outcome, value, stuck}
 use Rattle.wap_execution.specs.Running.{ended, Calls}
 use Rattle.wap_meaning.specs.SourceParts.{Came, gave, over, Does, from, ◌>>=◌, done, give, given}
 use Rattle.wap_meaning.specs.SourceParts.{load, store, kept, kept_by, turn, calling, called_with}
@@ -46,7 +46,7 @@ Same index before a variables left = slice_get variables index ≡ slice_get bef
 
 -- a part leaves the variable at a place as it is
 abbrev pub Spares : {A S : Type 0} → ℕ → Does A S → Type 0
-Spares {A} {S} index does = (variables : List Value) (turns : ℕ) (state : S)
+Spares {S} index does = (variables : List Value) (turns : ℕ) (state : S)
     → Gave (Same index variables) (does variables turns state)
 
 -- what spares a variable from there spares it from before
@@ -122,10 +122,7 @@ spares_turn index variables (suc turns) state = refl
 spares_came : {S : Type 0} (index : ℕ) (outcome : Outcome) (variables : List Value) (left : ℕ)
     (state : S) → Gave (Same index variables) (came_by outcome variables left state)
 spares_came index (value v) variables left state = refl
-spares_came index (exit v) variables left state = tt
-spares_came index (fatal why) variables left state = tt
-spares_came index (waits dialog frames) variables left state = tt
-spares_came index stuck variables left state = tt
+spares_came index _ variables left state = tt
 
 -- a call has variables of its own
 spares_calling : {S : Type 0} (index : ℕ) (call : Calls S) (callee : Called)
@@ -165,7 +162,7 @@ module _ {S : Type 0} (site : Site S) where
       >>= λ _. give goes_on
 
   -- the instruction, where the variable has the value
-  add_here : (name : OpName) (binop : BinOp) (index i : ℕ) (old v : Value)
+  add_here : {name : OpName} {binop : BinOp} {index : ℕ} (i : ℕ) {old : Value} (v : Value)
       (variables operands : List Value) (turns : ℕ) (state : S) (exits : Exits)
       → action_of name ≡ AssignVariable binop
       → slice_get site.forms i ≡ Some (Op (instr name index 0 0))
@@ -174,13 +171,11 @@ module _ {S : Type 0} (site : Site S) where
       ≡ done (rest_of index binop old v variables turns state)
       (leaves site exits (i + 1) operands)
   unfolding effect_of
-  add_here name binop index i old v variables operands turns state exits acts is has =
-      op_here site i (instr name index 0 0) is variables (v ∷ operands) turns state
-      (done (rest_of index binop old v variables turns state)
-      (leaves site exits (i + 1) operands))
+  add_here {binop} {index} i {old} v variables operands turns state exits acts is has =
+      op_here site i is variables (v ∷ operands) turns state
       (λ other. rw (acts, has) (kept_settles site
       (kept_within site.string (binary_of binop old v))
-      (λ new. stored index variables new operands (site.pos (i + 1))) variables turns state
+      (λ new. stored index variables new operands (site.pos (i + 1)))
       (λ new variables turns state. done (store index new variables turns state)
       (λ _ variables turns state. spot site (i + 1) variables operands turns state))
       (λ new. stored_settles site index new variables operands (site.pos (i + 1)) turns state)
@@ -203,16 +198,16 @@ module _ {S : Type 0} (site : Site S) where
       by (over end) = refl
 
   -- ADD_ASG and SUB_ASG do what the assignment means, where its right side spares the variable
-  pub adding_piece : (name : OpName) (binop : BinOp) (index : ℕ) (right : Does Value S)
-      (second : Coded) → action_of name ≡ AssignVariable binop → TakesBoth binop
+  pub adding_piece : (name : OpName) {binop : BinOp} {index : ℕ} {right : Does Value S}
+      {second : Coded} → action_of name ≡ AssignVariable binop → TakesBoth binop
       → index < site.count
       → Agrees site right second → Spares index right
       → Piece site (changing index binop right) (second ⨾ with_operand name index) as_is
       (leaves site)
-  adding_piece name binop index right second acts takes within agrees spares = record {
+  adding_piece name {binop} {index} {right} {second} acts takes within agrees spares = record {
     sized = sized_both second (with_operand name index) agrees.sized (λ exits i. refl);
     falls = keeps_both (assigned site.string index (Some binop) right) (λ v. give goes_on)
-        (changed_piece site index binop right second takes agrees).falls (λ v. give_keeps goes_on);
+        (changed_piece site binop takes agrees).falls (λ v. give_keeps goes_on);
     follows = λ exits i reach holds variables fits operands turns state.
         let old : Value = get_or variables index Invalid in
         let had : slice_get variables index ≡ Some old =
@@ -220,16 +215,14 @@ module _ {S : Type 0} (site : Site S) where
         let there = behind site.forms i second.size (second.forms exits i) _ holds
         (agrees.sized exits i) in
         let e : i + second.size + 1 ≡ i + (second.size + 1) = omega arith in
-        agrees.follows exits i (nearer site exits (i + second.size)
-        (i + (second.size + 1)) (omega arith) reach)
+        agrees.follows exits i (nearer site exits (omega arith) reach)
         (front site.forms i (second.forms exits i) _ holds) variables fits operands turns state
         ∙ from_done_where (Same index variables) (right variables turns state)
         (rest_of index binop old)
         (onto site pushed exits (i + second.size) operands)
         (leaves site exits (i + (second.size + 1)) operands)
         (spares variables turns state)
-        (λ v vs left later same.
-        add_here name binop index (i + second.size) old v vs operands left later exits acts
+        (λ v vs left later same. add_here (i + second.size) v vs operands left later exits acts
         there.0 (same ∙ had)
         ∙ ap (λ (n : ℕ). done (rest_of index binop old v vs left later)
         (leaves site exits n operands)) e)

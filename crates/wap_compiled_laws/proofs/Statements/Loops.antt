@@ -7,7 +7,7 @@ use Rattle.wap_value.specs.declared.value.Value.TheVariants.{Bool as Boolean, In
 use Rattle.wap_execution.specs.Effects.{jumps_at}
 use Rattle.wap_execution.specs.Outcomes.{Ended}
 use Rattle.wap_meaning.specs.SourceParts.{Does, ◌>>=◌, done, give, turn}
-use Rattle.wap_meaning.specs.Statements.{Ending, goes_on, breaks, continues, returns, if_continues}
+use Rattle.wap_meaning.specs.Statements.{Ending, goes_on, if_continues}
 use Rattle.wap_meaning.specs.Statements.{looped, loop}
 use Rattle.wap_meaning.specs.coding.Coded.{Exits, Coded, empty, one, ◌⨾◌, jump_over}
 use Rattle.wap_meaning.specs.coding.Statements.{branch_code, loop_code}
@@ -24,15 +24,16 @@ use Rattle.wap_meaning.proofs.KeepingParts.{give_keeps, if_keeps}
 use Rattle.wap_meaning.proofs.Trees.{loop_keeps}
 use Rattle.wap_compiled_laws.proofs.Statements.Statements.{leaves, leaves_shifts, Runs}
 use Rattle.wap_unit.specs.declared.row.OpName.TheVariants as op
+use Rattle.std.proofs.lemmas.Grind.{common_steps}
 
 module _ {S : Type 0} (site : Site S) where
   -- ---- one branch
 
   -- one branch does what is done where the condition holds
-  branch_piece : (v : Value) (does : Does Ending S) (body : Coded) → Runs site does body
+  branch_piece : {v : Value} {does : Does Ending S} {body : Coded} → Runs site does body
       → Piece site (if jumps_at v then give goes_on else does) (branch_code body) (pushed v)
       (leaves site)
-  branch_piece v does body runs = record {
+  branch_piece {v} {does} {body} runs = record {
     sized = sized_branch body runs.sized;
     falls = if_keeps (jumps_at v) (give goes_on) does (give_keeps goes_on) runs.falls;
     follows = λ exits i reach holds variables fits operands turns state.
@@ -43,16 +44,15 @@ module _ {S : Type 0} (site : Site S) where
         let passes : (vs os : List Value) (left : ℕ) (later : S)
         → spot site end vs os left later ≡ spot site (i +
         (branch_code body).size) vs os left later =
-        λ vs os left later. label_here site end there vs os left later
+        λ vs os left later. label_here site there vs os left later
         ∙ ap (λ (n : ℕ). spot site n vs os left later) whole in
-        test_here site i end holds.0 there (omega arith) v variables operands turns state
+        test_here site holds.0 there (omega arith) v variables operands turns state
         ∙ chosen site (jumps_at v) does (give goes_on)
         (leaves site exits (i + (branch_code body).size) operands) variables turns state
         (spot site (i + 1) variables operands turns state)
         (spot site end variables operands turns state)
-        (runs.follows exits (i + 1) (nearer site exits end (i + (branch_code body).size)
-        (omega arith) reach) (front site.forms (i + 1) (body.forms exits (i + 1)) _ holds.1)
-        variables fits operands turns state
+        (runs.follows exits (i + 1) (nearer site exits (omega arith) reach) (front site.forms
+        (i + 1) (body.forms exits (i + 1)) _ holds.1) variables fits operands turns state
         ∙ done_same (does variables turns state) (leaves site exits end operands)
         (leaves site exits (i + (branch_code body).size) operands)
         (λ ending vs left later. leaves_shifts site exits end (i + (branch_code body).size) passes
@@ -61,12 +61,10 @@ module _ {S : Type 0} (site : Site S) where
   }
 
   -- a condition with one branch
-  pub branch_runs : (c : Does Value S) (does : Does Ending S) (one two : Coded)
-      → Agrees site c one → Runs site does two
+  pub branch_runs : {c : Does Value S} {does : Does Ending S} {one two : Coded} → Agrees site c one
+      → Runs site does two
       → Runs site (c >>= λ v. if jumps_at v then give goes_on else does) (one ⨾ branch_code two)
-  branch_runs c does one two ones twos =
-      both site c (λ v. if jumps_at v then give goes_on else does) one (branch_code two) as_is
-      pushed (leaves site) Invalid ones (λ v. branch_piece v does two twos)
+  branch_runs ones twos = both site Invalid ones (λ v. branch_piece twos)
 
   -- ---- the condition of a loop, with a jump over so many forms
 
@@ -98,9 +96,9 @@ module _ {S : Type 0} (site : Site S) where
   }
 
   -- a condition
-  pub one_test : (test : Does Value S) (coded : Coded) → Agrees site test coded
+  pub one_test : {test : Does Value S} {coded : Coded} → Agrees site test coded
       → Tests test (λ count. coded ⨾ jump_over op.TjumpFw count)
-  one_test test coded agrees = record {
+  one_test {test} {coded} agrees = record {
     size = coded.size + 1;
     of_size = λ count. refl;
     sized = λ count. sized_both coded (jump_over op.TjumpFw count) agrees.sized (λ exits i. refl);
@@ -110,17 +108,15 @@ module _ {S : Type 0} (site : Site S) where
         (agrees.sized exits i) in
         let to_end : i + (coded.size + 1) + count ≡ i + coded.size + 1 + count = omega arith in
         let to_next : i + coded.size + 1 ≡ i + (coded.size + 1) = omega arith in
-        agrees.follows exits i (nearer site exits (i + coded.size) (i + (coded.size + 1))
-        (omega arith) reach) (front site.forms i (coded.forms exits i) _ holds) variables fits
-        operands turns state
+        agrees.follows exits i (nearer site exits (omega arith) reach) (front site.forms i
+        (coded.forms exits i) _ holds) variables fits operands turns state
         ∙ done_same (test variables turns state)
         (onto site pushed exits (i + coded.size) operands)
         (λ v vs left later. cond (jumps_at v)
         (spot site (i + (coded.size + 1) + count) vs operands left later)
         (spot site (i + (coded.size + 1)) vs operands left later))
-        (λ v vs left later.
-        test_here site (i + coded.size) (i + coded.size + 1 + count) jump.0
-        (subst (HasLabel site) to_end there) (omega arith) v vs operands left later
+        (λ v vs left later. test_here site jump.0 (subst (HasLabel site) to_end there) (omega arith)
+        v vs operands left later
         ∙ ap (λ (n : ℕ). cond (jumps_at v) (spot site n vs operands left later)
         (spot site (i + coded.size + 1) vs operands left later)) (sym to_end)
         ∙ ap (λ (n : ℕ). cond (jumps_at v)
@@ -171,34 +167,29 @@ module _ {S : Type 0} (site : Site S) where
         ≡ done (looped test body update more variables turns state) After_loop
 
     -- where a turn is taken, the condition is tried again
-    after_turn : (more : ℕ) → Claim more → (variables : List Value)
-        → length variables ≡ site.count → (turns : ℕ) (state : S) → turns < suc more
-        → done (turn variables turns state)
+    after_turn : {more : ℕ} → Claim more → (variables : List Value) → length variables ≡ site.count
+        → (turns : ℕ) (state : S) → turns < suc more → done (turn variables turns state)
         (λ _ vs left later. spot site start vs operands left later)
         ≡ done ((turn >>= λ _. looped test body update more) variables turns state) After_loop
-    after_turn more claim variables fits zero state fewer = refl
-    after_turn more claim variables fits (suc turns) state fewer =
-        label_here site start loops.at_start variables operands turns state
-        ∙ claim variables fits turns state (omega arith)
+    after_turn h0 variables h2 turns state h5 = grind (arith, common_steps, label_here)
 
     -- behind the body the update is done, and a turn taken
-    go_again : (more : ℕ) → Claim more → (variables : List Value)
-        → length variables ≡ site.count → (turns : ℕ) (state : S) → turns < suc more
+    go_again : {more : ℕ} → Claim more → (variables : List Value) → length variables ≡ site.count
+        → {turns : ℕ} (state : S) → turns < suc more
         → spot site again variables operands turns state
         ≡ done ((update >>= λ _. turn >>= λ _. looped test body update more) variables turns state)
         After_loop
-    go_again more claim variables fits turns state fewer =
-        label_here site again loops.at_again variables operands turns state
-        ∙ loops.updates variables fits turns state
-        ∙ from_done_where (λ _ vs left. (left ≤ turns) × (length vs ≡ length variables))
-        (update variables turns state)
-        (λ _. turn >>= λ _. looped test body update more)
-        (λ _ vs left later. spot site back vs operands left later) After_loop
-        (lessened variables turns (update variables turns state)
-        (loops.update_keeps variables turns state))
-        (λ _ vs left later less.
-        back_here site back start loops.at_back loops.at_start loops.earlier vs operands left later
-        ∙ after_turn more claim vs (less.1 ∙ fits) left later (omega (arith, less.0)))
+    go_again {more} claim variables fits {turns} state fewer =
+        grind (
+          arith,
+          common_steps,
+          label_here,
+          from_done_where,
+          spot,
+          lessened,
+          back_here,
+          after_turn,
+        )
 
     -- the body leaves to there, or behind the loop
     after_body : (more : ℕ) → Claim more → (ending : Ending) (variables : List Value)
@@ -206,13 +197,8 @@ module _ {S : Type 0} (site : Site S) where
         → leaves site (Some (end, again)) again operands ending variables turns state
         ≡ done (if_continues (update >>= λ _. turn >>= λ _. looped test body update more) ending
         variables turns state) After_loop
-    after_body more claim goes_on variables fits turns state fewer =
-        go_again more claim variables fits turns state fewer
-    after_body more claim breaks variables fits turns state fewer =
-        label_here site end loops.at_end variables operands turns state
-    after_body more claim continues variables fits turns state fewer =
-        go_again more claim variables fits turns state fewer
-    after_body more claim (returns v) variables fits turns state fewer = refl
+    after_body more h1 ending variables h4 turns state h7 =
+        grind (arith, common_steps, go_again, label_here)
 
     -- a loop with so many turns at most
     repeats : (more : ℕ) → Claim more
@@ -240,14 +226,14 @@ module _ {S : Type 0} (site : Site S) where
         (lessened vs left (body vs left later) (loops.body_keeps vs left later))
         (λ ending one two three fall. after_body more (repeats more) ending one
         (fall.1 ∙ (less.1 ∙ fits)) two three (omega (arith, fall.0, less.0))))
-        (label_here site end loops.at_end vs operands left later))
+        (label_here site loops.at_end vs operands left later))
 
     -- a loop, from its first label
     whole_loop : (variables : List Value) → length variables ≡ site.count → (turns : ℕ) (state : S)
         → spot site start variables operands turns state
         ≡ done (loop test body update variables turns state) After_loop
     whole_loop variables fits turns state =
-        label_here site start loops.at_start variables operands turns state
+        label_here site loops.at_start variables operands turns state
         ∙ repeats (suc turns) variables fits turns state (omega arith)
 
   -- ---- the code of a loop
@@ -294,9 +280,7 @@ module _ {S : Type 0} (site : Site S) where
             at_back = subst (λ n. HasJump site op.JumpBw back n) is_start after_update.0;
             earlier = omega arith;
             tests = λ vs suits left later.
-                tests.follows exits (i + 1) past
-                (nearer site exits (i + 1 + tests.size) (i + (loop_code one two three).size)
-                (omega (arith, same)) reach)
+                tests.follows exits (i + 1) past (nearer site exits (omega (arith, same)) reach)
                 (front site.forms (i + 1) ((one past).forms exits (i + 1)) _ holds.1)
                 (subst (HasLabel site) to_end at_end) vs suits operands left later
                 ∙ done_same (test vs left later)
@@ -315,8 +299,7 @@ module _ {S : Type 0} (site : Site S) where
                 (front site.forms inside (two.forms inner inside) _ after_test)
                 vs suits operands left later;
             updates = λ vs suits left later.
-                updates.follows exits (again + 1)
-                (nearer site exits back (i + (loop_code one two three).size) (omega arith) reach)
+                updates.follows exits (again + 1) (nearer site exits (omega arith) reach)
                 (front site.forms (again + 1) (three.forms exits (again + 1)) _ after_body.1)
                 vs suits operands left later;
           } in

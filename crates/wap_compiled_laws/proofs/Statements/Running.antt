@@ -3,7 +3,6 @@ use Rattle.std.proofs.Common.{◌≡◌, ℕ, ◌+◌, Bool, true, false, List, 
 use Rattle.std.proofs.Common.{Some, None, map, refl, sym, ap, ◌∙◌, subst, arith}
 use Rattle.std.specs.List.{flat_map}
 use Rattle.wap_value.specs.declared.value.Value.{Value}
-use Rattle.wap_value.specs.declared.value.Value.TheVariants.{Str}
 use Rattle.wap_grammar.specs.declared.program.program.Id.{Id}
 use Rattle.wap_grammar.specs.declared.program.expression.Expr.{Expr, roll-Expr, out-Expr}
 use Rattle.wap_grammar.specs.declared.program.expression.Expr.{roll-out-Expr}
@@ -17,11 +16,11 @@ use Rattle.wap_meaning.specs.coding.Needs.{Variable, expr_needs_by, declared_nee
 use Rattle.wap_meaning.specs.coding.Needs.{Operator, Need, expr_needs, stmt_needs_by, stmt_needs}
 use Rattle.wap_meaning.specs.Expressions.{assigned, stepped, step_of, eval_by, Around, eval}
 use Rattle.wap_meaning.specs.Statements.{in_order, dropped, Ending, goes_on, declared, run_by_part}
-use Rattle.wap_meaning.specs.Statements.{run, test_of, update_of, loop}
+use Rattle.wap_meaning.specs.Statements.{run, test_of, update_of}
 use Rattle.wap_meaning.specs.coding.Statements.{writes, changed_code, effect_code, stmt_code_by}
 use Rattle.wap_meaning.specs.coding.Statements.{stmt_code, declared_code, test_code, update_code}
-use Rattle.wap_meaning.specs.coding.Statements.{dropped_code, loop_code}
-use Rattle.wap_meaning.specs.coding.Coded.{all_code, Exits, with_operand, Coded, ◌⨾◌, empty, plain}
+use Rattle.wap_meaning.specs.coding.Statements.{dropped_code}
+use Rattle.wap_meaning.specs.coding.Coded.{all_code, Exits, with_operand, Coded, ◌⨾◌, empty}
 use Rattle.wap_compiled_laws.proofs.Statements.Adding.{adding_piece, spares}
 use Rattle.wap_compiled_laws.proofs.Statements.Statements.{leaves}
 use Rattle.wap_compiled_laws.proofs.Statements.Statements.{Runs, runs_both, break_runs, choice_runs}
@@ -96,14 +95,14 @@ module _ {S : Type 0} (site : Site S) (numbers : Numbers)
   HasParts v binop right e = roll-Expr (Expr-F.Assign v (Some binop) right) ≡ e
 
   -- `x += e` and `x -= e`, where e doesn't write x
-  adding_agrees : (v : Id) (binop : BinOp) (name : OpName) (right e : Expr)
+  adding_agrees : (v : Id) {binop : BinOp} (name : OpName) (right : Expr) {e : Expr}
       → action_of name ≡ AssignVariable binop → HasParts v binop right e
       → writes numbers.names right (variable_at numbers.names v) ≡ false
       → IsMet (expr_needs e)
       → Runs site (dropped (eval here e))
       (expr_code numbers right ⨾ with_operand name (variable_at numbers.names v))
   unfolding eval expr_needs
-  adding_agrees v binop name right e acts is none met =
+  adding_agrees v {binop} name right {e} acts is none met =
       let index = variable_at numbers.names v in
       let needs : expr_needs e ≡ Variable v ∷ Operator binop ∷ expr_needs right =
       ap expr_needs (sym is)
@@ -114,23 +113,23 @@ module _ {S : Type 0} (site : Site S) (numbers : Numbers)
       ∙ ap (eval here) is in
       subst (λ (does : Does Value S). Runs site (dropped does)
       (expr_code numbers right ⨾ with_operand name index)) evals
-      (adding_piece site name binop index (eval here right) (expr_code numbers right) acts met'.1.0
-      (omega (arith, met'.0, counted)) (expr_agrees right met'.1.1) (spares here index right none))
+      (adding_piece site name acts met'.1.0 (omega (arith, met'.0, counted))
+      (expr_agrees right met'.1.1) (spares here index right none))
 
   -- the same, whether it does or not
-  changed_runs : (v : Id) (binop : BinOp) (name : OpName) (right e : Expr)
+  changed_runs : (v : Id) {binop : BinOp} (name : OpName) (right : Expr) {e : Expr}
       → action_of name ≡ AssignVariable binop → HasParts v binop right e → IsMet (expr_needs e)
       → Runs site (dropped (eval here e))
       (changed_code numbers (variable_at numbers.names v) name right (expr_code numbers e))
-  changed_runs v binop name right e acts is met =
+  changed_runs v name right {e} acts is met =
       by (writes numbers.names right (variable_at numbers.names v)) refl
     where
       by : (does : Bool) → writes numbers.names right (variable_at numbers.names v) ≡ does
           → Runs site (dropped (eval here e))
           (if does then dropped_code (expr_code numbers e)
           else expr_code numbers right ⨾ with_operand name (variable_at numbers.names v))
-      by true writes = dropped_runs site (eval here e) (expr_code numbers e) (expr_agrees e met)
-      by false writes = adding_agrees v binop name right e acts is writes met
+      by true writes = dropped_runs site (expr_agrees e met)
+      by false writes = adding_agrees v name right acts is writes met
 
   -- `x = e`
   taken_runs : (v : Id) (right e : Expr) → roll-Expr (Expr-F.Assign v None right) ≡ e
@@ -148,8 +147,7 @@ module _ {S : Type 0} (site : Site S) (numbers : Numbers)
       sym (fold-roll-Expr (Does Value S) (eval_by here) (Expr-F.Assign v None right))
       ∙ ap (eval here) is in
       subst (λ (does : Does Value S). Runs site (dropped does)
-      (expr_code numbers right ⨾ store_code index)) evals
-      (assigned_runs site index (eval here right) (expr_code numbers right)
+      (expr_code numbers right ⨾ store_code index)) evals (assigned_runs site index
       (expr_agrees right met'.1))
 
   -- `x++`, `++x`, `x--` and `--x`
@@ -170,12 +168,11 @@ module _ {S : Type 0} (site : Site S) (numbers : Numbers)
       → Runs site (dropped (eval here e)) (effect_code numbers x (expr_code numbers e))
   effect_runs (Expr-F.Assign v None right) e is met = taken_runs v right e is met
   effect_runs (Expr-F.Assign v (Some bin.Add) right) e is met =
-      changed_runs v bin.Add op.AddAsg right e refl is met
+      changed_runs v op.AddAsg right refl is met
   effect_runs (Expr-F.Assign v (Some bin.Sub) right) e is met =
-      changed_runs v bin.Sub op.SubAsg right e refl is met
+      changed_runs v op.SubAsg right refl is met
   effect_runs (Expr-F.Step v up prefix) e is met = step_runs v up prefix e is
-  effect_runs _ e is met =
-      dropped_runs site (eval here e) (expr_code numbers e) (expr_agrees e met)
+  effect_runs _ e is met = dropped_runs site (expr_agrees e met)
 
   -- ---- lists
 
@@ -190,20 +187,15 @@ module _ {S : Type 0} (site : Site S) (numbers : Numbers)
       (all_code (map (stmt_code numbers) (trees ss)))
   block_runs [] met = empty_runs site
   block_runs (s ∷ ss) met =
-      runs_both site (run here s.0) (in_order (map (run here) (trees ss))) (stmt_code numbers s.0)
-      (all_code (map (stmt_code numbers) (trees ss)))
-      (s.1 (met_front site numbers (stmt_needs s.0) _ met))
+      runs_both site (s.1 (met_front site numbers (stmt_needs s.0) _ met))
       (block_runs ss (met_back site numbers (stmt_needs s.0) _ met))
 
   -- a declaration
   variable_runs : (pair : Id × Option Expr) → IsMet (declared_needs pair)
       → Runs site (declared here pair) (declared_code numbers pair)
-  variable_runs (v, None) met =
-      declared_runs site (variable_at numbers.names v) (give (Str [])) (plain op.ConstEs)
-      (empty_agrees site)
+  variable_runs (v, None) met = declared_runs site (variable_at numbers.names v) (empty_agrees site)
   variable_runs (v, Some e) met =
-      declared_runs site (variable_at numbers.names v) (eval here e) (expr_code numbers e)
-      (expr_agrees e met.1)
+      declared_runs site (variable_at numbers.names v) (expr_agrees e met.1)
 
   -- declarations in order
   variables_run : (pairs : List (Id × Option Expr))
@@ -212,9 +204,7 @@ module _ {S : Type 0} (site : Site S) (numbers : Numbers)
       (all_code (map (declared_code numbers) pairs))
   variables_run [] met = empty_runs site
   variables_run (pair ∷ pairs) met =
-      runs_both site (declared here pair) (in_order (map (declared here) pairs))
-      (declared_code numbers pair) (all_code (map (declared_code numbers) pairs))
-      (variable_runs pair (met_front site numbers (declared_needs pair) _ met))
+      runs_both site (variable_runs pair (met_front site numbers (declared_needs pair) _ met))
       (variables_run pairs (met_back site numbers (declared_needs pair) _ met))
 
   -- ---- loops
@@ -223,8 +213,7 @@ module _ {S : Type 0} (site : Site S) (numbers : Numbers)
   condition_tests : (c : Option Expr) → IsMet (optional_needs c)
       → Tests site (test_of here c) (test_code numbers c)
   condition_tests None met = no_test site
-  condition_tests (Some e) met =
-      one_test site (eval here e) (expr_code numbers e) (expr_agrees e met)
+  condition_tests (Some e) met = one_test site (expr_agrees e met)
 
   -- an expression that is a statement leaves nothing behind, and goes on
   dropped_same : (exits : Exits) (next : ℕ) (operands : List Value) (came : Came Value S)
@@ -236,8 +225,7 @@ module _ {S : Type 0} (site : Site S) (numbers : Numbers)
   -- the update of a `for`
   given_updates : (update : Option Expr) → IsMet (optional_needs update)
       → Updates site (update_of here update) (update_code numbers update)
-  given_updates None met =
-      empty_piece site tt (onto site nothing) (λ exits i operands variables turns state. refl)
+  given_updates None met = empty_piece site (λ exits i operands variables turns state. refl)
   given_updates (Some e) met =
       let runs = effect_runs (out-Expr e) e (roll-out-Expr e) met in
       let size = (effect_code numbers (out-Expr e) (expr_code numbers e)).size in
@@ -259,15 +247,12 @@ module _ {S : Type 0} (site : Site S) (numbers : Numbers)
   layers (Stmt-F.Block ss) met = block_runs ss met
   layers (Stmt-F.Vars pairs) met = variables_run pairs met
   layers (Stmt-F.If c s None) met =
-      branch_runs site (eval here c) (run here s.0) (expr_code numbers c) (stmt_code numbers s.0)
-      (expr_agrees c (met_front site numbers (expr_needs c) _ met))
+      branch_runs site (expr_agrees c (met_front site numbers (expr_needs c) _ met))
       (s.1 (met_front site numbers (stmt_needs s.0) []
       (met_back site numbers (expr_needs c) _ met)))
   layers (Stmt-F.If c s (Some other)) met =
       let rest = met_back site numbers (expr_needs c) (stmt_needs s.0 ++ stmt_needs other.0) met in
-      choice_runs site (eval here c) (run here s.0) (run here other.0) (expr_code numbers c)
-      (stmt_code numbers s.0) (stmt_code numbers other.0)
-      (expr_agrees c (met_front site numbers (expr_needs c) _ met))
+      choice_runs site (expr_agrees c (met_front site numbers (expr_needs c) _ met))
       (s.1 (met_front site numbers (stmt_needs s.0) (stmt_needs other.0) rest))
       (other.1 (met_back site numbers (stmt_needs s.0) (stmt_needs other.0) rest))
   layers (Stmt-F.While c s) met =
@@ -278,11 +263,7 @@ module _ {S : Type 0} (site : Site S) (numbers : Numbers)
   layers (Stmt-F.For first c update s) met =
       let after_first = met_back site numbers (stmt_needs first.0) _ met in
       let after_test = met_back site numbers (optional_needs c) _ after_first in
-      runs_both site (run here first.0)
-      (loop (test_of here c) (run here s.0) (update_of here update))
-      (stmt_code numbers first.0)
-      (loop_code (test_code numbers c) (stmt_code numbers s.0) (update_code numbers update))
-      (first.1 (met_front site numbers (stmt_needs first.0) _ met))
+      runs_both site (first.1 (met_front site numbers (stmt_needs first.0) _ met))
       (loop_runs site (test_of here c) (run here s.0) (update_of here update) (test_code numbers c)
       (stmt_code numbers s.0) (update_code numbers update)
       (condition_tests c (met_front site numbers (optional_needs c) _ after_first))
@@ -291,8 +272,7 @@ module _ {S : Type 0} (site : Site S) (numbers : Numbers)
   layers (Stmt-F.Break word) met = break_runs site
   layers (Stmt-F.Continue word) met = continue_runs site
   layers (Stmt-F.Return None) met = ended_runs site
-  layers (Stmt-F.Return (Some e)) met =
-      returned_runs site (eval here e) (expr_code numbers e) (expr_agrees e met)
+  layers (Stmt-F.Return (Some e)) met = returned_runs site (expr_agrees e met)
 
   -- every statement and its code agree
   pub runs : (s : Stmt) → Claim s

@@ -17,7 +17,7 @@ use Rattle.wap_meaning.specs.SourceParts.{Does, ◌>>=◌, done, give, load, sto
 use Rattle.wap_meaning.specs.Expressions.{assigned, stepped, step_of}
 use Rattle.wap_meaning.specs.Statements.{Ending, goes_on, breaks, continues, returns, if_goes_on}
 use Rattle.wap_meaning.specs.Statements.{and_then, dropped}
-use Rattle.wap_meaning.specs.coding.Coded.{Exits, Coded, empty, one, ◌⨾◌, instr, plain}
+use Rattle.wap_meaning.specs.coding.Coded.{Exits, Coded, empty, one, ◌⨾◌, plain}
 use Rattle.wap_meaning.specs.coding.Coded.{with_operand}
 use Rattle.wap_meaning.specs.coding.Expressions.{store_code, change_name}
 use Rattle.wap_meaning.specs.coding.Statements.{exit_form, dropped_code}
@@ -33,6 +33,7 @@ use Rattle.wap_compiled_laws.proofs.Expressions.Agreeing.{Agrees}
 use Rattle.wap_meaning.proofs.KeepingParts.{give_keeps}
 use Rattle.wap_meaning.proofs.Trees.{if_goes_on_keeps}
 use Rattle.wap_unit.specs.declared.row.OpName.TheVariants as op
+use Rattle.std.proofs.lemmas.Grind.{common_steps}
 
 module _ {S : Type 0} (site : Site S) where
   -- where it goes on at an exit
@@ -55,9 +56,7 @@ module _ {S : Type 0} (site : Site S) where
   pub leaves_shifts : Shifts site leaves
   leaves_shifts exits i n same operands goes_on variables turns state =
       same variables operands turns state
-  leaves_shifts exits i n same operands breaks variables turns state = refl
-  leaves_shifts exits i n same operands continues variables turns state = refl
-  leaves_shifts exits i n same operands (returns v) variables turns state = refl
+  leaves_shifts exits i n same operands _ variables turns state = refl
 
   -- a statement and its code agree
   abbrev pub Runs : Does Ending S → Coded → Type 0
@@ -66,10 +65,10 @@ module _ {S : Type 0} (site : Site S) where
   -- ---- one statement after the other
 
   -- one statement after the other
-  pub runs_both : (does next : Does Ending S) (first second : Coded) → Runs does first
+  pub runs_both : {does next : Does Ending S} {first second : Coded} → Runs does first
       → Runs next second → Runs (and_then does next) (first ⨾ second)
-  runs_both does next first second ones twos =
-      in_turn site (λ ending. Unit {0}) does (if_goes_on next) first second as_is leaves leaves ones
+  runs_both {does} {next} {second} ones twos =
+      in_turn site (if_goes_on next) second ones
       (λ variables turns state. gave_any (does variables turns state)) twos.sized
       (if_goes_on_keeps next twos.falls) (λ ending _. by ending)
     where
@@ -87,24 +86,23 @@ module _ {S : Type 0} (site : Site S) where
 
   -- no statement
   pub empty_runs : Runs (give goes_on) empty
-  empty_runs = empty_piece site goes_on leaves (λ exits i operands variables turns state. refl)
+  empty_runs = empty_piece site (λ exits i operands variables turns state. refl)
 
   -- ---- expressions as statements
 
   -- an expression whose value is dropped
-  pub dropped_runs : (does : Does Value S) (coded : Coded) → Agrees site does coded
+  pub dropped_runs : {does : Does Value S} {coded : Coded} → Agrees site does coded
       → Runs (dropped does) (dropped_code coded)
   unfolding effect_of
-  dropped_runs does coded agrees =
-      both site does (λ v. give goes_on) coded (plain op.Pop) as_is pushed leaves Invalid agrees
-      (λ v. op_piece site (give goes_on) op.Pop 0 0 0 (pushed v) leaves (give_keeps goes_on)
+  dropped_runs agrees =
+      both site {second = plain op.Pop} Invalid agrees (λ v. op_piece site (give_keeps goes_on)
       (λ exits place i other variables operands turns state. refl))
 
   -- what leaves no operand, and the next statement follows
-  goes_on_behind : (does : Does (Unit {0}) S) (coded : Coded) (pop : List Value → List Value)
+  goes_on_behind : {does : Does (Unit {0}) S} {coded : Coded} {pop : List Value → List Value}
       → Piece site does coded pop (onto site nothing)
       → Piece site (does >>= λ _. give goes_on) coded pop leaves
-  goes_on_behind does coded pop piece = record {
+  goes_on_behind {does} {coded} piece = record {
     sized = piece.sized;
     falls = keeps_both does (λ _. give goes_on) piece.falls (λ _. give_keeps goes_on);
     follows = λ exits i reach holds variables fits operands turns state.
@@ -115,33 +113,26 @@ module _ {S : Type 0} (site : Site S) where
   }
 
   -- a variable is written, and the next statement follows
-  stored_piece : (index : ℕ) (v : Value)
+  stored_piece : {index : ℕ} (v : Value)
       → Piece site (store index v >>= λ _. give goes_on) (store_code index) (pushed v) leaves
-  stored_piece index v = goes_on_behind (store index v) (store_code index) (pushed v)
-      (store_piece site index v)
+  stored_piece v = goes_on_behind
+      (store_piece site)
 
   -- a variable that gets a value
-  pub declared_runs : (index : ℕ) (does : Does Value S) (coded : Coded) → Agrees site does coded
+  pub declared_runs : (index : ℕ) {does : Does Value S} {coded : Coded} → Agrees site does coded
       → Runs (does >>= λ v. store index v >>= λ _. give goes_on) (coded ⨾ store_code index)
-  declared_runs index does coded agrees =
-      both site does (λ v. store index v >>= λ _. give goes_on) coded (store_code index) as_is
-      pushed leaves Invalid agrees (stored_piece index)
+  declared_runs index agrees = both site Invalid agrees (stored_piece)
 
   -- an assignment whose value is dropped: it is stored, and not loaded again
-  pub assigned_runs : (index : ℕ) (right : Does Value S) (coded : Coded) → Agrees site right coded
+  pub assigned_runs : (index : ℕ) {right : Does Value S} {coded : Coded} → Agrees site right coded
       → Runs (dropped (assigned site.string index None right)) (coded ⨾ store_code index)
-  assigned_runs index right coded agrees =
-      piece_same site (right >>= λ v. store index v >>= λ _. give goes_on)
-      (dropped (assigned site.string index None right)) (coded ⨾ store_code index) as_is leaves
-      (λ variables turns state. sym
+  assigned_runs index {right} agrees =
+      piece_same site (λ variables turns state. sym
       (from_from (right variables turns state) (λ v. store index v >>= λ _. give v)
       (λ _. give goes_on)
       ∙ from_same (right variables turns state)
-      (λ v. (store index v >>= λ _. give v) >>= λ _. give goes_on)
-      (λ v. store index v >>= λ _. give goes_on)
       (λ v vs left later. from_from (store index v vs left later) (λ _. give v)
-      (λ _. give goes_on))))
-      (declared_runs index right coded agrees)
+      (λ _. give goes_on)))) (declared_runs index agrees)
 
   -- a step whose value is dropped: it isn't loaded
   stepped_same : (index : ℕ) (unop : UnOp) (prefix : Bool) (variables : List Value) (turns : ℕ)
@@ -150,27 +141,14 @@ module _ {S : Type 0} (site : Site S) where
       turns state
       ≡ dropped (stepped index unop prefix) variables turns state
   stepped_same index unop prefix variables turns state =
-      let which : Value → Value = λ old. if prefix then unary_of unop old else old in
-      from_from (load index variables turns state) (λ old. store index (unary_of unop old))
-      (λ _. give goes_on)
-      ∙ from_same (load index variables turns state)
-      (λ old. store index (unary_of unop old) >>= λ _. give goes_on)
-      (λ old. (store index (unary_of unop old) >>= λ _. give (which old)) >>= λ _. give goes_on)
-      (λ old vs left later. sym (from_from (store index (unary_of unop old) vs left later)
-      (λ _. give (which old)) (λ _. give goes_on)))
-      ∙ sym (from_from (load index variables turns state)
-      (λ old. store index (unary_of unop old) >>= λ _. give (which old)) (λ _. give goes_on))
+      grind (arith, common_steps, from_from, from_same)
 
   -- a step, and the next statement follows
   change_runs : (index : ℕ) (name : OpName) (unop : UnOp) (prefix : Bool)
       → action_of name ≡ ChangeVariable unop
       → Runs (dropped (stepped index unop prefix)) (with_operand name index)
   change_runs index name unop prefix acts =
-      let changes = load index >>= λ old. store index (unary_of unop old) in
-      piece_same site (changes >>= λ _. give goes_on) (dropped (stepped index unop prefix))
-      (with_operand name index) as_is leaves (stepped_same index unop prefix)
-      (goes_on_behind changes (with_operand name index) as_is
-      (change_piece site index name unop acts))
+      piece_same site (stepped_same index unop prefix) (goes_on_behind (change_piece site acts))
 
   -- up or down
   pub stepped_runs : (index : ℕ) (up prefix : Bool)
@@ -182,41 +160,39 @@ module _ {S : Type 0} (site : Site S) where
   pub empty_agrees : Agrees site (give (Str [])) (plain op.ConstEs)
   unfolding effect_of
   empty_agrees =
-      op_piece site (give (Str [])) op.ConstEs 0 0 0 as_is (onto site pushed) (give_keeps (Str []))
+      op_piece site (give_keeps (Str []))
       (λ exits place i other variables operands turns state. refl)
 
   -- a value is returned
-  pub returned_runs : (does : Does Value S) (coded : Coded) → Agrees site does coded
+  pub returned_runs : {does : Does Value S} {coded : Coded} → Agrees site does coded
       → Runs (does >>= λ v. give (returns v)) (coded ⨾ plain op.Return)
   unfolding effect_of
-  returned_runs does coded agrees =
-      both site does (λ v. give (returns v)) coded (plain op.Return) as_is pushed leaves Invalid
-      agrees (λ v. op_piece site (give (returns v)) op.Return 0 0 0 (pushed v) leaves
+  returned_runs agrees =
+      both site {second = plain op.Return} Invalid agrees (λ v. op_piece site
       (give_keeps (returns v)) (λ exits place i other variables operands turns state. refl))
 
   -- the empty text is returned
   pub ended_runs : Runs (give (returns (Str []))) (plain op.ReturnEs)
   unfolding effect_of
   ended_runs =
-      op_piece site (give (returns (Str []))) op.ReturnEs 0 0 0 as_is leaves
-      (give_keeps (returns (Str []))) (λ exits place i other variables operands turns state. refl)
+      op_piece site (give_keeps (returns (Str [])))
+      (λ exits place i other variables operands turns state. refl)
 
   -- ---- exits
 
   -- `break` and `continue` jump to their labels
-  exit_here : (exits : Exits) (i : ℕ) (which : ℕ × ℕ → ℕ)
+  exit_here : (exits : Exits) {i : ℕ} {which : ℕ × ℕ → ℕ}
       → ((labels : ℕ × ℕ) → exits ≡ Some labels → HasLabel site (which labels) × (i < which labels))
       → slice_get site.forms i ≡ Some (exit_form exits which)
       → (variables operands : List Value) (turns : ℕ) (state : S)
       → spot site i variables operands turns state
       ≡ exit_spot exits which variables operands turns state
   unfolding effect_of
-  exit_here None i which far is variables operands turns state =
-      op_here site i (instr op.ReturnEs 0 0 0) is variables operands turns state
-      (ended (value (Str [])) turns state) (λ other. refl)
-  exit_here (Some labels) i which far is variables operands turns state =
+  exit_here None {i} far is variables operands turns state =
+      op_here site i is variables operands turns state (λ other. refl)
+  exit_here (Some labels) far is variables operands turns state =
       let there = far labels refl in
-      jump_here site i (which labels) is there.0 there.1 variables operands turns state
+      jump_here site is there.0 there.1 variables operands turns state
 
   -- `break`
   pub break_runs : Runs (give breaks) (one (λ exits at. exit_form exits (λ labels. labels.0)))
@@ -224,7 +200,7 @@ module _ {S : Type 0} (site : Site S) where
     sized = λ exits i. refl;
     falls = give_keeps breaks;
     follows = λ exits i reach holds variables fits operands turns state.
-        exit_here exits i (λ labels. labels.0)
+        exit_here exits
         (λ labels is. let r = subst (λ exits. Reaches site exits (i + 1)) is reach in
         (r.0, (omega (arith, r.1)))) holds.0 variables operands turns state;
   }
@@ -236,7 +212,7 @@ module _ {S : Type 0} (site : Site S) where
     sized = λ exits i. refl;
     falls = give_keeps continues;
     follows = λ exits i reach holds variables fits operands turns state.
-        exit_here exits i (λ labels. labels.1)
+        exit_here exits
         (λ labels is. let r = subst (λ exits. Reaches site exits (i + 1)) is reach in
         (r.2, (omega (arith, r.3)))) holds.0 variables operands turns state;
   }
@@ -244,10 +220,8 @@ module _ {S : Type 0} (site : Site S) where
   -- ---- choices
 
   -- a condition with two branches
-  pub choice_runs : (c : Does Value S) (first second : Does Ending S) (one two three : Coded)
+  pub choice_runs : {c : Does Value S} {first second : Does Ending S} {one two three : Coded}
       → Agrees site c one → Runs first two → Runs second three
       → Runs (c >>= λ v. if jumps_at v then second else first) (one ⨾ branches two three)
-  choice_runs c first second one two three ones twos threes =
-      both site c (λ v. if jumps_at v then second else first) one (branches two three) as_is pushed
-      leaves Invalid ones
-      (λ v. branches_piece site v first second two three leaves leaves_shifts twos threes)
+  choice_runs ones twos threes =
+      both site Invalid ones (λ v. branches_piece site leaves_shifts twos threes)

@@ -8,8 +8,8 @@ pub returns-clause-spelled : goal.returns-clause-spelled
 returns-clause-spelled c = accepted_spelling
 
 pub returns-clause-short : goal.returns-clause-short
-returns-clause-short c = λ source p is. (accepted_unit source p is).1
+returns-clause-short c = λ source p is. (accepted_unit is).1
 
 pub returns-clause-read : goal.returns-clause-read
 returns-clause-read c = λ source p is.
-    unit_again (spelling (compiled p)) (compiled p) (accepted_unit source p is).0
+    unit_again (spelling (compiled p)) (compiled p) (accepted_unit is).0

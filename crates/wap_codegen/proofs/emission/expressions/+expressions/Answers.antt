@@ -1,44 +1,41 @@
 use Rattle.std.proofs.Common.{sym, ap, ◌∙◌, map}
 use Rattle.wap_unit.specs.declared.row.OpName.TheVariants as op
 use Rattle.wap_meaning.specs.coding.Coded.{◌⨾◌, all_code, with_operand}
-use Rattle.wap_meaning.specs.coding.Expressions.{expr_code, assigned_code, step_code, joined_code}
-use Rattle.wap_meaning.specs.coding.Expressions.{cond_code}
-use Rattle.wap_codegen.specs.emission.inside.Operands.{joint_code}
+use Rattle.wap_meaning.specs.coding.Expressions.{expr_code, assigned_code, step_code}
 use Rattle.wap_codegen.proofs.EmissionLemmas.EmittedExpressions.{of_literal, of_variable}
 use Rattle.wap_codegen.proofs.EmissionLemmas.EmittedExpressions.{of_assignment, of_step, of_unary}
 use Rattle.wap_codegen.proofs.EmissionLemmas.EmittedExpressions.{of_chain, of_choice, of_local}
 use Rattle.wap_codegen.proofs.EmissionLemmas.EmittedExpressions.{of_external, of_library, call_code}
 use Rattle.wap_codegen.proofs.EmissionLemmas.EmittedExpressions.{part_same, parts_same, chains_same}
-use Rattle.wap_codegen.proofs.EmissionLemmas.Chaining.{adds_same, after_same, after_both, cond_adds}
+use Rattle.wap_codegen.proofs.EmissionLemmas.Chaining.{adds_same, cond_adds, extends_both}
+use Rattle.wap_codegen.proofs.EmissionLemmas.Chaining.{extends_same}
 use Rattle.wap_codegen.proofs.EmissionLemmas.Chaining.{after_assignment, after_chain, operands_more}
 use Rattle.wap_codegen.proofs.EmissionLemmas.Chaining.{leaves_more, leaves_none, operand_adds}
+use Rattle.std.proofs.lemmas.Result.{on_ok_weaker}
 use Rattle.wap_codegen.proofs.emission.expressions.+expressions.Goals as goal
 
 pub add_expression-returns-in-Lit : goal.add_expression-returns-in-Lit
 add_expression-returns-in-Lit t c =
-    after_same _ _ _ _ c.add_literal.result
-    (sym (ap (expr_code c.args.numbering.now) c.in-Lit.is
-    ∙ of_literal c.args.numbering.now c.in-Lit.literal))
-    c.add_literal.ensures
+    on_ok_weaker c.add_literal.result
+    (extends_same (sym (ap (expr_code c.args.numbering.now) c.in-Lit.is
+    ∙ of_literal c.args.numbering.now c.in-Lit.literal))) c.add_literal.ensures
 
 pub add_expression-returns-in-Var : goal.add_expression-returns-in-Var
 add_expression-returns-in-Var t c =
-    after_same _ _ _ _ c.add_with.result
-    (ap (λ place. with_operand op.LoadVar place) c.variable.ensures
+    on_ok_weaker c.add_with.result
+    (extends_same (ap (λ place. with_operand op.LoadVar place) c.variable.ensures
     ∙ sym (ap (expr_code c.args.numbering.now) c.in-Var.is
-    ∙ of_variable c.args.numbering.now c.in-Var.variable))
-    c.add_with.ensures
+    ∙ of_variable c.args.numbering.now c.in-Var.variable))) c.add_with.ensures
 
 pub add_expression-returns-in_ok-add_expression-in-Assign :
     goal.add_expression-returns-in_ok-add_expression-in-Assign
 add_expression-returns-in_ok-add_expression-in-Assign t c =
-    after_same _ _ _ _ c.add_after.result
-    (ap (λ place. assigned_code place c.in-Assign.operator
+    on_ok_weaker c.add_after.result
+    (extends_same (ap (λ place. assigned_code place c.in-Assign.operator
     (expr_code c.args.numbering.now c.in-Assign.value)) c.variable-place.ensures
     ∙ sym (ap (expr_code c.args.numbering.now) c.in-Assign.is
     ∙ of_assignment c.args.numbering.now c.in-Assign.variable c.in-Assign.operator
-    c.in-Assign.value))
-    (after_assignment c.variable-place.result c.in-Assign.operator
+    c.in-Assign.value))) (after_assignment c.variable-place.result c.in-Assign.operator
     (expr_code c.args.numbering.now c.in-Assign.value) c.args.forms.now.items
     c.add_before.new.forms.items c.add_expression.new.forms.items c.add_after.new.forms.items
     c.add_after.result c.in_ok-add_before-in-Assign.ensures
@@ -47,29 +44,28 @@ add_expression-returns-in_ok-add_expression-in-Assign t c =
 
 pub add_expression-returns-in-Step : goal.add_expression-returns-in-Step
 add_expression-returns-in-Step t c =
-    after_same _ _ _ _ c.add_step.result
-    (ap (λ place. step_code place c.in-Step.up c.in-Step.prefix) c.variable-in-Step.ensures
+    on_ok_weaker c.add_step.result
+    (extends_same (ap (λ place. step_code place c.in-Step.up c.in-Step.prefix)
+    c.variable-in-Step.ensures
     ∙ sym (ap (expr_code c.args.numbering.now) c.in-Step.is
-    ∙ of_step c.args.numbering.now c.in-Step.id c.in-Step.up c.in-Step.prefix))
-    c.add_step.ensures
+    ∙ of_step c.args.numbering.now c.in-Step.id c.in-Step.up c.in-Step.prefix))) c.add_step.ensures
 
 pub add_expression-returns-in_ok-add_expression-in-Unary :
     goal.add_expression-returns-in_ok-add_expression-in-Unary
 add_expression-returns-in_ok-add_expression-in-Unary t c =
-    after_same _ _ _ _ c.add_operator.result
-    (sym (ap (expr_code c.args.numbering.now) c.in-Unary.is
-    ∙ of_unary c.args.numbering.now c.in-Unary.operator c.in-Unary.operand))
-    (after_both _ _ _ _ _ c.add_operator.result
-    (part_same c.args.numbering.now _ _ _ _ c.get-in-Unary.ensures
-    c.in_ok-add_expression-in-Unary.ensures)
-    c.add_operator.ensures)
+    on_ok_weaker c.add_operator.result
+    (extends_same (sym (ap (expr_code c.args.numbering.now) c.in-Unary.is
+    ∙ of_unary c.args.numbering.now c.in-Unary.operator c.in-Unary.operand)))
+    (on_ok_weaker c.add_operator.result
+    (extends_both (part_same c.args.numbering.now _ _ _ _ c.get-in-Unary.ensures
+    c.in_ok-add_expression-in-Unary.ensures)) c.add_operator.ensures)
 
 pub add_expression-returns-in_ok-add_expression-in-Chain :
     goal.add_expression-returns-in_ok-add_expression-in-Chain
 add_expression-returns-in_ok-add_expression-in-Chain t c =
-    after_same _ _ _ _ c.add_operands.result
-    (sym (ap (expr_code c.args.numbering.now) c.in-Chain.is
-    ∙ of_chain c.args.numbering.now c.in-Chain.first c.in-Chain.operands))
+    on_ok_weaker c.add_operands.result
+    (extends_same (sym (ap (expr_code c.args.numbering.now) c.in-Chain.is
+    ∙ of_chain c.args.numbering.now c.in-Chain.first c.in-Chain.operands)))
     (after_chain c.args.numbering.now (expr_code c.args.numbering.now c.in-Chain.first)
     c.in-Chain.operands c.args.forms.now.items c.add_expression-in-Chain.new.forms.items
     c.add_operands.new.forms.items c.add_operands.result
@@ -80,11 +76,7 @@ add_expression-returns-in_ok-add_expression-in-Chain t c =
 
 pub add_expression-returns-in_ok-end-in-Cond : goal.add_expression-returns-in_ok-end-in-Cond
 add_expression-returns-in_ok-end-in-Cond t c = λ exits.
-    adds_same (cond_code (expr_code c.args.numbering.now c.in-Cond.condition)
-    (expr_code c.args.numbering.now c.in-Cond.yes) (expr_code c.args.numbering.now c.in-Cond.no))
-    (expr_code c.args.numbering.now c.args.expression.now) exits c.args.forms.now.items
-    c.close-in-Cond.new.forms.items
-    (sym (ap (expr_code c.args.numbering.now) c.in-Cond.is
+    adds_same (sym (ap (expr_code c.args.numbering.now) c.in-Cond.is
     ∙ of_choice c.args.numbering.now c.in-Cond.condition c.in-Cond.yes c.in-Cond.no))
     (cond_adds (expr_code c.args.numbering.now c.in-Cond.condition)
     (expr_code c.args.numbering.now c.in-Cond.yes) (expr_code c.args.numbering.now c.in-Cond.no)
@@ -110,40 +102,36 @@ add_expression-returns-in_ok-end-in-Cond t c = λ exits.
 pub add_expression-returns-in_ok-add_arguments-in-Call :
     goal.add_expression-returns-in_ok-add_arguments-in-Call
 add_expression-returns-in_ok-add_arguments-in-Call t c =
-    after_same _ _ _ _ c.add_with-in-Call.result
-    (ap (λ place. all_code (map (expr_code c.args.numbering.now) c.in-Call.arguments)
+    on_ok_weaker c.add_with-in-Call.result
+    (extends_same (ap (λ place. all_code (map (expr_code c.args.numbering.now) c.in-Call.arguments)
     ⨾ with_operand op.Call place) c.function.ensures
     ∙ sym (ap (expr_code c.args.numbering.now) c.in-Call.is
-    ∙ of_local c.args.numbering.now c.in-Call.function c.in-Call.arguments))
-    (after_both _ _ _ _ _ c.add_with-in-Call.result
-    (parts_same c.args.numbering.now _ _ _ _ c.as_slice-in-Call.ensures
-    c.in_ok-add_arguments-in-Call.ensures)
-    c.add_with-in-Call.ensures)
+    ∙ of_local c.args.numbering.now c.in-Call.function c.in-Call.arguments)))
+    (on_ok_weaker c.add_with-in-Call.result
+    (extends_both (parts_same c.args.numbering.now _ _ _ _ c.as_slice-in-Call.ensures
+    c.in_ok-add_arguments-in-Call.ensures)) c.add_with-in-Call.ensures)
 
 pub add_expression-returns-in_ok-name-in-External :
     goal.add_expression-returns-in_ok-name-in-External
 add_expression-returns-in_ok-name-in-External t c =
-    after_same _ _ _ _ c.add_op.result
-    (call_code (all_code (map (expr_code c.args.numbering.now) c.in-External.arguments))
-    _ _ _ _ _ _ c.in_ok-url-in-External.ensures c.in_ok-name-in-External.ensures c.len.ensures
+    on_ok_weaker c.add_op.result (extends_same (call_code
+    (all_code (map (expr_code c.args.numbering.now) c.in-External.arguments)) _ _ _ _ _ _
+    c.in_ok-url-in-External.ensures c.in_ok-name-in-External.ensures c.len.ensures
     ∙ sym (ap (expr_code c.args.numbering.now) c.in-External.is
     ∙ of_external c.args.numbering.now c.in-External.unit c.in-External.function
-    c.in-External.arguments))
-    (after_both _ _ _ _ _ c.add_op.result
-    (parts_same c.args.numbering.now _ _ _ _ c.as_slice-in-External.ensures
-    c.in_ok-add_arguments-in-External.ensures) c.add_op.ensures)
+    c.in-External.arguments))) (on_ok_weaker c.add_op.result
+    (extends_both (parts_same c.args.numbering.now _ _ _ _ c.as_slice-in-External.ensures
+    c.in_ok-add_arguments-in-External.ensures)) c.add_op.ensures)
 
 pub add_expression-returns-in_ok-add_arguments-in-Library :
     goal.add_expression-returns-in_ok-add_arguments-in-Library
 add_expression-returns-in_ok-add_arguments-in-Library t c =
-    after_same _ _ _ _ c.add_library_call.result
-    (sym (ap (expr_code c.args.numbering.now) c.in-Library.is
+    on_ok_weaker c.add_library_call.result
+    (extends_same (sym (ap (expr_code c.args.numbering.now) c.in-Library.is
     ∙ of_library c.args.numbering.now c.in-Library.library c.in-Library.function
-    c.in-Library.arguments))
-    (after_both _ _ _ _ _ c.add_library_call.result
-    (parts_same c.args.numbering.now _ _ _ _ c.as_slice-in-Library.ensures
-    c.in_ok-add_arguments-in-Library.ensures)
-    c.add_library_call.ensures)
+    c.in-Library.arguments))) (on_ok_weaker c.add_library_call.result
+    (extends_both (parts_same c.args.numbering.now _ _ _ _ c.as_slice-in-Library.ensures
+    c.in_ok-add_arguments-in-Library.ensures)) c.add_library_call.ensures)
 
 pub add_arguments-loop-argument-preserved : goal.add_arguments-loop-argument-preserved
 add_arguments-loop-argument-preserved t c = λ exits.
@@ -165,9 +153,6 @@ add_operands-loop-operand-preserved t c =
     c.end_operand.new.forms.items c.loop-operand-test.true c.operand-item.is
     c.loop-operand.invariant
     (λ exits. adds_same
-    (joint_code c.joint_of-joint.result (expr_code c.args.numbering.now c.operand-item.result.1))
-    (joined_code c.operand-item.result.0 (expr_code c.args.numbering.now c.operand-item.result.1))
-    exits c.loop-operand.forms.items c.end_operand.new.forms.items
     (sym (c.joint_of-joint.ensures (expr_code c.args.numbering.now c.operand-item.result.1)))
     (operand_adds c.joint_of-joint.result
     (expr_code c.args.numbering.now c.operand-item.result.1) c.loop-operand.forms.items

@@ -5,17 +5,17 @@ use Rattle.wap_meaning.specs.coding.Coded.{with_operand, plain}
 use Rattle.wap_meaning.specs.coding.Constants.{number_of}
 use Rattle.wap_meaning.specs.coding.Expressions.{literal_code}
 use Rattle.wap_codegen.proofs.EmissionLemmas.EmittedExpressions.{truth_code}
-use Rattle.wap_codegen.proofs.EmissionLemmas.Chaining.{after_same}
+use Rattle.wap_codegen.proofs.EmissionLemmas.Chaining.{extends_same}
+use Rattle.std.proofs.lemmas.Result.{on_ok_weaker}
 use Rattle.wap_codegen.proofs.emission.expressions.add_literal.Goals as goal
 
 pub returns-in-Int : goal.returns-in-Int
 returns-in-Int c =
     let same : to_z w32 (of_z w32 c.in-Int.integer) ≡ c.in-Int.integer = search rules in
-    after_same _ _ _ _ c.add_with.result
-    (ap (λ number. with_operand op.LoadConst number) (c.integer.ensures
+    on_ok_weaker c.add_with.result
+    (extends_same (ap (λ number. with_operand op.LoadConst number) (c.integer.ensures
     ∙ ap (λ integer. number_of c.args.numbering.now (literal.Int integer)) same)
-    ∙ sym (ap (literal_code c.args.numbering.now) c.in-Int.is))
-    c.add_with.ensures
+    ∙ sym (ap (literal_code c.args.numbering.now) c.in-Int.is))) c.add_with.ensures
 
 pub returns-in-Float : goal.returns-in-Float
 returns-in-Float c = rw c.in-Float.is (search rules)
@@ -25,10 +25,9 @@ returns-in-Str c = rw c.in-Str.is (search rules)
 
 pub returns-in-Bool : goal.returns-in-Bool
 returns-in-Bool c =
-    after_same _ _ _ _ c.add_plain-in-Bool.result
-    (ap plain c.truth_name.ensures ∙ truth_code c.args.numbering.now c.in-Bool.truth
-    ∙ sym (ap (literal_code c.args.numbering.now) c.in-Bool.is))
-    c.add_plain-in-Bool.ensures
+    on_ok_weaker c.add_plain-in-Bool.result
+    (extends_same (ap plain c.truth_name.ensures ∙ truth_code c.args.numbering.now c.in-Bool.truth
+    ∙ sym (ap (literal_code c.args.numbering.now) c.in-Bool.is))) c.add_plain-in-Bool.ensures
 
 pub returns-in-Invalid : goal.returns-in-Invalid
 returns-in-Invalid c = rw c.in-Invalid.is (search rules)

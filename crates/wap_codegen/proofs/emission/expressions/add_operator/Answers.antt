@@ -1,12 +1,12 @@
 use Rattle.std.proofs.Common.{rules}
-use Rattle.wap_codegen.proofs.EmissionLemmas.Chaining.{after_both}
+use Rattle.wap_codegen.proofs.EmissionLemmas.Chaining.{extends_both}
+use Rattle.std.proofs.lemmas.Result.{on_ok_weaker}
 use Rattle.wap_codegen.proofs.emission.expressions.add_operator.Goals as goal
 
 pub returns-in_ok-add_plain-in-Plus : goal.returns-in_ok-add_plain-in-Plus
 returns-in_ok-add_plain-in-Plus c =
-    rw c.in-Plus.is (after_both _ _ _ _ _ c.add_plain-in-Plus.result
-    c.in_ok-add_plain-in-Plus.ensures
-    c.add_plain-in-Plus.ensures)
+    rw c.in-Plus.is (on_ok_weaker c.add_plain-in-Plus.result
+    (extends_both c.in_ok-add_plain-in-Plus.ensures) c.add_plain-in-Plus.ensures)
 
 pub returns-in-Minus : goal.returns-in-Minus
 returns-in-Minus c = rw c.in-Minus.is (search rules)

@@ -13,20 +13,21 @@ use Rattle.wap_meaning.specs.coding.Expressions.{expr_code, cond_code}
 use Rattle.wap_meaning.specs.coding.Statements.{stmt_code, branch_code, declared_code, loop_code}
 use Rattle.wap_meaning.specs.coding.Statements.{test_code, update_code}
 use Rattle.wap_codegen.specs.emission.inside.Exits.{exits_in}
-use Rattle.wap_codegen.proofs.EmissionLemmas.Extending.{adds_empty}
+use Rattle.wap_codegen.proofs.EmissionLemmas.Extending.{adds_empty, adds_both}
 use Rattle.wap_codegen.proofs.EmissionLemmas.Chaining.{adds_same, cond_adds, leaves_more}
 use Rattle.wap_codegen.proofs.EmissionLemmas.Chaining.{leaves_none}
-use Rattle.wap_codegen.proofs.EmissionLemmas.Branching.{branch_adds, in_same, in_any, in_both}
+use Rattle.wap_codegen.proofs.EmissionLemmas.Branching.{branch_adds}
 use Rattle.wap_codegen.proofs.EmissionLemmas.Branching.{in_break, in_continue}
 use Rattle.wap_codegen.proofs.EmissionLemmas.Looping.{whole_loop}
 use Rattle.wap_codegen.proofs.EmissionLemmas.StatementParts.{of_empty, of_block, of_variables}
 use Rattle.wap_codegen.proofs.EmissionLemmas.StatementParts.{of_if, of_else, of_while, of_same_for}
 use Rattle.wap_codegen.proofs.EmissionLemmas.StatementParts.{of_break, of_continue}
+use Rattle.std.proofs.lemmas.Result.{on_ok_weaker}
 use Rattle.wap_codegen.proofs.emission.statements.+statements.Goals as goal
 
 pub add_statement-returns-in-Empty : goal.add_statement-returns-in-Empty
 add_statement-returns-in-Empty t c =
-    adds_same _ _ (exits_in c.args.inside) c.args.forms.now.items c.args.forms.now.items
+    adds_same
     (sym (ap (stmt_code c.args.numbering.now) c.in-Empty.is ∙ of_empty c.args.numbering.now))
     (adds_empty (exits_in c.args.inside) c.args.forms.now.items c.args.forms.now.items refl)
 
@@ -76,36 +77,26 @@ add_loop-returns t c = λ exits.
 
 pub add_statement-returns-in-Block : goal.add_statement-returns-in-Block
 add_statement-returns-in-Block t c =
-    in_same (all_code (map (stmt_code c.args.numbering.now) c.as_slice.result.now))
-    (stmt_code c.args.numbering.now c.args.statement.now) (exits_in c.args.inside)
-    c.args.forms.now.items c.add_statements.new.forms.items c.add_statements.result
-    (ap (λ (ss : List Stmt). all_code (map (stmt_code c.args.numbering.now) ss)) c.as_slice.ensures
+    on_ok_weaker c.add_statements.result
+    (adds_same (ap (λ (ss : List Stmt). all_code (map (stmt_code c.args.numbering.now) ss))
+    c.as_slice.ensures
     ∙ sym (ap (stmt_code c.args.numbering.now) c.in-Block.is
-    ∙ of_block c.args.numbering.now c.in-Block.inner))
-    c.add_statements.ensures
+    ∙ of_block c.args.numbering.now c.in-Block.inner))) c.add_statements.ensures
 
 pub add_statement-returns-in-Vars : goal.add_statement-returns-in-Vars
 add_statement-returns-in-Vars t c =
-    in_same (all_code (map (declared_code c.args.numbering.now) c.as_slice-in-Vars.result.now))
-    (stmt_code c.args.numbering.now c.args.statement.now) (exits_in c.args.inside)
-    c.args.forms.now.items c.add_declarations.new.forms.items c.add_declarations.result
-    (ap (λ (pairs : List (Id × Option Expr)).
+    on_ok_weaker c.add_declarations.result (adds_same (ap (λ (pairs : List (Id × Option Expr)).
     all_code (map (declared_code c.args.numbering.now) pairs))
     c.as_slice-in-Vars.ensures
     ∙ sym (ap (stmt_code c.args.numbering.now) c.in-Vars.is
-    ∙ of_variables c.args.numbering.now c.in-Vars.pairs))
-    (in_any (all_code (map (declared_code c.args.numbering.now) c.as_slice-in-Vars.result.now))
-    (exits_in c.args.inside) c.args.forms.now.items c.add_declarations.new.forms.items
-    c.add_declarations.result c.add_declarations.ensures)
+    ∙ of_variables c.args.numbering.now c.in-Vars.pairs)))
+    (on_ok_weaker c.add_declarations.result (λ adds. adds (exits_in c.args.inside))
+    c.add_declarations.ensures)
 
 pub add_statement-returns-in_ok-end-in-None : goal.add_statement-returns-in_ok-end-in-None
 add_statement-returns-in_ok-end-in-None t c =
-    adds_same (expr_code c.args.numbering.now c.in-If.condition
-    ⨾ branch_code (stmt_code c.args.numbering.now c.get.result.now))
-    (stmt_code c.args.numbering.now c.args.statement.now) (exits_in c.args.inside)
-    c.args.forms.now.items c.close.new.forms.items
-    (ap (λ (s : Stmt). expr_code c.args.numbering.now c.in-If.condition
-    ⨾ branch_code (stmt_code c.args.numbering.now s)) c.get.ensures
+    adds_same (ap (λ (s : Stmt). expr_code c.args.numbering.now c.in-If.condition ⨾ branch_code
+    (stmt_code c.args.numbering.now s)) c.get.ensures
     ∙ sym (ap (stmt_code c.args.numbering.now) (c.in-If.is
     ∙ ap (λ (other : Option Stmt). stmt.If c.in-If.condition c.in-If.body other) c.in-None.is)
     ∙ of_if c.args.numbering.now c.in-If.condition c.in-If.body))
@@ -122,12 +113,7 @@ add_statement-returns-in_ok-end-in-None t c =
 
 pub add_statement-returns-in_ok-end-in-Some : goal.add_statement-returns-in_ok-end-in-Some
 add_statement-returns-in_ok-end-in-Some t c =
-    adds_same (cond_code (expr_code c.args.numbering.now c.in-If.condition)
-    (stmt_code c.args.numbering.now c.get.result.now)
-    (stmt_code c.args.numbering.now c.get-in-Some.result.now))
-    (stmt_code c.args.numbering.now c.args.statement.now) (exits_in c.args.inside)
-    c.args.forms.now.items c.close-in-Some-2.new.forms.items
-    (ap (λ (s : Stmt). cond_code (expr_code c.args.numbering.now c.in-If.condition)
+    adds_same (ap (λ (s : Stmt). cond_code (expr_code c.args.numbering.now c.in-If.condition)
     (stmt_code c.args.numbering.now s)
     (stmt_code c.args.numbering.now c.get-in-Some.result.now)) c.get.ensures
     ∙ ap (λ (s : Stmt). cond_code (expr_code c.args.numbering.now c.in-If.condition)
@@ -156,61 +142,40 @@ add_statement-returns-in_ok-end-in-Some t c =
 
 pub add_statement-returns-in-While : goal.add_statement-returns-in-While
 add_statement-returns-in-While t c =
-    in_same (loop_code (test_code c.args.numbering.now (Some c.in-While.condition))
-    (stmt_code c.args.numbering.now c.get-in-While.result.now) empty)
-    (stmt_code c.args.numbering.now c.args.statement.now) (exits_in c.args.inside)
-    c.args.forms.now.items c.add_loop.new.forms.items c.add_loop.result
-    (ap (λ (s : Stmt). loop_code (test_code c.args.numbering.now (Some c.in-While.condition))
+    on_ok_weaker c.add_loop.result
+    (adds_same (ap (λ (s : Stmt). loop_code
+    (test_code c.args.numbering.now (Some c.in-While.condition))
     (stmt_code c.args.numbering.now s) empty) c.get-in-While.ensures
     ∙ sym (ap (stmt_code c.args.numbering.now) c.in-While.is
-    ∙ of_while c.args.numbering.now c.in-While.condition c.in-While.body))
-    (in_any (loop_code (test_code c.args.numbering.now (Some c.in-While.condition))
-    (stmt_code c.args.numbering.now c.get-in-While.result.now) empty)
-    (exits_in c.args.inside) c.args.forms.now.items c.add_loop.new.forms.items
-    c.add_loop.result c.add_loop.ensures)
+    ∙ of_while c.args.numbering.now c.in-While.condition c.in-While.body)))
+    (on_ok_weaker c.add_loop.result (λ adds. adds (exits_in c.args.inside)) c.add_loop.ensures)
 
 pub add_statement-returns-in_ok-add_statement-in-For :
     goal.add_statement-returns-in_ok-add_statement-in-For
 add_statement-returns-in_ok-add_statement-in-For t c =
-    in_same (stmt_code c.args.numbering.now c.get-in-For.result.now
-    ⨾ loop_code (test_code c.args.numbering.now (option_copied c.as_ref-condition.result))
-    (stmt_code c.args.numbering.now c.get-in-For-2.result.now)
-    (update_code c.args.numbering.now (option_copied c.as_ref.result)))
-    (stmt_code c.args.numbering.now c.args.statement.now) (exits_in c.args.inside)
-    c.args.forms.now.items c.add_loop-in-For.new.forms.items c.add_loop-in-For.result
-    (of_same_for c.args.numbering.now c.get-in-For.result.now c.in-For.first
+    on_ok_weaker c.add_loop-in-For.result
+    (adds_same (of_same_for c.args.numbering.now c.get-in-For.result.now c.in-For.first
     (option_copied c.as_ref-condition.result) c.in-For.condition
     (option_copied c.as_ref.result) c.in-For.update c.get-in-For-2.result.now c.in-For.body
     c.get-in-For.ensures c.as_ref-condition.ensures.value c.as_ref.ensures.value
     c.get-in-For-2.ensures
-    ∙ sym (ap (stmt_code c.args.numbering.now) c.in-For.is))
-    (in_both (stmt_code c.args.numbering.now c.get-in-For.result.now)
-    (loop_code (test_code c.args.numbering.now (option_copied c.as_ref-condition.result))
-    (stmt_code c.args.numbering.now c.get-in-For-2.result.now)
-    (update_code c.args.numbering.now (option_copied c.as_ref.result)))
-    (exits_in c.args.inside) c.args.forms.now.items c.add_statement-in-For.new.forms.items
-    c.add_loop-in-For.new.forms.items c.add_loop-in-For.result
-    c.in_ok-add_statement-in-For.ensures
-    (in_any (loop_code (test_code c.args.numbering.now (option_copied c.as_ref-condition.result))
-    (stmt_code c.args.numbering.now c.get-in-For-2.result.now)
-    (update_code c.args.numbering.now (option_copied c.as_ref.result)))
-    (exits_in c.args.inside) c.add_statement-in-For.new.forms.items
-    c.add_loop-in-For.new.forms.items c.add_loop-in-For.result c.add_loop-in-For.ensures))
+    ∙ sym (ap (stmt_code c.args.numbering.now) c.in-For.is)))
+    (on_ok_weaker c.add_loop-in-For.result (adds_both c.in_ok-add_statement-in-For.ensures)
+    (on_ok_weaker c.add_loop-in-For.result (λ adds. adds (exits_in c.args.inside))
+    c.add_loop-in-For.ensures))
 
 pub add_statement-returns-in-Break : goal.add_statement-returns-in-Break
 add_statement-returns-in-Break t c =
-    in_same _ (stmt_code c.args.numbering.now c.args.statement.now) (exits_in c.args.inside)
-    c.args.forms.now.items c.add_exit.new.forms.items c.add_exit.result
-    (sym (ap (stmt_code c.args.numbering.now) c.in-Break.is
-    ∙ of_break c.args.numbering.now c.in-Break.field-0))
+    on_ok_weaker c.add_exit.result
+    (adds_same (sym (ap (stmt_code c.args.numbering.now) c.in-Break.is
+    ∙ of_break c.args.numbering.now c.in-Break.field-0)))
     (in_break c.args.inside c.args.forms.now.items c.add_exit.new.forms.items c.add_exit.result
     c.add_exit.ensures)
 
 pub add_statement-returns-in-Continue : goal.add_statement-returns-in-Continue
 add_statement-returns-in-Continue t c =
-    in_same _ (stmt_code c.args.numbering.now c.args.statement.now) (exits_in c.args.inside)
-    c.args.forms.now.items c.add_exit-in-Continue.new.forms.items c.add_exit-in-Continue.result
-    (sym (ap (stmt_code c.args.numbering.now) c.in-Continue.is
-    ∙ of_continue c.args.numbering.now c.in-Continue.field-0))
+    on_ok_weaker c.add_exit-in-Continue.result
+    (adds_same (sym (ap (stmt_code c.args.numbering.now) c.in-Continue.is
+    ∙ of_continue c.args.numbering.now c.in-Continue.field-0)))
     (in_continue c.args.inside c.args.forms.now.items c.add_exit-in-Continue.new.forms.items
     c.add_exit-in-Continue.result c.add_exit-in-Continue.ensures)

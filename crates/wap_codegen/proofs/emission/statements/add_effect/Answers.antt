@@ -4,86 +4,77 @@ use Rattle.wap_meaning.specs.Names.{variable_at}
 use Rattle.wap_meaning.specs.coding.Coded.{with_operand}
 use Rattle.wap_meaning.specs.coding.Expressions.{change_name, expr_code}
 use Rattle.wap_codegen.specs.emission.inside.Loops.{assignment_code}
-use Rattle.wap_codegen.proofs.EmissionLemmas.Chaining.{after_same}
+use Rattle.wap_codegen.proofs.EmissionLemmas.Chaining.{extends_same}
 use Rattle.wap_codegen.proofs.EmissionLemmas.Effects.{of_assignment, of_literal, of_variable}
 use Rattle.wap_codegen.proofs.EmissionLemmas.Effects.{of_step, of_unary, of_chain, of_choice}
 use Rattle.wap_codegen.proofs.EmissionLemmas.Effects.{of_local, of_external, of_library}
+use Rattle.std.proofs.lemmas.Result.{on_ok_weaker}
 use Rattle.wap_codegen.proofs.emission.statements.add_effect.Goals as goal
 
 pub returns-in-Assign : goal.returns-in-Assign
 returns-in-Assign c =
-    after_same _ _ _ _ c.add_assigned.result
-    (ap (λ place. assignment_code c.args.numbering.now place c.in-Assign.operator
+    on_ok_weaker c.add_assigned.result
+    (extends_same (ap (λ place. assignment_code c.args.numbering.now place c.in-Assign.operator
     c.get.result.now (expr_code c.args.numbering.now c.args.expression.now))
     c.variable-place.ensures
     ∙ ap (λ (right : Expr). assignment_code c.args.numbering.now
     (variable_at c.args.numbering.now.names c.in-Assign.variable) c.in-Assign.operator right
     (expr_code c.args.numbering.now c.args.expression.now)) c.get.ensures
     ∙ of_assignment c.args.numbering.now c.args.expression.now c.in-Assign.variable
-    c.in-Assign.operator c.in-Assign.value c.in-Assign.is)
-    c.add_assigned.ensures
+    c.in-Assign.operator c.in-Assign.value c.in-Assign.is)) c.add_assigned.ensures
 
 pub returns-in-Lit : goal.returns-in-Lit
 returns-in-Lit c =
-    after_same _ _ _ _ c.add_dropped.result
-    (of_literal c.args.numbering.now c.args.expression.now
-    c.in-Lit.field-0 c.in-Lit.is)
-    c.add_dropped.ensures
+    on_ok_weaker c.add_dropped.result
+    (extends_same (of_literal c.args.numbering.now c.args.expression.now c.in-Lit.field-0
+    c.in-Lit.is)) c.add_dropped.ensures
 
 pub returns-in-Var : goal.returns-in-Var
 returns-in-Var c =
-    after_same _ _ _ _ c.add_dropped-in-Var.result
-    (of_variable c.args.numbering.now c.args.expression.now
-    c.in-Var.field-0 c.in-Var.is)
-    c.add_dropped-in-Var.ensures
+    on_ok_weaker c.add_dropped-in-Var.result
+    (extends_same (of_variable c.args.numbering.now c.args.expression.now c.in-Var.field-0
+    c.in-Var.is)) c.add_dropped-in-Var.ensures
 
 pub returns-in-Step : goal.returns-in-Step
 returns-in-Step c =
-    after_same _ _ _ _ c.add_with.result
-    (ap (λ name. with_operand name c.variable.result) c.change_name.ensures
+    on_ok_weaker c.add_with.result
+    (extends_same (ap (λ name. with_operand name c.variable.result) c.change_name.ensures
     ∙ ap (λ place. with_operand (change_name c.in-Step.up) place) c.variable.ensures
-    ∙ of_step c.args.numbering.now c.args.expression.now
-    c.in-Step.id c.in-Step.up c.in-Step.prefix c.in-Step.is)
-    c.add_with.ensures
+    ∙ of_step c.args.numbering.now c.args.expression.now c.in-Step.id c.in-Step.up c.in-Step.prefix
+    c.in-Step.is)) c.add_with.ensures
 
 pub returns-in-Unary : goal.returns-in-Unary
 returns-in-Unary c =
-    after_same _ _ _ _ c.add_dropped-in-Unary.result
-    (of_unary c.args.numbering.now c.args.expression.now
-    c.in-Unary.field-0 c.in-Unary.field-1 c.in-Unary.is)
-    c.add_dropped-in-Unary.ensures
+    on_ok_weaker c.add_dropped-in-Unary.result
+    (extends_same (of_unary c.args.numbering.now c.args.expression.now c.in-Unary.field-0
+    c.in-Unary.field-1 c.in-Unary.is)) c.add_dropped-in-Unary.ensures
 
 pub returns-in-Chain : goal.returns-in-Chain
 returns-in-Chain c =
-    after_same _ _ _ _ c.add_dropped-in-Chain.result
-    (of_chain c.args.numbering.now c.args.expression.now
-    c.in-Chain.field-0 c.in-Chain.field-1 c.in-Chain.is)
-    c.add_dropped-in-Chain.ensures
+    on_ok_weaker c.add_dropped-in-Chain.result
+    (extends_same (of_chain c.args.numbering.now c.args.expression.now c.in-Chain.field-0
+    c.in-Chain.field-1 c.in-Chain.is)) c.add_dropped-in-Chain.ensures
 
 pub returns-in-Cond : goal.returns-in-Cond
 returns-in-Cond c =
-    after_same _ _ _ _ c.add_dropped-in-Cond.result
-    (of_choice c.args.numbering.now c.args.expression.now
-    c.in-Cond.field-0 c.in-Cond.field-1 c.in-Cond.field-2 c.in-Cond.is)
-    c.add_dropped-in-Cond.ensures
+    on_ok_weaker c.add_dropped-in-Cond.result
+    (extends_same (of_choice c.args.numbering.now c.args.expression.now c.in-Cond.field-0
+    c.in-Cond.field-1 c.in-Cond.field-2 c.in-Cond.is)) c.add_dropped-in-Cond.ensures
 
 pub returns-in-Call : goal.returns-in-Call
 returns-in-Call c =
-    after_same _ _ _ _ c.add_dropped-in-Call.result
-    (of_local c.args.numbering.now c.args.expression.now
-    c.in-Call.field-0 c.in-Call.field-1 c.in-Call.is)
-    c.add_dropped-in-Call.ensures
+    on_ok_weaker c.add_dropped-in-Call.result
+    (extends_same (of_local c.args.numbering.now c.args.expression.now c.in-Call.field-0
+    c.in-Call.field-1 c.in-Call.is)) c.add_dropped-in-Call.ensures
 
 pub returns-in-External : goal.returns-in-External
 returns-in-External c =
-    after_same _ _ _ _ c.add_dropped-in-External.result
-    (of_external c.args.numbering.now c.args.expression.now
-    c.in-External.field-0 c.in-External.field-1 c.in-External.field-2 c.in-External.is)
-    c.add_dropped-in-External.ensures
+    on_ok_weaker c.add_dropped-in-External.result
+    (extends_same (of_external c.args.numbering.now c.args.expression.now c.in-External.field-0
+    c.in-External.field-1 c.in-External.field-2 c.in-External.is)) c.add_dropped-in-External.ensures
 
 pub returns-in-Library : goal.returns-in-Library
 returns-in-Library c =
-    after_same _ _ _ _ c.add_dropped-in-Library.result
-    (of_library c.args.numbering.now c.args.expression.now
-    c.in-Library.field-0 c.in-Library.field-1 c.in-Library.field-2 c.in-Library.is)
-    c.add_dropped-in-Library.ensures
+    on_ok_weaker c.add_dropped-in-Library.result
+    (extends_same (of_library c.args.numbering.now c.args.expression.now c.in-Library.field-0
+    c.in-Library.field-1 c.in-Library.field-2 c.in-Library.is)) c.add_dropped-in-Library.ensures

@@ -3,22 +3,20 @@ use Rattle.wap_grammar.specs.declared.program.statement.Stmt.TheVariants as stmt
 use Rattle.wap_grammar.specs.declared.program.expression.Expr.{Expr}
 use Rattle.wap_meaning.specs.coding.Statements.{stmt_code}
 use Rattle.wap_codegen.proofs.EmissionLemmas.StatementParts.{of_return, of_return_of}
-use Rattle.wap_codegen.proofs.EmissionLemmas.Chaining.{after_same, after_both}
+use Rattle.wap_codegen.proofs.EmissionLemmas.Chaining.{extends_both, extends_same}
+use Rattle.std.proofs.lemmas.Result.{on_ok_weaker}
 use Rattle.wap_codegen.proofs.emission.statements.add_return.Goals as goal
 
 pub returns-in-None : goal.returns-in-None
 returns-in-None c =
-    after_same _ _ _ _ c.add_plain.result
-    (sym (ap (λ (value : Option Expr). stmt_code c.args.numbering.now (stmt.Return value))
-    c.in-None.is
-    ∙ of_return c.args.numbering.now))
-    c.add_plain.ensures
+    on_ok_weaker c.add_plain.result (extends_same (sym (ap
+    (λ (value : Option Expr). stmt_code c.args.numbering.now (stmt.Return value)) c.in-None.is
+    ∙ of_return c.args.numbering.now))) c.add_plain.ensures
 
 pub returns-in_ok-add_expression-in-Some : goal.returns-in_ok-add_expression-in-Some
 returns-in_ok-add_expression-in-Some c =
-    after_same _ _ _ _ c.add_plain-in-Some.result
-    (sym (ap (λ (value : Option Expr). stmt_code c.args.numbering.now (stmt.Return value))
-    c.in-Some.is
-    ∙ of_return_of c.args.numbering.now c.in-Some.value))
-    (after_both _ _ _ _ _ c.add_plain-in-Some.result c.in_ok-add_expression-in-Some.ensures
+    on_ok_weaker c.add_plain-in-Some.result (extends_same (sym (ap
+    (λ (value : Option Expr). stmt_code c.args.numbering.now (stmt.Return value)) c.in-Some.is
+    ∙ of_return_of c.args.numbering.now c.in-Some.value)))
+    (on_ok_weaker c.add_plain-in-Some.result (extends_both c.in_ok-add_expression-in-Some.ensures)
     c.add_plain-in-Some.ensures)

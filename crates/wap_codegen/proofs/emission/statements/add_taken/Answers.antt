@@ -1,6 +1,7 @@
-use Rattle.wap_codegen.proofs.EmissionLemmas.Chaining.{after_both}
+use Rattle.wap_codegen.proofs.EmissionLemmas.Chaining.{extends_both}
+use Rattle.std.proofs.lemmas.Result.{on_ok_weaker}
 use Rattle.wap_codegen.proofs.emission.statements.add_taken.Goals as goal
 
 pub returns : goal.returns
 returns c =
-    after_both _ _ _ _ _ c.add_with.result c.in_ok-add_expression.ensures c.add_with.ensures
+    on_ok_weaker c.add_with.result (extends_both c.in_ok-add_expression.ensures) c.add_with.ensures

@@ -1,21 +1,19 @@
-use Rattle.std.proofs.Common.{◌≡◌, [], ◌∷◌, true, false, rules, refl, sym, ap}
+use Rattle.std.proofs.Common.{◌≡◌, [], true, false, rules, refl, sym, ap}
 use Rattle.wap_grammar.specs.declared.program.expression.Literal.TheVariants as literal
-use Rattle.wap_meaning.specs.coding.Needs.{Constant, literal_needs}
-use Rattle.wap_codegen.proofs.PoolLemmas.Pooling.{pools_none, pools_same, after_same, after_one}
+use Rattle.wap_meaning.specs.coding.Needs.{literal_needs}
+use Rattle.wap_codegen.proofs.PoolLemmas.Pooling.{pools_none, pools_same, after_one}
 use Rattle.wap_codegen.proofs.PoolLemmas.Pooling.{text_need}
+use Rattle.std.proofs.lemmas.Result.{on_ok_weaker}
 use Rattle.wap_codegen.proofs.pool.expressions.add_string.Goals as goal
 
 pub returns-then-is_empty : goal.returns-then-is_empty
 returns-then-is_empty c =
     let none : c.args.text.now ≡ [] = c.if-is_empty.ensures.0 (search rules) in
-    pools_same [] (literal_needs (literal.Str c.args.text.now)) _ _
-    (sym (ap (λ text. literal_needs (literal.Str text)) none)) (pools_none _ _ refl)
+    pools_same (sym (ap (λ text. literal_needs (literal.Str text)) none)) (pools_none _ _ refl)
 
 pub returns : goal.returns
 returns c =
-    after_same (Constant (literal.Str c.args.text.now) ∷ [])
-    (literal_needs (literal.Str c.args.text.now)) _ _ c.add_text.result
-    (text_need c.args.text.now
-    (λ none. let is : false ≡ true = c.if-is_empty.ensures.1 none in absurd (cc is)))
+    on_ok_weaker c.add_text.result (pools_same (text_need c.args.text.now
+    (λ none. let is : false ≡ true = c.if-is_empty.ensures.1 none in absurd (cc is))))
     (after_one (literal.Str c.args.text.now) _ _ c.add_text.result c.add_text.ensures.names
     c.add_text.ensures.pool)

@@ -1,4 +1,4 @@
-use Rattle.std.proofs.Common.{[], ◌∙◌, map, sym}
+use Rattle.std.proofs.Common.{◌∙◌, map, sym}
 use Rattle.std.proofs.lemmas.List.{at_drop_all}
 use Rattle.wap_grammar.specs.declared.program.program.Function.{Function}
 use Rattle.wap_codegen.specs.pool.Names.{with_names}

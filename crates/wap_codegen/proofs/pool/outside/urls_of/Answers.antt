@@ -1,4 +1,4 @@
-use Rattle.std.proofs.Common.{[], ◌∙◌, map, sym}
+use Rattle.std.proofs.Common.{◌∙◌, map, sym}
 use Rattle.std.proofs.lemmas.List.{at_drop_all}
 use Rattle.wap_meaning.specs.Names.{url_in}
 use Rattle.wap_codegen.specs.pool.inside.Declaring.{with_urls}

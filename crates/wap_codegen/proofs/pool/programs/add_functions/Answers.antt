@@ -13,8 +13,7 @@ loop-function-preserved c =
     c.loop-function.numbering c.add_statements.new.numbering
     c.loop-function-test.true c.function-item.is
     c.loop-function.invariant
-    (pools_same (flat_map stmt_needs c.as_slice.result.now) (function_needs c.function-item.result)
-    _ _ (ap (λ (ss : List Stmt). flat_map stmt_needs ss) c.as_slice.ensures)
+    (pools_same (ap (λ (ss : List Stmt). flat_map stmt_needs ss) c.as_slice.ensures)
     c.in_ok-add_statements.ensures)
 
 pub returns : goal.returns

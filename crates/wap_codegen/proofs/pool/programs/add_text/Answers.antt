@@ -1,18 +1,15 @@
-use Rattle.std.proofs.Common.{[], ◌∷◌, refl, sym, ap}
+use Rattle.std.proofs.Common.{refl, sym, ap}
 use Rattle.wap_grammar.specs.declared.program.expression.Literal.TheVariants as literal
-use Rattle.wap_meaning.specs.coding.Needs.{Constant}
 use Rattle.wap_meaning.specs.needs.Drawn.{text_needs}
-use Rattle.wap_codegen.proofs.PoolLemmas.Pooling.{pools_none, pools_same, after_same, after_one}
+use Rattle.wap_codegen.proofs.PoolLemmas.Pooling.{pools_none, pools_same, after_one}
+use Rattle.std.proofs.lemmas.Result.{on_ok_weaker}
 use Rattle.wap_codegen.proofs.pool.programs.add_text.Goals as goal
 
 pub returns-in-None : goal.returns-in-None
-returns-in-None c =
-    pools_same [] (text_needs c.args.text.now) _ _ (ap text_needs (sym c.in-None.is))
-    (pools_none _ _ refl)
+returns-in-None c = pools_same (ap text_needs (sym c.in-None.is)) (pools_none _ _ refl)
 
 pub returns-in-Some : goal.returns-in-Some
 returns-in-Some c =
-    after_same (Constant (literal.Str c.in-Some.text) ∷ []) (text_needs c.args.text.now) _ _
-    c.add_text.result (ap text_needs (sym c.in-Some.is))
+    on_ok_weaker c.add_text.result (pools_same (ap text_needs (sym c.in-Some.is)))
     (after_one (literal.Str c.in-Some.text) _ _ c.add_text.result c.add_text.ensures.names
     c.add_text.ensures.pool)

@@ -9,56 +9,47 @@ use Rattle.wap_meaning.specs.coding.Needs.{stmt_needs}
 use Rattle.wap_meaning.proofs.NeedsLemmas.TreeNeeds.{of_empty, of_value, of_block, of_variables}
 use Rattle.wap_meaning.proofs.NeedsLemmas.TreeNeeds.{of_if, of_else, of_while, of_for, of_break}
 use Rattle.wap_meaning.proofs.NeedsLemmas.TreeNeeds.{of_continue, of_return}
-use Rattle.wap_codegen.proofs.PoolLemmas.Pooling.{pools_none, pools_same, pools_both, after_same}
-use Rattle.wap_codegen.proofs.PoolLemmas.Pooling.{after_both, leaves_more, leaves_none}
+use Rattle.wap_codegen.proofs.PoolLemmas.Pooling.{pools_none, pools_same, pools_both}
+use Rattle.wap_codegen.proofs.PoolLemmas.Pooling.{leaves_more, leaves_none}
+use Rattle.std.proofs.lemmas.Result.{on_ok_weaker}
 use Rattle.wap_codegen.proofs.pool.statements.+statements.Goals as goal
 
 pub add_statement-returns-in-Empty : goal.add_statement-returns-in-Empty
 add_statement-returns-in-Empty t c =
-    pools_same [] (stmt_needs c.args.statement.now) _ _
-    (sym (ap stmt_needs c.in-Empty.is ∙ of_empty))
-    (pools_none _ _ refl)
+    pools_same (sym (ap stmt_needs c.in-Empty.is ∙ of_empty)) (pools_none _ _ refl)
 
 pub add_statement-returns-in-Break : goal.add_statement-returns-in-Break
 add_statement-returns-in-Break t c =
-    pools_same [] (stmt_needs c.args.statement.now) _ _
-    (sym (ap stmt_needs c.in-Break.is ∙ of_break c.in-Break.field-0))
+    pools_same (sym (ap stmt_needs c.in-Break.is ∙ of_break c.in-Break.field-0))
     (pools_none _ _ refl)
 
 pub add_statement-returns-in-Continue : goal.add_statement-returns-in-Continue
 add_statement-returns-in-Continue t c =
-    pools_same [] (stmt_needs c.args.statement.now) _ _
-    (sym (ap stmt_needs c.in-Continue.is ∙ of_continue c.in-Continue.field-0))
+    pools_same (sym (ap stmt_needs c.in-Continue.is ∙ of_continue c.in-Continue.field-0))
     (pools_none _ _ refl)
 
 pub add_statement-returns-in-Expr : goal.add_statement-returns-in-Expr
 add_statement-returns-in-Expr t c =
-    after_same (expr_needs c.in-Expr.value) (stmt_needs c.args.statement.now) _ _
-    c.add_expression.result
-    (sym (ap stmt_needs c.in-Expr.is ∙ of_value c.in-Expr.value))
+    on_ok_weaker c.add_expression.result
+    (pools_same (sym (ap stmt_needs c.in-Expr.is ∙ of_value c.in-Expr.value)))
     c.add_expression.ensures
 
 pub add_statement-returns-in-Block : goal.add_statement-returns-in-Block
 add_statement-returns-in-Block t c =
-    after_same (flat_map stmt_needs c.as_slice.result.now) (stmt_needs c.args.statement.now) _ _
-    c.add_statements.result
-    (ap (λ (ss : List Stmt). flat_map stmt_needs ss) c.as_slice.ensures
-    ∙ (sym (ap stmt_needs c.in-Block.is ∙ of_block c.in-Block.inner)))
-    c.add_statements.ensures
+    on_ok_weaker c.add_statements.result
+    (pools_same (ap (λ (ss : List Stmt). flat_map stmt_needs ss) c.as_slice.ensures
+    ∙ (sym (ap stmt_needs c.in-Block.is ∙ of_block c.in-Block.inner)))) c.add_statements.ensures
 
 pub add_statement-returns-in-Vars : goal.add_statement-returns-in-Vars
 add_statement-returns-in-Vars t c =
-    after_same (flat_map declared_needs c.as_slice-in-Vars.result.now)
-    (stmt_needs c.args.statement.now) _ _ c.add_declarations.result
-    (ap (λ (pairs : List (Id × Option Expr)). flat_map declared_needs pairs)
+    on_ok_weaker c.add_declarations.result
+    (pools_same (ap (λ (pairs : List (Id × Option Expr)). flat_map declared_needs pairs)
     c.as_slice-in-Vars.ensures
-    ∙ (sym (ap stmt_needs c.in-Vars.is ∙ of_variables c.in-Vars.pairs)))
-    c.add_declarations.ensures
+    ∙ (sym (ap stmt_needs c.in-Vars.is ∙ of_variables c.in-Vars.pairs)))) c.add_declarations.ensures
 
 pub add_statement-returns-in-None : goal.add_statement-returns-in-None
 add_statement-returns-in-None t c =
-    pools_same (expr_needs c.in-If.condition ++ (stmt_needs c.get.result.now ++ []))
-    (stmt_needs c.args.statement.now) _ _
+    pools_same
     (ap (λ (s : Stmt). expr_needs c.in-If.condition ++ (stmt_needs s ++ [])) c.get.ensures
     ∙ sym (ap stmt_needs (c.in-If.is
     ∙ ap (λ (other : Option Stmt). stmt.If c.in-If.condition c.in-If.body other) c.in-None.is)
@@ -68,60 +59,48 @@ add_statement-returns-in-None t c =
 
 pub add_statement-returns-in-Some : goal.add_statement-returns-in-Some
 add_statement-returns-in-Some t c =
-    after_same (expr_needs c.in-If.condition ++ (stmt_needs c.get.result.now
-    ++ stmt_needs c.get-in-Some.result.now)) (stmt_needs c.args.statement.now) _ _
-    c.add_statement-in-Some.result
-    (ap (λ (s : Stmt). expr_needs c.in-If.condition ++ (stmt_needs s
-    ++ stmt_needs c.get-in-Some.result.now)) c.get.ensures
+    on_ok_weaker c.add_statement-in-Some.result
+    (pools_same (ap (λ (s : Stmt). expr_needs c.in-If.condition ++ (stmt_needs s ++ stmt_needs
+    c.get-in-Some.result.now)) c.get.ensures
     ∙ ap (λ (s : Stmt). expr_needs c.in-If.condition ++ (stmt_needs c.in-If.body
     ++ stmt_needs s)) c.get-in-Some.ensures
     ∙ sym (ap stmt_needs (c.in-If.is
     ∙ ap (λ (other : Option Stmt). stmt.If c.in-If.condition c.in-If.body other) c.in-Some.is)
-    ∙ of_else c.in-If.condition c.in-If.body c.in-Some.other))
-    (after_both (expr_needs c.in-If.condition) (stmt_needs c.get.result.now
-    ++ stmt_needs c.get-in-Some.result.now) _ _ _ c.add_statement-in-Some.result
-    c.in_ok-add_expression-in-If.ensures
-    (after_both (stmt_needs c.get.result.now) (stmt_needs c.get-in-Some.result.now) _ _ _
-    c.add_statement-in-Some.result c.in_ok-add_statement-in-If.ensures
+    ∙ of_else c.in-If.condition c.in-If.body c.in-Some.other)))
+    (on_ok_weaker c.add_statement-in-Some.result (pools_both c.in_ok-add_expression-in-If.ensures)
+    (on_ok_weaker c.add_statement-in-Some.result (pools_both c.in_ok-add_statement-in-If.ensures)
     c.add_statement-in-Some.ensures))
 
 pub add_statement-returns-in_ok-add_expression-in-While :
     goal.add_statement-returns-in_ok-add_expression-in-While
 add_statement-returns-in_ok-add_expression-in-While t c =
-    after_same (expr_needs c.in-While.condition ++ stmt_needs c.get-in-While.result.now)
-    (stmt_needs c.args.statement.now) _ _ c.add_statement-in-While.result
-    (ap (λ (s : Stmt). expr_needs c.in-While.condition ++ stmt_needs s) c.get-in-While.ensures
-    ∙ (sym (ap stmt_needs c.in-While.is ∙ of_while c.in-While.condition c.in-While.body)))
-    (after_both (expr_needs c.in-While.condition) (stmt_needs c.get-in-While.result.now) _ _ _
-    c.add_statement-in-While.result c.in_ok-add_expression-in-While.ensures
-    c.add_statement-in-While.ensures)
+    on_ok_weaker c.add_statement-in-While.result
+    (pools_same (ap (λ (s : Stmt). expr_needs c.in-While.condition ++ stmt_needs s)
+    c.get-in-While.ensures
+    ∙ (sym (ap stmt_needs c.in-While.is ∙ of_while c.in-While.condition c.in-While.body))))
+    (on_ok_weaker c.add_statement-in-While.result
+    (pools_both c.in_ok-add_expression-in-While.ensures) c.add_statement-in-While.ensures)
 
 pub add_statement-returns-in_ok-add_optional-in-For-2 :
     goal.add_statement-returns-in_ok-add_optional-in-For-2
 add_statement-returns-in_ok-add_optional-in-For-2 t c =
     let rest : List Need = optional_needs c.in-For.condition
     ++ (optional_needs c.in-For.update ++ stmt_needs c.get-in-For-2.result.now) in
-    after_same (stmt_needs c.get-in-For.result.now ++ rest) (stmt_needs c.args.statement.now) _ _
-    c.add_statement-in-For-2.result
-    (ap (λ (s : Stmt). stmt_needs s ++ rest) c.get-in-For.ensures
+    on_ok_weaker c.add_statement-in-For-2.result
+    (pools_same (ap (λ (s : Stmt). stmt_needs s ++ rest) c.get-in-For.ensures
     ∙ ap (λ (s : Stmt). stmt_needs c.in-For.first ++ (optional_needs c.in-For.condition
     ++ (optional_needs c.in-For.update ++ stmt_needs s))) c.get-in-For-2.ensures
     ∙ sym (ap stmt_needs c.in-For.is
-    ∙ of_for c.in-For.first c.in-For.condition c.in-For.update c.in-For.body))
-    (after_both (stmt_needs c.get-in-For.result.now) rest _ _ _ c.add_statement-in-For-2.result
-    c.in_ok-add_statement-in-For.ensures
-    (after_both (optional_needs c.in-For.condition) (optional_needs c.in-For.update
-    ++ stmt_needs c.get-in-For-2.result.now) _ _ _ c.add_statement-in-For-2.result
-    c.in_ok-add_optional-in-For.ensures
-    (after_both (optional_needs c.in-For.update) (stmt_needs c.get-in-For-2.result.now) _ _ _
-    c.add_statement-in-For-2.result c.in_ok-add_optional-in-For-2.ensures
+    ∙ of_for c.in-For.first c.in-For.condition c.in-For.update c.in-For.body)))
+    (on_ok_weaker c.add_statement-in-For-2.result (pools_both c.in_ok-add_statement-in-For.ensures)
+    (on_ok_weaker c.add_statement-in-For-2.result (pools_both c.in_ok-add_optional-in-For.ensures)
+    (on_ok_weaker c.add_statement-in-For-2.result (pools_both c.in_ok-add_optional-in-For-2.ensures)
     c.add_statement-in-For-2.ensures)))
 
 pub add_statement-returns-in-Return : goal.add_statement-returns-in-Return
 add_statement-returns-in-Return t c =
-    after_same (optional_needs c.in-Return.value) (stmt_needs c.args.statement.now) _ _
-    c.add_optional-in-Return.result
-    (sym (ap stmt_needs c.in-Return.is ∙ of_return c.in-Return.value))
+    on_ok_weaker c.add_optional-in-Return.result
+    (pools_same (sym (ap stmt_needs c.in-Return.is ∙ of_return c.in-Return.value)))
     c.add_optional-in-Return.ensures
 
 pub add_statements-loop-statement-preserved : goal.add_statements-loop-statement-preserved

@@ -1,4 +1,4 @@
-use Rattle.std.proofs.Common.{[], ◌∷◌, map}
+use Rattle.std.proofs.Common.{[], ◌∷◌}
 use Rattle.wap_grammar.specs.declared.program.program.Id.{Id}
 use Rattle.wap_scope.specs.Names.{Declares}
 use Rattle.wap_codegen.proofs.PoolLemmas.Declared.{leaves_all, leaves_none, declaring_same}
@@ -17,6 +17,6 @@ loop-param-preserved c =
 
 pub returns : goal.returns
 returns c =
-    declaring_same (map Declares c.args.params.now) (parameters_flat c.args.params.now)
+    declaring_same (parameters_flat c.args.params.now)
     (leaves_none (λ (v : Id). Declares v ∷ []) c.args.params.now c.loop-param.param-index
     c.args.names.now c.loop-param.names c.loop-param-test.false c.loop-param.invariant)
