@@ -10,6 +10,6 @@ mod tree;
 mod values;
 mod way;
 
-pub(crate) use faults::add_deck_words;
+pub(crate) use faults::add_deck_fault;
 pub(crate) use names::last_path;
 pub(crate) use tree::add_deck;

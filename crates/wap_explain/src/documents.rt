@@ -2,8 +2,9 @@
 
 mod header;
 mod hexadecimal;
+mod identifier;
 mod partial;
 mod words;
 
 pub(crate) use hexadecimal::add_bytes_around;
-pub(crate) use words::add_document_words;
+pub(crate) use words::add_document_fault;

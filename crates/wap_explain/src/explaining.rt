@@ -1,57 +1,45 @@
 //! What is said of a page.
-ghost use Rattle.std.specs.Prelude.{◌≡◌, ◌≢◌, ◌<◌, ◌^◌, length};
+ghost use Rattle.std.specs.Prelude.{◌≡◌, ◌<◌, ◌^◌, length, Some, None};
 ghost use Rattle.wap_devices.specs.Pages.{IsSmall};
 ghost use Rattle.wap_pages.specs.declared.fault.PageFault.{PageFault};
 ghost use Rattle.wap_explain.specs.Explaining.{IsRight, IsRightOf, Explains};
 
 use crate::ending::Ending;
-use crate::good::good_text;
-use crate::refusals::refusal_text;
+use crate::pages::text_of;
 use std::alloc::Global;
 use wap_base::Text;
 use wap_devices::{Failed, Fetched, Sink, Store, StoreErr, write_all};
 use wap_pages::{PageErr, PageFault, judge};
 
-/// Writes what is said of a good page.
-fn tell_good<O: Sink>(alloc: Global, name: &Text, bytes: &[u8], out: &mut O) -> Ending
-    requires { length bytes.now < 2 ^ 31 }
-    ensures { (fault : PageFault) → result ≢ Ending.Refused fault }
-{
-    let Ok(text) = good_text(alloc, name, bytes) else {
-        return Ending::NoMemory;
-    };
-    match write_all(out, text.as_str().as_bytes()) {
-        Ok(()) => Ending::Good,
-        Err(Failed) => Ending::WriteFault,
+/// Writes the fault as `wap` prints it, if there is one, and then the text.
+fn write_told<O: Sink>(out: &mut O, fault: &Option<PageFault>, text: &str) -> Result<(), Failed> {
+    if let Some(fault) = fault {
+        write_all(out, b"refused ")?;
+        fault.print(out)?;
+        write_all(out, b"\n")?;
     }
+    write_all(out, text.as_bytes())
 }
 
-/// Writes the fault as `wap` prints it, and the text behind it.
-fn write_refusal<O: Sink>(out: &mut O, fault: &PageFault, text: &Text) -> Result<(), Failed> {
-    write_all(out, b"refused ")?;
-    fault.print(out)?;
-    write_all(out, b"\n")?;
-    write_all(out, text.as_str().as_bytes())
-}
-
-/// Writes why a page with these bytes is refused.
-fn tell_refused<O: Sink>(
+/// Writes what is said of a page with these bytes, which is good or has a fault.
+fn tell<O: Sink>(
     alloc: Global,
     name: &Text,
     bytes: &[u8],
-    fault: PageFault,
+    fault: Option<PageFault>,
     out: &mut O,
 ) -> Ending
     requires { length bytes.now < 2 ^ 31 }
-    ensures bad { result ≢ Ending.Good }
-    ensures refused { (other : PageFault) → result ≡ Ending.Refused other → other ≡ fault }
+    ensures good { result ≡ Ending.Good → fault ≡ None }
+    ensures refused { (other : PageFault) → result ≡ Ending.Refused other → fault ≡ Some other }
 {
-    let Ok(text) = refusal_text(alloc, name, bytes, &fault) else {
+    let Ok(text) = text_of(alloc, name, bytes, &fault) else {
         return Ending::NoMemory;
     };
-    match write_refusal(out, &fault, &text) {
-        Ok(()) => Ending::Refused(fault),
-        Err(Failed) => Ending::WriteFault,
+    match (write_told(out, &fault, text.as_str()), fault) {
+        (Err(Failed), _) => Ending::WriteFault,
+        (Ok(()), None) => Ending::Good,
+        (Ok(()), Some(fault)) => Ending::Refused(fault),
     }
 }
 
@@ -61,8 +49,8 @@ fn explain_bytes<O: Sink>(alloc: Global, name: &Text, bytes: &[u8], out: &mut O)
     ensures { IsRight name.now bytes.now result }
 {
     match judge(alloc, name, bytes) {
-        Ok(_) => tell_good(alloc, name, bytes, out),
-        Err(PageErr::Refused(fault)) => tell_refused(alloc, name, bytes, fault, out),
+        Ok(_) => tell(alloc, name, bytes, None, out),
+        Err(PageErr::Refused(fault)) => tell(alloc, name, bytes, Some(fault), out),
         Err(PageErr::NoMemory) => Ending::NoMemory,
     }
 }
@@ -73,7 +61,7 @@ fn explain_page<O: Sink>(alloc: Global, name: &Text, page: &Fetched, out: &mut O
     ensures { IsRightOf name.now page.now result }
 {
     match page {
-        Fetched::Missing => tell_refused(alloc, name, b"", PageFault::Missing, out),
+        Fetched::Missing => tell(alloc, name, b"", Some(PageFault::Missing), out),
         Fetched::Found(bytes) => explain_bytes(alloc, name, bytes.as_slice(), out),
     }
 }

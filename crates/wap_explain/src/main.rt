@@ -12,9 +12,8 @@ mod decks;
 mod documents;
 mod ending;
 mod explaining;
-mod good;
+mod pages;
 mod pieces;
-mod refusals;
 mod sources;
 mod units;
 

@@ -4,7 +4,6 @@ mod faults;
 mod kept;
 mod listing;
 mod notes;
-mod places;
 mod words;
 
 pub(crate) use faults::{add_unit_fault, add_verify_fault};

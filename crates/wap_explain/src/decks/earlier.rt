@@ -1,40 +1,46 @@
 //! The earlier element that has an id or a name.
 use crate::decks::names::{name_of_do, name_of_tag, node_at, plain_value};
-use crate::decks::way::{add_numbered_way, add_way};
-use crate::pieces::{add_all, add_shown};
+use crate::decks::way::Way;
+use crate::pieces::{Added, Shown};
 use std::alloc::Global;
-use wap_base::{NoMemory, Rows, Text};
+use std::fmt::Write;
+use wap_base::{NoMemory, Rows};
 use wap_tokens::markup::{AttrName, Item, LEVEL_LIMIT, Node, Tag};
 
-/// The place of the first card with an id.
-fn find_card(items: &[Item], id: &str) -> Option<usize> {
-    for (place, item) in items.iter().enumerate() {
+/// The number, from 1, of the first card with an id.
+fn number_of_card(root: &Node, id: &str) -> usize {
+    let mut number = 0usize;
+    for item in root.kids.as_slice() {
         if let Item::Node(node) = item {
-            if node.tag == Tag::Card && plain_value(node, AttrName::Id) == Some(id) {
-                return Some(place);
+            if node.tag == Tag::Card {
+                number = number.saturating_add(1);
+                if plain_value(node, AttrName::Id) == Some(id) {
+                    return number;
+                }
             }
         }
     }
-    None
+    number
 }
 
-fn is_do_named(node: &Node, name: &str) -> bool {
-    node.tag == Tag::Do && name_of_do(node) == Some(name)
-}
-
-/// Leads a path on to the first do of a name among items of so many levels, and says whether there
+/// Leads a path on to the first do of a name in a node of so many levels, and says whether there
 /// is one.
-#[cycle(dos)]
 fn lead_to_do(
     path: &mut Rows<usize>,
     levels: u32,
-    items: &[Item],
+    node: &Node,
     name: &str,
 ) -> Result<bool, NoMemory> {
-    for (place, item) in items.iter().enumerate() {
-        if let Item::Node(node) = item {
+    if node.tag == Tag::Do && name_of_do(node) == Some(name) {
+        return Ok(true);
+    }
+    if levels == 0 {
+        return Ok(false);
+    }
+    for (place, item) in node.kids.as_slice().iter().enumerate() {
+        if let Item::Node(kid) = item {
             path.add(place)?;
-            if lead_into(path, levels, node, name)? {
+            if lead_to_do(path, levels - 1, kid, name)? {
                 return Ok(true);
             }
             let _step = path.pop();
@@ -43,76 +49,36 @@ fn lead_to_do(
     Ok(false)
 }
 
-/// The same at a node.
-#[cycle(dos)]
-fn lead_into(
-    path: &mut Rows<usize>,
-    levels: u32,
-    node: &Node,
-    name: &str,
-) -> Result<bool, NoMemory> {
-    if is_do_named(node, name) {
-        return Ok(true);
-    }
-    if levels == 0 {
-        return Ok(false);
-    }
-    lead_to_do(path, levels - 1, node.kids.as_slice(), name)
-}
-
-/// Adds that an earlier card has the id.
-fn add_card_words(out: &mut Text, root: &Node, id: &str) -> Result<(), NoMemory> {
-    out.add("An earlier card has the id \"")?;
-    add_shown(out, id)?;
-    out.add("\": ")?;
-    if let Some(place) = find_card(root.kids.as_slice(), id) {
-        add_numbered_way(out, root, place)?;
-    }
-    out.add("\nIds of cards have to differ.\n")
-}
-
-/// Adds that an earlier do of the card or template, to which a step leads, has the name.
-fn add_do_words(
-    alloc: Global,
-    out: &mut Text,
-    root: &Node,
-    step: usize,
-    name: &str,
-) -> Result<(), NoMemory> {
-    let mut path = Rows::new(alloc);
-    path.add(step)?;
-    let Some(Item::Node(holder)) = root.kids.as_slice().get(step) else {
+/// Adds that an earlier do of the same card or template, at this place in the root, has the name.
+fn add_do(alloc: Global, out: &mut String, root: &Node, place: usize, name: &str) -> Added {
+    let Some(holder) = node_at(root, &[place]) else {
         return Ok(());
     };
-    out.add("An earlier do has the name (or, without one, the type) \"")?;
-    add_shown(out, name)?;
-    out.add("\": ")?;
-    if lead_to_do(&mut path, LEVEL_LIMIT, holder.kids.as_slice(), name)? {
-        add_way(out, root, path.as_slice())?;
-    }
-    let holder = name_of_tag(holder.tag);
-    add_all(
+    let mut path = Rows::of(alloc, &[place])?;
+    let _found = lead_to_do(&mut path, LEVEL_LIMIT, holder, name)?;
+    Ok(write!(
         out,
-        &[
-            "\nDos of one ",
-            holder,
-            " have to differ: give each a name of its own.\n",
-        ],
-    )
+        "An earlier do has the name (or, without one, the type) \"{}\": {}\n\
+         Dos of one {} have to differ: give each a name of its own.\n",
+        Shown(name),
+        Way(root, path.as_slice()),
+        name_of_tag(holder.tag)
+    )?)
 }
 
 /// Adds which earlier element has the id or the name of the one to which a path leads.
-pub(crate) fn add_earlier(
-    alloc: Global,
-    out: &mut Text,
-    root: &Node,
-    path: &[usize],
-) -> Result<(), NoMemory> {
-    let (Some(node), Some(step)) = (node_at(root, path), path.first()) else {
+pub(crate) fn add_earlier(alloc: Global, out: &mut String, root: &Node, path: &[usize]) -> Added {
+    let (Some(node), Some(place)) = (node_at(root, path), path.first()) else {
         return Ok(());
     };
     if node.tag == Tag::Do {
-        return add_do_words(alloc, out, root, *step, name_of_do(node).unwrap_or(""));
+        return add_do(alloc, out, root, *place, name_of_do(node).unwrap_or(""));
     }
-    add_card_words(out, root, plain_value(node, AttrName::Id).unwrap_or(""))
+    let id = plain_value(node, AttrName::Id).unwrap_or("");
+    Ok(write!(
+        out,
+        "An earlier card has the id \"{}\": wml / card[{}]\nIds of cards have to differ.\n",
+        Shown(id),
+        number_of_card(root, id)
+    )?)
 }

@@ -1,9 +1,11 @@
 //! A deck as indented text.
 use crate::decks::names::name_of_tag;
-use crate::decks::texts::{add_attributes, add_value};
-use crate::pieces::{add_all, begin_line};
-use wap_base::{NoMemory, Part, Text};
+use crate::decks::texts::Parts;
+use crate::pieces::{Added, margin};
+use std::fmt::Write;
+use wap_base::Part;
 use wap_tokens::markup::{Deck, Item, LEVEL_LIMIT, Node};
+use wap_tokens::name_of_attr;
 
 /// The rest of a way that leads through the child at a place.
 fn way_through<'a>(mark: Option<&'a [usize]>, place: usize) -> Option<&'a [usize]> {
@@ -14,83 +16,51 @@ fn way_through<'a>(mark: Option<&'a [usize]>, place: usize) -> Option<&'a [usize
 }
 
 /// Begins a line so far inside, with a mark where the way ends.
-fn begin_inside(out: &mut Text, mark: Option<&[usize]>, levels: u32) -> Result<(), NoMemory> {
-    begin_line(out, matches!(mark, Some([])))?;
+fn begin_line(out: &mut String, mark: Option<&[usize]>, levels: u32) -> Added {
+    out.push_str(margin(matches!(mark, Some([]))))?;
     for _ in levels..LEVEL_LIMIT {
-        out.add("  ")?;
+        out.push_str("  ")?;
     }
     Ok(())
 }
 
-/// Whether a text has blanks alone.
-fn is_blank(parts: &[Part]) -> bool {
-    match parts {
-        [Part::Lit(text)] => text.as_str().trim().is_empty(),
-        _ => false,
-    }
-}
-
-fn add_words(
-    out: &mut Text,
-    mark: Option<&[usize]>,
-    levels: u32,
-    parts: &[Part],
-) -> Result<(), NoMemory> {
-    if is_blank(parts) {
+/// Adds a text, but for blanks alone.
+fn add_text(out: &mut String, mark: Option<&[usize]>, levels: u32, parts: &[Part]) -> Added {
+    if matches!(parts, [Part::Lit(text)] if text.as_str().trim().is_empty()) {
         return Ok(());
     }
-    begin_inside(out, mark, levels)?;
-    add_value(out, parts)?;
-    out.add("\n")
+    begin_line(out, mark, levels)?;
+    Ok(write!(out, "{}\n", Parts(parts))?)
 }
 
 /// Adds a node of so many levels.
-#[cycle(nodes)]
-fn add_node(
-    out: &mut Text,
-    mark: Option<&[usize]>,
-    levels: u32,
-    node: &Node,
-) -> Result<(), NoMemory> {
+fn add_node(out: &mut String, mark: Option<&[usize]>, levels: u32, node: &Node) -> Added {
     if levels == 0 {
         return Ok(());
     }
     let name = name_of_tag(node.tag);
-    begin_inside(out, mark, levels)?;
-    add_all(out, &["<", name])?;
-    add_attributes(out, node)?;
-    if node.kids.is_empty() {
-        return out.add("/>\n");
+    begin_line(out, mark, levels)?;
+    write!(out, "<{name}")?;
+    for attr in node.attrs.as_slice() {
+        let value = Parts(attr.1.as_slice());
+        write!(out, " {}=\"{value}\"", name_of_attr(attr.0))?;
     }
-    out.add(">\n")?;
-    add_items(out, mark, levels - 1, node.kids.as_slice())?;
-    begin_inside(out, None, levels)?;
-    add_all(out, &["</", name, ">\n"])
-}
-
-/// Adds items, their nodes of so many levels.
-#[cycle(nodes)]
-fn add_items(
-    out: &mut Text,
-    mark: Option<&[usize]>,
-    levels: u32,
-    items: &[Item],
-) -> Result<(), NoMemory> {
-    for (place, item) in items.iter().enumerate() {
+    if node.kids.is_empty() {
+        return Ok(out.push_str("/>\n")?);
+    }
+    out.push_str(">\n")?;
+    for (place, item) in node.kids.as_slice().iter().enumerate() {
         let inner = way_through(mark, place);
         match item {
-            Item::Text(parts) => add_words(out, inner, levels, parts.as_slice())?,
-            Item::Node(node) => add_node(out, inner, levels, node)?,
+            Item::Text(parts) => add_text(out, inner, levels - 1, parts.as_slice())?,
+            Item::Node(kid) => add_node(out, inner, levels - 1, kid)?,
         }
     }
-    Ok(())
+    begin_line(out, None, levels)?;
+    Ok(write!(out, "</{name}>\n")?)
 }
 
 /// Adds a deck, an element or text a line, with a mark at the end of a way, if there is one.
-pub(crate) fn add_deck(
-    out: &mut Text,
-    deck: &Deck,
-    mark: Option<&[usize]>,
-) -> Result<(), NoMemory> {
+pub(crate) fn add_deck(out: &mut String, deck: &Deck, mark: Option<&[usize]>) -> Added {
     add_node(out, mark, LEVEL_LIMIT, &deck.root)
 }

@@ -1,78 +1,55 @@
 //! The way to an element by its names.
 use crate::decks::names::{name_of_tag, plain_value};
-use crate::pieces::{add_all, add_shown};
-use wap_base::{NoMemory, Text};
+use crate::pieces::Shown;
+use std::fmt;
 use wap_tokens::markup::{AttrName, Item, Node, Tag};
 
-/// How many elements of a tag there are among some items, and how many up to this place.
-fn count_same(items: &[Item], tag: Tag, place: usize) -> (usize, usize) {
-    let mut all = 0usize;
-    let mut own = 0usize;
-    for (number, item) in items.iter().enumerate() {
-        if let Item::Node(node) = item {
-            if node.tag == tag {
-                all = all.saturating_add(1);
-                if number <= place {
-                    own = own.saturating_add(1);
+/// How many elements of a tag there are among some items.
+fn count_of(items: &[Item], tag: Tag) -> usize {
+    let same = |item: &&Item| matches!(item, Item::Node(node) if node.tag == tag);
+    items.iter().filter(same).count()
+}
+
+/// Writes an element's name, with its id, or else its number where there are others of its name.
+fn write_step<W: fmt::Write>(
+    f: &mut fmt::Formatter<W>,
+    kids: &[Item],
+    place: usize,
+    node: &Node,
+) -> fmt::Result {
+    write!(f, " / {}", name_of_tag(node.tag))?;
+    if let Some(id) = plain_value(node, AttrName::Id) {
+        return write!(f, " \"{}\"", Shown(id));
+    }
+    if count_of(kids, node.tag) < 2 {
+        return Ok(());
+    }
+    write!(
+        f,
+        "[{}]",
+        count_of(kids.get(..=place).unwrap_or(kids), node.tag)
+    )
+}
+
+/// The way from the root, as `wml / card "a" / p[2]`.
+#[derive(Clone, Copy)]
+pub(crate) struct Way<'a>(pub(crate) &'a Node, pub(crate) &'a [usize]);
+
+impl fmt::Display for Way<'_> {
+    fn fmt<W: fmt::Write>(&self, f: &mut fmt::Formatter<W>) -> fmt::Result {
+        let mut node = self.0;
+        write!(f, "{}", name_of_tag(node.tag))?;
+        for step in self.1 {
+            let kids = node.kids.as_slice();
+            match kids.get(*step) {
+                None => return Ok(()),
+                Some(Item::Text(_)) => return write!(f, " / text"),
+                Some(Item::Node(inner)) => {
+                    write_step(f, kids, *step, inner)?;
+                    node = inner;
                 }
             }
         }
+        Ok(())
     }
-    (all, own)
-}
-
-/// Adds an element's number among those of its name.
-fn add_number(out: &mut Text, number: usize) -> Result<(), NoMemory> {
-    out.add("[")?;
-    out.add_number(number as u64)?;
-    out.add("]")
-}
-
-/// Adds the way to a child of the root by its name and number.
-pub(crate) fn add_numbered_way(out: &mut Text, root: &Node, place: usize) -> Result<(), NoMemory> {
-    let items = root.kids.as_slice();
-    let Some(Item::Node(node)) = items.get(place) else {
-        return Ok(());
-    };
-    add_all(out, &[name_of_tag(root.tag), " / ", name_of_tag(node.tag)])?;
-    add_number(out, count_same(items, node.tag, place).1)
-}
-
-/// Adds an element's name, with its id or else its number among those of its name.
-fn add_node_step(
-    out: &mut Text,
-    items: &[Item],
-    place: usize,
-    node: &Node,
-) -> Result<(), NoMemory> {
-    out.add(name_of_tag(node.tag))?;
-    if let Some(id) = plain_value(node, AttrName::Id) {
-        out.add(" \"")?;
-        add_shown(out, id)?;
-        return out.add("\"");
-    }
-    let (all, own) = count_same(items, node.tag, place);
-    if all < 2 {
-        return Ok(());
-    }
-    add_number(out, own)
-}
-
-/// Adds the way from the root, as `wml / card "a" / p[2]`.
-pub(crate) fn add_way(out: &mut Text, root: &Node, path: &[usize]) -> Result<(), NoMemory> {
-    out.add(name_of_tag(root.tag))?;
-    let mut node = root;
-    for step in path {
-        let items = node.kids.as_slice();
-        match items.get(*step) {
-            None => return Ok(()),
-            Some(Item::Text(_)) => return add_all(out, &[" / ", "text"]),
-            Some(Item::Node(inner)) => {
-                out.add(" / ")?;
-                add_node_step(out, items, *step, inner)?;
-                node = inner;
-            }
-        }
-    }
-    Ok(())
 }

@@ -1,119 +1,67 @@
 //! The names that are declared in a source, as its tokens tell.
-use crate::sources::tokens::{text_of, token_before};
+use crate::sources::words::Word;
 use std::alloc::Global;
 use wap_base::{NoMemory, Rows};
-use wap_lex::{Kind, Token};
+use wap_lex::Kind;
 
-/// Whether the token before one of a number is this word.
-fn is_behind(source: &[u8], tokens: &[Token], number: usize, word: &str) -> bool {
-    match token_before(tokens, number) {
-        Some(token) => text_of(source, token) == word,
-        None => false,
-    }
-}
-
-/// The names that stand right behind a word.
-pub(crate) fn names_behind(
+/// The names that stand right after a word.
+pub(crate) fn names_after<'a>(
     alloc: Global,
-    source: &[u8],
-    tokens: &[Token],
+    words: &[Word<'a>],
     word: &str,
-) -> Result<Rows<Token>, NoMemory> {
+) -> Result<Rows<Word<'a>>, NoMemory> {
     let mut names = Rows::new(alloc);
-    for (number, token) in tokens.iter().enumerate() {
-        if matches!(token.kind, Kind::Name) && is_behind(source, tokens, number, word) {
-            names.add(*token)?;
+    let mut is_next = false;
+    for name in words {
+        if is_next && matches!(name.kind, Kind::Name) {
+            names.add(*name)?;
         }
+        is_next = name.text == word;
     }
     Ok(names)
 }
 
-/// The number of the word `function` that stands last before a place.
-fn function_before(source: &[u8], tokens: &[Token], at: usize) -> usize {
-    let mut found = 0usize;
-    for (number, token) in tokens.iter().enumerate() {
-        if (token.from as usize) < at && text_of(source, token) == "function" {
-            found = number;
-        }
-    }
-    found
-}
-
-/// Where a reader stands among the tokens of a function.
-#[derive(Drop)]
-struct Reader {
-    /// Whether names behind a comma are declared.
-    in_list: bool,
-    /// How many parentheses are open in the list.
-    depth: usize,
-    /// Whether a name is declared that stands here.
-    is_next: bool,
-}
-
-/// Goes on behind a token. A list of parameters or variables begins with the parenthesis of a
-/// function or with `var`.
-fn go_on(reader: &mut Reader, text: &str, begins: bool) {
-    reader.is_next = false;
-    match text {
-        "var" => {
-            reader.in_list = true;
-            reader.depth = 0;
-            reader.is_next = true;
-        }
-        "(" if begins => {
-            reader.in_list = true;
-            reader.depth = 0;
-            reader.is_next = true;
-        }
-        "(" => reader.depth = reader.depth.saturating_add(1),
-        ")" if reader.depth == 0 => reader.in_list = false,
-        ")" => reader.depth = reader.depth.saturating_sub(1),
-        "," => reader.is_next = reader.in_list && reader.depth == 0,
-        ";" | "{" | "}" => reader.in_list = false,
-        _ => {}
+/// How many parentheses are open in a list of parameters or variables after a word of a function,
+/// if one goes on there, and whether a name is declared there. Lists begin with the parenthesis
+/// of the function or with `var`.
+fn go_on(open: Option<usize>, number: usize, word: &str) -> (Option<usize>, bool) {
+    match (word, open) {
+        ("var", _) => (Some(0), true),
+        ("(", _) if number == 2 => (Some(0), true),
+        ("(", Some(depth)) => (Some(depth.saturating_add(1)), false),
+        (")", Some(depth)) => (depth.checked_sub(1), false),
+        (",", Some(0)) => (open, true),
+        (";" | "{" | "}", _) => (None, false),
+        _ => (open, false),
     }
 }
 
-/// The parameters and variables that a function declares before a place in it.
-pub(crate) fn variables_before(
+/// The parameters and variables that a function declares in the words before a place in it.
+pub(crate) fn variables_in<'a>(
     alloc: Global,
-    source: &[u8],
-    tokens: &[Token],
-    at: usize,
-) -> Result<Rows<Token>, NoMemory> {
+    words: &[Word<'a>],
+) -> Result<Rows<Word<'a>>, NoMemory> {
+    let first = words.iter().rposition(|word| word.text == "function");
     let mut names = Rows::new(alloc);
-    let first = function_before(source, tokens, at);
-    let mut reader = Reader {
-        in_list: false,
-        depth: 0,
-        is_next: false,
-    };
-    for (number, token) in tokens.iter().enumerate().skip(first) {
-        if token.from as usize >= at {
-            return Ok(names);
+    let (mut open, mut is_next) = (None, false);
+    for (number, word) in words.iter().skip(first.unwrap_or(0)).enumerate() {
+        if is_next && matches!(word.kind, Kind::Name) {
+            names.add(*word)?;
         }
-        if reader.is_next && matches!(token.kind, Kind::Name) {
-            names.add(*token)?;
-        }
-        let begins = number == first.saturating_add(2);
-        go_on(&mut reader, text_of(source, token), begins);
+        (open, is_next) = go_on(open, number, word.text);
     }
     Ok(names)
 }
 
 /// How many parameters a function has whose name begins at a place.
-pub(crate) fn parameter_count(source: &[u8], tokens: &[Token], at: usize) -> usize {
+pub(crate) fn parameter_count(words: &[Word<'_>], at: usize) -> usize {
     let mut count = 0usize;
-    for token in tokens {
-        if token.from as usize > at {
-            match text_of(source, token) {
-                ")" => return count,
-                _ => {
-                    if matches!(token.kind, Kind::Name) {
-                        count = count.saturating_add(1);
-                    }
-                }
-            }
+    for word in words.iter().filter(|word| word.from > at) {
+        if word.text == ")" {
+            return count;
+        }
+        if matches!(word.kind, Kind::Name) {
+            count = count.saturating_add(1);
         }
     }
     count

@@ -1,17 +1,27 @@
 //! The listing of a unit, with what its operands name behind each instruction.
-use crate::pieces::begin_line;
+use crate::pieces::{Added, margin};
 use crate::units::kept::nothing_kept;
 use crate::units::notes::add_note;
-use crate::units::places::{Part, code_of, first_line, instruction_at, is_of_byte, read_line};
 use std::alloc::Global;
+use std::fmt::Write;
 use std::str;
-use wap_base::{Bytes, NoMemory, Text};
+use wap_asm::{read_row, row_of};
+use wap_base::{Bytes, NoMemory};
 use wap_devices::Failed;
 use wap_dis::listing;
-use wap_unit::Unit;
+use wap_unit::{Instr, Row, Unit};
 
-/// How many lines stand before the one with the mark, and behind it.
+/// How many lines stand before the one with the mark, and after it.
 const AROUND: usize = 8;
+
+/// The line that is to be marked.
+#[derive(Drop)]
+pub(crate) struct Mark {
+    /// How many functions are begun there.
+    pub(crate) functions: usize,
+    /// How it begins.
+    pub(crate) beginning: String,
+}
 
 /// The listing that `list` writes.
 fn listing_of(alloc: Global, unit: &Unit) -> Result<Bytes, NoMemory> {
@@ -22,74 +32,53 @@ fn listing_of(alloc: Global, unit: &Unit) -> Result<Bytes, NoMemory> {
     }
 }
 
-/// Adds what the operands of the instruction name that a line shows.
-fn add_note_of(out: &mut Text, unit: &Unit, line: &str, part: Part) -> Result<(), NoMemory> {
-    let Part::Code(function, at) = part else {
-        return Ok(());
-    };
-    if is_of_byte(line) {
-        return Ok(());
-    }
-    match instruction_at(code_of(unit, function), at) {
-        Some((row, instr)) => add_note(out, unit, &row, &instr, at),
-        None => Ok(()),
-    }
+/// How many functions are begun at a line, where there were so many before it.
+fn functions_at(functions: usize, line: &str) -> usize {
+    functions.saturating_add(usize::from(line.starts_with("function ")))
 }
 
-/// Adds a line, and behind it what the operands of its instruction name.
-fn add_line(
-    out: &mut Text,
-    unit: &Unit,
-    line: &str,
-    part: Part,
-    marked: bool,
-) -> Result<(), NoMemory> {
-    begin_line(out, marked)?;
-    out.add(line)?;
-    add_note_of(out, unit, line, part)?;
-    out.add("\n")
+/// The instruction that a line shows, with its row and its place, by which the line begins.
+fn instruction_of(unit: &Unit, functions: usize, line: &str) -> Option<(Row, Instr, usize)> {
+    let code = unit
+        .functions
+        .get(functions.checked_sub(1)?)?
+        .code
+        .as_slice();
+    let (place, rest) = line.split_once(' ')?;
+    let at = place.parse::<usize>().ok()?;
+    if at >= code.len() || rest.starts_with("BYTE ") {
+        return None;
+    }
+    let row = row_of(code[at])?;
+    Some((row, read_row(row, code, at).ok()?, at))
 }
 
-/// The number of the line that shows a part.
-fn line_of(unit: &Unit, text: &str, part: Part) -> usize {
-    let mut reader = first_line();
+/// The number of the line that is to be marked.
+fn find_mark(text: &str, mark: &Mark) -> Option<usize> {
+    let mut functions = 0;
     for (number, line) in text.lines().enumerate() {
-        if read_line(&mut reader, unit, line) == part {
-            return number;
+        functions = functions_at(functions, line);
+        if functions == mark.functions && line.starts_with(mark.beginning.as_str()) {
+            return Some(number);
         }
     }
-    0
+    None
 }
 
-/// Adds the whole listing.
-pub(crate) fn add_unit(alloc: Global, out: &mut Text, unit: &Unit) -> Result<(), NoMemory> {
+/// Adds the listing, or where there is a line to be marked those around it.
+pub(crate) fn add_unit(alloc: Global, out: &mut String, unit: &Unit, mark: Option<&Mark>) -> Added {
     let kept = listing_of(alloc, unit)?;
     let text = str::from_utf8(kept.as_slice()).unwrap_or("");
-    let mut reader = first_line();
-    for line in text.lines() {
-        let part = read_line(&mut reader, unit, line);
-        add_line(out, unit, line, part, false)?;
-    }
-    Ok(())
-}
-
-/// Adds the lines of the listing around the one that shows a part, with a mark there.
-pub(crate) fn add_unit_around(
-    alloc: Global,
-    out: &mut Text,
-    unit: &Unit,
-    part: Part,
-) -> Result<(), NoMemory> {
-    let kept = listing_of(alloc, unit)?;
-    let text = str::from_utf8(kept.as_slice()).unwrap_or("");
-    let marked = line_of(unit, text, part);
-    let mut reader = first_line();
+    let marked = mark.and_then(|mark| find_mark(text, mark));
+    let mut functions = 0;
     for (number, line) in text.lines().enumerate() {
-        let shown = read_line(&mut reader, unit, line);
-        let is_near = number.saturating_add(AROUND) >= marked
-            && number <= marked.saturating_add(AROUND);
-        if is_near {
-            add_line(out, unit, line, shown, shown == part)?;
+        functions = functions_at(functions, line);
+        if mark.is_none() || number.abs_diff(marked.unwrap_or(0)) <= AROUND {
+            write!(out, "{}{line}", margin(marked == Some(number)))?;
+            if let Some((row, instr, at)) = instruction_of(unit, functions, line) {
+                add_note(out, unit, &row, &instr, at)?;
+            }
+            out.push_str("\n")?;
         }
     }
     Ok(())

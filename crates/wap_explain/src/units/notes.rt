@@ -1,118 +1,87 @@
 //! What operands of an instruction name, in words.
-use crate::pieces::{add_all, add_shown, add_shown_bytes};
-use wap_base::{NoMemory, Text};
+use crate::pieces::{Added, Shown, ShownBytes};
+use std::fmt::Write;
+use wap_base::Text;
 use wap_unit::{After, Constant, Instr, LIBRARY, Operands, Row, Unit};
 
-/// Adds a number with its sign.
-fn add_signed(out: &mut Text, number: i32) -> Result<(), NoMemory> {
-    if number < 0 {
-        out.add("-")?;
-    }
-    out.add_number(u64::from(number.unsigned_abs()))
-}
-
-/// Adds a text as a literal.
-fn add_quoted(out: &mut Text, text: &str) -> Result<(), NoMemory> {
-    out.add("'")?;
-    add_shown(out, text)?;
-    out.add("'")
-}
-
-/// Adds a constant as a literal.
-fn add_literal(out: &mut Text, constant: &Constant) -> Result<(), NoMemory> {
-    match constant {
-        Constant::Int8(number) => add_signed(out, i32::from(*number)),
-        Constant::Int16(number) => add_signed(out, i32::from(*number)),
-        Constant::Int32(number) => add_signed(out, *number),
-        Constant::Float(_) => out.add("a Float"),
-        Constant::Utf8(text) => add_quoted(out, text.as_str()),
-        Constant::Empty => out.add("''"),
-        Constant::Coded(text) => {
-            out.add("'")?;
-            add_shown_bytes(out, text.as_slice())?;
-            out.add("'")
-        }
-    }
-}
-
-/// Adds the constant of an index.
-fn add_constant(out: &mut Text, unit: &Unit, index: u32) -> Result<(), NoMemory> {
-    match unit.constants.as_slice().get(index as usize) {
-        Some(constant) => add_literal(out, constant),
-        None => out.add("no constant"),
-    }
+/// Adds the constant of an index as a literal.
+fn add_constant(out: &mut String, unit: &Unit, index: u32) -> Added {
+    Ok(match unit.constants.get(index as usize) {
+        None => out.push_str("no constant")?,
+        Some(Constant::Int8(number)) => write!(out, "{number}")?,
+        Some(Constant::Int16(number)) => write!(out, "{number}")?,
+        Some(Constant::Int32(number)) => write!(out, "{number}")?,
+        Some(Constant::Float(_)) => out.push_str("a Float")?,
+        Some(Constant::Utf8(text)) => write!(out, "'{}'", Shown(text.as_str()))?,
+        Some(Constant::Empty) => out.push_str("''")?,
+        Some(Constant::Coded(text)) => write!(out, "'{}'", ShownBytes(text.as_slice()))?,
+    })
 }
 
 /// The first name of a function.
-pub(crate) fn name_of_function(unit: &Unit, index: usize) -> Option<&Text> {
-    for name in unit.names.as_slice() {
-        if usize::from(name.0) == index {
-            return Some(&name.1);
-        }
-    }
-    None
+pub(crate) fn name_of_function(unit: &Unit, index: u32) -> Option<&Text> {
+    let name = unit
+        .names
+        .as_slice()
+        .iter()
+        .find(|name| u32::from(name.0) == index);
+    name.map(|name| &name.1)
 }
 
 /// Adds a function by its name, or as one that has none.
-pub(crate) fn add_function(out: &mut Text, unit: &Unit, index: usize) -> Result<(), NoMemory> {
-    match name_of_function(unit, index) {
-        Some(name) => add_shown(out, name.as_str()),
-        None if index < unit.functions.len() => out.add("a function without a name"),
-        None => out.add("no function"),
-    }
+fn add_function(out: &mut String, unit: &Unit, index: u32) -> Added {
+    Ok(match name_of_function(unit, index) {
+        Some(name) => write!(out, "{}", Shown(name.as_str()))?,
+        None if (index as usize) < unit.functions.len() => {
+            out.push_str("a function without a name")?;
+        }
+        None => out.push_str("no function")?,
+    })
 }
 
 /// Adds a function of a library by its names.
-fn add_library(out: &mut Text, library: u32, function: u32) -> Result<(), NoMemory> {
+fn add_library(out: &mut String, library: u32, function: u32) -> Added {
     for row in &LIBRARY {
         if u32::from(row.0) == library && u32::from(row.1) == function {
-            return add_all(out, &[row.3, ".", row.4]);
+            return Ok(write!(out, "{}.{}", row.3, row.4)?);
         }
     }
-    out.add("no function of a library")
+    Ok(out.push_str("no function of a library")?)
 }
 
 /// Adds where a jump goes to, by the place in the code.
-fn add_target(out: &mut Text, row: &Row, instr: &Instr, at: usize) -> Result<(), NoMemory> {
+fn add_target(out: &mut String, row: &Row, instr: &Instr, at: usize) -> Added {
     let distance = instr.a as usize;
     let target = match row.after {
         After::Forward | After::ForwardOrOn => instr.next.saturating_add(distance),
         After::Backward | After::BackwardOrOn => at.saturating_sub(distance),
         After::On | After::Pair | After::Leave => return Ok(()),
     };
-    out.add("  to ")?;
-    out.add_number(target as u64)
+    Ok(write!(out, "  to {target}")?)
 }
 
-/// Adds what the operands of an instruction at a place name, behind two spaces, if they name
+/// Adds what the operands of an instruction at a place name, after two spaces, if they name
 /// anything.
 pub(crate) fn add_note(
-    out: &mut Text,
+    out: &mut String,
     unit: &Unit,
     row: &Row,
     instr: &Instr,
     at: usize,
-) -> Result<(), NoMemory> {
+) -> Added {
     match row.operands {
-        Operands::Plain => add_target(out, row, instr, at),
-        Operands::Variable => Ok(()),
-        Operands::Constant => {
-            out.add("  ")?;
-            add_constant(out, unit, instr.a)
-        }
-        Operands::Function => {
-            out.add("  ")?;
-            add_function(out, unit, instr.a as usize)
-        }
-        Operands::Library => {
-            out.add("  ")?;
-            add_library(out, instr.b, instr.a)
-        }
+        Operands::Plain => return add_target(out, row, instr, at),
+        Operands::Variable => return Ok(()),
+        _ => out.push_str("  ")?,
+    }
+    match row.operands {
+        Operands::Function => add_function(out, unit, instr.a),
+        Operands::Library => add_library(out, instr.b, instr.a),
         Operands::Address => {
-            out.add("  ")?;
             add_constant(out, unit, instr.a)?;
-            out.add("#")?;
+            out.push_str("#")?;
             add_constant(out, unit, instr.b)
         }
+        _ => add_constant(out, unit, instr.a),
     }
 }

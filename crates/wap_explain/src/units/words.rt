@@ -26,7 +26,7 @@ pub(crate) fn unit_words(fault: UnitFault) -> (usize, &'static str) {
 }
 
 /// The function and the place of a fault in its code, where it has them.
-pub(crate) fn place_of(fault: VerifyFault) -> Option<(usize, usize)> {
+pub(crate) fn place_of(fault: VerifyFault) -> Option<(u8, usize)> {
     match fault {
         VerifyFault::Opcode { function, at }
         | VerifyFault::Operand { function, at }
@@ -37,7 +37,7 @@ pub(crate) fn place_of(fault: VerifyFault) -> Option<(usize, usize)> {
         | VerifyFault::LoneShort { function, at }
         | VerifyFault::Target { function, at }
         | VerifyFault::Underflow { function, at }
-        | VerifyFault::Depths { function, at, .. } => Some((usize::from(function), at)),
+        | VerifyFault::Depths { function, at, .. } => Some((function, at)),
         VerifyFault::Pragma { .. } | VerifyFault::NoMemory => None,
     }
 }
