@@ -1,76 +1,37 @@
 //! A program that calls the browser: it has pages of its own in memory, plays the keys of a user in
-//! a session over them, answers the dialog of a script, and shows the lines; and it follows an
-//! indication that is pushed. docs/CALLING.md goes through it.
+//! a session over them, answers the dialog of a script, and shows the lines; it follows an
+//! indication that is pushed; and then it plays the lines that a user types, over a folder with a
+//! page of its own before it. docs/CALLING.md goes through it.
 #![tactic(auto)]
 
 ghost use Rattle.std.specs.Prelude.{◌≡◌};
 ghost use Rattle.wap_session.specs.Feeding.{beginning};
 ghost use Rattle.wap_calling.specs.Calling.{begun};
 
-mod inbox;
+mod front;
+mod own;
 mod shelf;
 mod site;
+mod stopped;
 mod terminal;
+mod typing;
 
-use inbox::{new_handset, visit_with_inbox};
+use front::Front;
+use own::{HELLO, PUSHED, own_pages};
 use shelf::Shelf;
 use site::are_site_pages;
 use std::alloc::Global;
-use std::io;
 use std::process::ExitCode;
+use std::{env, io};
+use stopped::Stopped;
 use terminal::{accept_dialog, new_session, visit};
+use typing::{Typed, type_line};
 use wap_base::{Bytes, NoMemory, Text};
+use wap_devices::PAGE_LIMIT;
 use wap_layout::buffer::Lines;
-use wap_pages::{PageErr, judge};
-use wap_session::{Key, Session, SessionFault};
-use wap_world::site::Page;
-
-/// A card that greets, and whose do calls the script:
-///
-///     <wml><card title="Hello">
-///     <do type="accept" name="ask"><go href="ask.wmlsc#ask()"/></do>
-///     <p>You are $(who).</p></card></wml>
-static HELLO: &[u8] = b"\x01\x0a\x6a\x04who\x00\x7f\xe7\x36\x03Hello\x00\x01\xe8\x38\x21\x03ask\x00\
-    \x01\xab\x4a\x03ask.wmlsc#ask()\x00\x01\x01\x60\x03You are \x00\x82\x00\x03.\x00\x01\x01\x01";
-
-/// A script that asks for a name, compiled:
-///
-///     extern function ask() { WMLBrowser.setVar("who", Dialogs.prompt("Who?", "Ann")); }
-static ASK: &[u8] = b"\x01\x25\x03\x6a\x04\x03who\x04\x04Who?\x04\x03Ann\x00\x01\x01\x00\x03ask\
-    \x00\x00\x08\x50\x51\x52\x68\x05\x69\x04\x37";
-
-/// A service indication of the card that greets, as it is pushed:
-///
-///     <si><indication href="http://h/hello.wmlc"
-///     created="1999-06-25T00:00:00Z">New</indication></si>
-static PUSHED: &[u8] = b"\x02\x05\x6a\x00\x45\xc6\x0c\x03h/hello.wmlc\x00\x0a\xc3\x04\x19\x99\x06\
-    \x25\x01\x03New\x00\x01\x01";
-
-/// The page of a name with these bytes. One that is none counts as refused, as in a folder.
-fn page_of(alloc: Global, name: &Text, bytes: &[u8]) -> Result<Page, NoMemory> {
-    if bytes.len() > i32::MAX as usize {
-        return Ok(Page::Refused);
-    }
-    match judge(alloc, name, bytes) {
-        Ok(page) => Ok(page),
-        Err(PageErr::Refused(_)) => Ok(Page::Refused),
-        Err(PageErr::NoMemory) => Err(NoMemory),
-    }
-}
-
-/// The page of these bytes, with the name that its URL has without `http://`.
-fn named_page(alloc: Global, name: &str, bytes: &[u8]) -> Result<(Text, Page), NoMemory> {
-    let name = Text::of(alloc, name)?;
-    let page = page_of(alloc, &name, bytes)?;
-    Ok((name, page))
-}
-
-fn own_pages(alloc: Global) -> Result<Vec<(Text, Page)>, NoMemory> {
-    let mut pages = Vec::new(alloc);
-    pages.push(named_page(alloc, "h/hello.wmlc", HELLO)?)?;
-    pages.push(named_page(alloc, "h/ask.wmlsc", ASK)?)?;
-    Ok(pages)
-}
+use wap_pages::Cached;
+use wap_session::{Key, Session};
+use wap_system::FolderStore;
 
 /// What a user does: opens the first page, and takes its do.
 fn first_keys(alloc: Global) -> Result<Vec<Key>, NoMemory> {
@@ -94,34 +55,6 @@ fn show<R: Print>(rt: &R, lines: &Lines) -> io::Result<()> {
         println!(rt; "{}", line)?;
     }
     Ok(())
-}
-
-/// Why nothing more is shown.
-enum Stopped {
-    /// Names that stand twice, or a page that is missing.
-    NoSite,
-    /// A page couldn't be fetched, or memory ran out.
-    Session,
-    /// The lines couldn't be written.
-    Output,
-}
-
-impl From<NoMemory> for Stopped {
-    fn from(_fault: NoMemory) -> Stopped {
-        Stopped::Session
-    }
-}
-
-impl From<SessionFault> for Stopped {
-    fn from(_fault: SessionFault) -> Stopped {
-        Stopped::Session
-    }
-}
-
-impl From<io::Error> for Stopped {
-    fn from(_error: io::Error) -> Stopped {
-        Stopped::Output
-    }
 }
 
 /// The pages, where no name stands twice and none is missing.
@@ -175,9 +108,9 @@ fn own_lines(alloc: Global) -> Result<(Lines, Lines), Stopped> {
 /// The lines of the keys of an inbox over the program's own pages.
 fn inbox_lines(alloc: Global) -> Result<Lines, Stopped> {
     let mut shelf = own_shelf(alloc)?;
-    let mut handset = new_handset(alloc);
+    let mut session = new_session(alloc);
     let keys = inbox_keys(alloc)?;
-    Ok(visit_with_inbox(alloc, &mut handset, keys.as_slice(), &mut shelf)?)
+    Ok(visit(alloc, &mut session, keys.as_slice(), &mut shelf)?)
 }
 
 /// Plays a session, and shows its lines.
@@ -195,10 +128,52 @@ fn play_inbox<R: Print + AllocGlobal>(rt: &R) -> Result<(), Stopped> {
     Ok(())
 }
 
-/// Plays the session and the keys of the inbox, and shows their lines.
-fn play_all<R: Print + AllocGlobal>(rt: &R) -> Result<(), Stopped> {
+/// The pages of a folder, with the card that greets before them.
+fn folder_pages(
+    rt: &HostRuntime,
+    folder: String,
+) -> Result<Cached<Front<FolderStore<HostRuntime>>>, Stopped> {
+    let alloc = rt.alloc();
+    let folder = FolderStore::new(rt.clone()?, folder);
+    let page = Bytes::of(alloc, HELLO)?;
+    if page.len() >= PAGE_LIMIT {
+        return Err(Stopped::NoSite);
+    }
+    let front = Front::new(alloc, Text::of(alloc, "h/hello.wmlc")?, page, folder);
+    match Cached::new(alloc, front, 16) {
+        Ok(pages) => Ok(pages),
+        Err((_, NoMemory)) => Err(Stopped::Session),
+    }
+}
+
+/// Plays each line of standard input as it is typed, over a folder, and shows what it came to.
+fn play_typed(rt: &HostRuntime, folder: String) -> Result<(), Stopped> {
+    let mut pages = folder_pages(rt, folder)?;
+    let mut session = new_session(rt.alloc());
+    for line in rt.lines(rt.alloc()) {
+        let line = line?;
+        match type_line(rt.alloc(), &mut session, line.as_bytes(), &mut pages)? {
+            Typed::Shown(lines) => show(rt, &lines)?,
+            Typed::Wrong(fault) => println!(rt; "{line}: {fault}")?,
+        }
+    }
+    Ok(())
+}
+
+/// The folder that an argument names, if one does.
+fn named_folder(rt: &HostRuntime) -> Option<String> {
+    env::args(rt).ok()?.nth(1)
+}
+
+/// Plays the session, the keys of the inbox and, where a folder is named, the lines that are typed,
+/// and shows their lines.
+fn play_all(rt: &HostRuntime) -> Result<(), Stopped> {
     play(rt)?;
-    play_inbox(rt)
+    play_inbox(rt)?;
+    match named_folder(rt) {
+        Some(folder) => play_typed(rt, folder),
+        None => Ok(()),
+    }
 }
 
 fn main(rt: HostRuntime) -> ExitCode {

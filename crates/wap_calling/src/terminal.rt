@@ -1,7 +1,8 @@
 //! A session over pages of one's own: what a caller gets.
 ghost use Rattle.std.specs.Prelude.{◌≡◌, ◌∷◌, [], true, false, is_some, IfOk, OnOk, Ok};
 ghost use Rattle.wap_base.specs.declared.key.Key.TheVariants.{Answer};
-ghost use Rattle.wap_world.specs.Sessions.{shown, played, world_of};
+ghost use Rattle.wap_push.specs.Pushes.{push_at};
+ghost use Rattle.wap_world.specs.Sessions.{shown_by, world_of, unpushed, played};
 ghost use Rattle.wap_world.specs.site.Asking.{MayBe};
 ghost use Rattle.wap_world.specs.site.Pages.{Pages as JudgedPages};
 ghost use Rattle.wap_world.specs.scripting.UnitSites.{unit_pages};
@@ -40,10 +41,12 @@ pub fn visit<P: Pages>(
 ) -> Result<Lines, SessionFault>
     requires new { session.now ≡ beginning begun }
     ensures shown { IfOk result (λ lines. (judged : JudgedPages) → MayBe (P.seen pages.new) judged
-        → lines ≡ shown (site_of (unit_pages judged)) keys.now (world_of begun)) }
+        → lines ≡ shown_by (played push_at (site_of (unit_pages judged)) keys.now
+        (unpushed (world_of begun))).step) }
     ensures waits { OnOk result ((judged : JudgedPages) → MayBe (P.seen pages.new) judged
         → is_some session.new.waiting
-        ≡ (played (site_of (unit_pages judged)) keys.now (world_of begun)).is_open) }
+        ≡ (played push_at (site_of (unit_pages judged)) keys.now
+        (unpushed (world_of begun))).step.is_open) }
 {
     session.play(alloc, keys, pages)
 }

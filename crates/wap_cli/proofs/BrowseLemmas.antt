@@ -5,6 +5,5 @@ pub mod Counting
 pub mod Going
 pub mod Stopped
 pub mod Exits
-pub mod Summary
 pub mod Forgetting
 pub mod Unpushed

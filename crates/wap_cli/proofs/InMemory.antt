@@ -1,18 +1,17 @@
--- What is said of browsing over all that may have been is said over devices in memory of exactly
--- what they hold.
+-- Over devices in memory what is said of all that may have been is said of exactly what they hold.
 use Rattle.std.proofs.Common.{◌≡◌, ℕ, List, [], ◌∷◌, ◌++◌, refl, sym, ap, subst, ◌∙◌}
 use Rattle.std.proofs.lemmas.List.{append_cancel_left}
 use Rattle.wap_base.specs.Contents.{Contents}
-use Rattle.wap_devices.specs.Stores.{Known, Agrees, Grew}
+use Rattle.wap_devices.specs.Stores.{Known, Fits, Agrees, Grew}
 use Rattle.wap_devices.specs.Sources.{Coming, Left, Unknown, MayCome}
 use Rattle.wap_devices.proofs.Telling.{held_still}
-use Rattle.wap_keys.proofs.GivingLaws.{held_gives, once_ended}
+use Rattle.wap_keys.proofs.GivingLaws.{may_split, held_gives, once_ended}
 use Rattle.wap_world.specs.Sessions.{Begun}
+use Rattle.wap_site_laws.specs.pages.SourcePages.{ArePages}
 use Rattle.wap_cli.specs.declared.status.Status.{Status}
-use Rattle.wap_cli.specs.Devices.{Devices, uncached}
-use Rattle.wap_cli.specs.Browsing.{ArePagesAndCalls, opened_over, BrowsesOver}
-use Rattle.wap_cli.specs.InMemory.{HoldAll, AreHeld, BrowsesHeld}
-use Rattle.wap_cli.proofs.Sourcing.{reads_too}
+use Rattle.wap_cli.specs.Devices.{Devices}
+use Rattle.wap_cli.specs.Browsing.{BrowsesOver}
+use Rattle.wap_cli.specs.InMemory.{HoldAll, AreBrowsed}
 
 -- what is to come of a source that held these bytes is what follows those that it gave
 left_of : (taken bytes rest : List ℕ) (coming : Coming)
@@ -25,31 +24,37 @@ left_of taken bytes rest Unknown came split =
     append_cancel_left taken [] (0 ∷ []) (sym (came [] tt) ∙ came (0 ∷ []) tt) in
     absurd cc
 
--- so over these devices exactly these bytes are read, and these contents browsed
-pub browses_held : (begun : Begun) (capacity : ℕ) (contents : Contents) (bytes : List ℕ)
+-- so exactly these bytes are read, and these contents browsed
+pub held_are_browsed : (begun : Begun) (capacity : ℕ) (contents : Contents) (bytes : List ℕ)
     (old new : Devices) (status : Status) → HoldAll contents bytes old
-    → BrowsesOver begun capacity old new status
-    → BrowsesHeld begun capacity contents bytes old new status
-browses_held begun capacity contents bytes old new status holds so =
-    let (taken, few, gives) = so.browses.few in
+    → BrowsesOver begun capacity old new status → AreBrowsed contents bytes old new
+held_are_browsed begun capacity contents bytes old new status holds so =
+    let reads = so.browses.reads in
+    let taken = so.browses.taken in
     let held = held_still contents new.store.known
     (subst (λ (known : Known). Grew known new.store.known) holds.held so.browses.stays.known) in
     let agrees : Agrees new.store.known contents =
     subst (λ (known : Known). Agrees known contents) (sym held)
     (record { distinct = holds.distinct; fits = refl }) in
-    let may = held_gives taken bytes old.source new.source gives holds.left
-    (once_ended old.source new.source holds.low so.browses.end_once) in
-    let reads = reads_too (ArePagesAndCalls new.store) (opened_over begun) (AreHeld contents)
-    (opened_over begun) (λ one (are, calls). (one, (contents, agrees, are, calls), refl))
-    (uncached capacity old) (uncached capacity new) status bytes (so.browses.reads bytes may) in
-    let same =
-    append_cancel_left old.source.given taken reads.taken (sym gives.given ∙ reads.given_is) in
+    let may = held_gives taken bytes old.source new.source reads.takes holds.left
+    (once_ended old.source new.source holds.low reads.end_once) in
+    let split = may_split old.source new.source taken bytes reads.takes may in
+    let left = left_of taken bytes may.rest new.source.coming
+    (λ others came. subst (λ (coming : Coming). MayCome coming (taken ++ others)) holds.left
+    (reads.takes.coming others came)) split in
     record {
-      reads = reads;
       held = held;
-      left = left_of taken bytes reads.rest new.source.coming
-          (λ others came. subst (λ (coming : Coming). MayCome coming (taken ++ others)) holds.left
-          (gives.coming others came))
-          (reads.split ∙ ap (λ (l : List ℕ). l ++ reads.rest) (sym same));
-      denied = λ is_open is. so.denied is_open is bytes may;
+      pages = λ one (are, calls). (contents, agrees, are, calls);
+      no_others = λ one (others, agree, are, calls). (
+        subst (λ (c : Contents). ArePages c one.pages)
+            (sym (subst (λ (known : Known). Fits known others) held agree.fits)) are,
+        calls,
+      );
+      may = may;
+      left = left;
+      only = λ others gives.
+          may_split old.source new.source taken others reads.takes gives
+          ∙ ap (λ (l : List ℕ). taken ++ l)
+          (sym (subst (λ (coming : Coming). MayCome coming gives.rest) left gives.coming))
+          ∙ sym split;
     }

@@ -1,4 +1,5 @@
 pub mod MemoryLemmas
+pub mod Writing
 pub mod Answering
 pub mod Serving
 pub mod Calling

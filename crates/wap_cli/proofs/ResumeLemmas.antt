@@ -7,5 +7,4 @@ pub mod Ending
 pub mod Lasting
 pub mod Over
 pub mod Budgets
-pub mod Walking
 pub mod Leading

@@ -1,31 +1,34 @@
 -- What a run comes to where memory runs out before anything is done.
-use Rattle.std.proofs.Common.{◌≢◌, ℕ, List, Option, Some, None, Ok, Err, inl, inr, refl, arith}
+use Rattle.std.proofs.Common.{◌≡◌, ℕ, false, List, Option, Some, None, Ok, Err, inl, inr}
+use Rattle.std.proofs.Common.{refl, subst, arith}
+use Rattle.std.specs.Prelude.{Result}
 use Rattle.wap_devices.specs.Sinks.{SinkSeen}
 use Rattle.wap_keys.specs.declared.words.words.Command.{Command}
 use Rattle.wap_keys.specs.declared.words.words.Command.TheVariants.{Browse, Image, Resume, Page}
 use Rattle.wap_keys.specs.declared.words.words.Command.TheVariants.{Prepare, Make, Replay}
 use Rattle.wap_keys.specs.declared.words.words.PageCommand.{PageCommand}
 use Rattle.wap_cli.specs.declared.status.Status.{Status}
-use Rattle.wap_cli.specs.declared.status.Status.TheVariants.{Done, Usage, Refused, StoreFault}
-use Rattle.wap_cli.specs.declared.status.Status.TheVariants.{KeyReadFault, WriteFault, NoMemory}
-use Rattle.wap_cli.specs.declared.status.Status.TheVariants.{BadKey, OpenDialog, TooManyKeys}
+use Rattle.wap_cli.specs.declared.status.Status.TheVariants.{Refused, StoreFault, NoMemory}
 use Rattle.wap_devices.specs.Stores.{StoreSeen, Fetches}
 use Rattle.wap_devices.specs.declared.store.Fetched.{Fetched}
+use Rattle.wap_devices.specs.declared.store.StoreErr.{StoreErr}
 use Rattle.wap_devices.specs.declared.store.StoreErr.TheVariants as store_error
+use Rattle.wap_pages.specs.declared.fault.PageFault.{PageFault}
 use Rattle.wap_devices.proofs.Telling.{grew_nothing}
 use Rattle.wap_cli.specs.browse.Plays.{opened}
 use Rattle.wap_cli.proofs.BrowseLemmas.Exits.{nothing_browses}
-use Rattle.wap_cli.proofs.BrowseLemmas.Summary.{browses_by}
 use Rattle.wap_cli.proofs.MemoryLemmas.Pages.{reason_remembers}
 use Rattle.wap_cli.proofs.ResumeLemmas.Fetching.{found_page, asked_grew}
 use Rattle.wap_cli.proofs.ResumeLemmas.Going.{nothing_imaged, nothing_resumed}
 use Rattle.wap_cli.specs.prepare.Preparing.{Reports}
 use Rattle.wap_cli.proofs.PrepareLemmas.Ending.{nothing_done}
-use Rattle.wap_cli.proofs.MadeLemmas.Ending.{nothing_made}
 use Rattle.wap_cli.proofs.ReplayLemmas.Over.{nothing_replayed}
-use Rattle.wap_cli.specs.Answers.{IsOfPage, Answers, page_of}
+use Rattle.wap_cli.specs.Answers.{IsReasonOf, Answers, page_of}
+use Rattle.wap_cli.specs.Memory.{is_of_memory}
+use Rattle.wap_cli.specs.Writing.{Writes}
+use Rattle.wap_cli.proofs.Writing.{writes_unrefused}
 use Rattle.wap_cli.specs.Devices.{Devices, uncached, around}
-use Rattle.wap_cli.specs.Headline.{begun_by, each_begun_by, IsAnswer, Serves, ServesUnread, Runs}
+use Rattle.wap_cli.specs.Headline.{begun_by, each_begun_by, ServesTo, Serves, ServesUnread, Runs}
 use Rattle.wap_cli.proofs.Sourcing.{browses_over}
 use Rattle.wap_cli.proofs.SourcedSessions.{images_over, resumes_over}
 use Rattle.wap_cli.proofs.SourcedLists.{replays_over}
@@ -34,21 +37,12 @@ nothing_served : (command : PageCommand) (name : List ℕ) (old : Devices)
     → ServesUnread command name old old NoMemory
 nothing_served command name old = record {
   serves = record {
-    page = λ read remembered. absurd (remembered refl);
-    ends = tt;
+    ends = ServesTo.no_memory refl;
     of_reason = λ fault e. absurd cc;
-    store_fault = λ e. absurd cc;
-    write_fault = λ e. absurd cc;
-    unwritten = λ undone other. refl;
-    store_steady = λ read remembered. refl;
-    write_steady = λ e. refl;
-    complete = λ store sink. inr (inr refl);
-    asked = λ other. absurd (other refl);
     once = inl refl;
     listings = refl;
     kept = grew_nothing old.store.known old.store.known refl;
-    store_counts = omega arith;
-    write_counts = omega arith;
+    counts = omega arith;
   };
   unread = refl;
 }
@@ -57,8 +51,7 @@ pub nothing_runs : (said : Option Command) (old : Devices) → Runs said old old
 nothing_runs None old = record { ends = inr refl; untouched = refl }
 nothing_runs (Some (Browse one)) old =
     browses_over (begun_by one) one.cache old old NoMemory
-    (browses_by (opened (begun_by one)) (uncached one.cache old) (uncached one.cache old) NoMemory
-    (nothing_browses (opened (begun_by one)) (uncached one.cache old)))
+    (nothing_browses (opened (begun_by one)) (uncached one.cache old))
 nothing_runs (Some (Image one)) old =
     images_over one.cache old old NoMemory (begun_by one)
     (nothing_imaged (begun_by one) (uncached one.cache old))
@@ -72,93 +65,65 @@ nothing_runs (Some (Prepare workers)) old =
       unread = refl;
     }
 nothing_runs (Some (Make n)) old =
-    record { makes = nothing_made n old.sink; unasked = refl; unread = refl }
+    record { makes = Writes.no_memory refl; unasked = refl; unread = refl }
 nothing_runs (Some (Replay one)) old =
     replays_over (each_begun_by one) old old NoMemory
     (nothing_replayed (each_begun_by one) (around old))
 
 -- ---- what the store answered
 
--- a status of a command on one page that is no fault
-is_answer : (status : Status) → IsOfPage status → status ≢ StoreFault → status ≢ WriteFault
-    → IsAnswer status
-is_answer Done of_page store sink = inl refl
-is_answer Usage of_page store sink = absurd of_page
-is_answer (Refused fault) of_page store sink = inr (inl (fault, refl))
-is_answer StoreFault of_page store sink = absurd (store refl)
-is_answer KeyReadFault of_page store sink = absurd of_page
-is_answer WriteFault of_page store sink = absurd (sink refl)
-is_answer NoMemory of_page store sink = inr (inr refl)
-is_answer (BadKey line fault) of_page store sink = absurd of_page
-is_answer OpenDialog of_page store sink = absurd of_page
-is_answer TooManyKeys of_page store sink = absurd of_page
+-- a command that is refused has its reason
+reason_of : (command : PageCommand) (page : Option (List ℕ)) (before after : SinkSeen)
+    (status : Status) → Answers command page before after status → (fault : PageFault)
+    → status ≡ Refused fault → IsReasonOf command page fault
+reason_of command page before after status (Answers.writes one text is puts) fault refused =
+    absurd (writes_unrefused (λ Wrote. Wrote text) before after one puts fault refused)
+reason_of command page before after status (Answers.refused found reason none same) fault refused =
+    let is : found ≡ fault = cc in
+    subst (IsReasonOf command page) is reason
+reason_of command page before after status (Answers.no_memory same) fault refused = absurd cc
 
 module _ (command : PageCommand) (name : List ℕ) (store store_after : StoreSeen)
     (sink sink_after : SinkSeen) where
-  -- the store answered, and the command did its work on that
+  -- whatever the store answered, one page was asked for
+  serves_by : (status : Status) (result : Result Fetched StoreErr)
+      → Fetches name store store_after result
+      → ((fault : PageFault) → status ≡ Refused fault → is_of_memory fault ≡ false)
+      → (last : SinkSeen) → ServesTo command name store store_after sink last status
+      → Serves command name store store_after sink last status
+  serves_by status result fetches of_reason last ends = record {
+    ends = ends;
+    of_reason = of_reason;
+    once = inr fetches.fetches;
+    listings = fetches.listings;
+    kept = asked_grew name store store_after result fetches;
+    counts = fetches.asked.counts;
+  }
+
+  -- it answered, and the command did its work on that
   pub serves_page : (fetched : Fetched) (status : Status)
       → Fetches name store store_after (Ok fetched)
       → Answers command (page_of fetched) sink sink_after status
       → Serves command name store store_after sink sink_after status
-  serves_page fetched status fetches answers = record {
-    page = λ read remembered.
-        (page_of fetched, found_page store_after.known name fetched fetches.found, answers);
-    ends = answers.ends;
-    of_reason = λ fault is.
-        reason_remembers command (page_of fetched) fault (answers.refused fault is);
-    store_fault = λ is. absurd (answers.stored is);
-    write_fault = answers.failed;
-    unwritten = answers.unwritten;
-    store_steady = λ read remembered. fetches.asked.steady;
-    write_steady = answers.steady;
-    complete = λ store sink.
-        is_answer status answers.ends answers.stored (λ is. sink (answers.failed is));
-    asked = λ other. fetches.fetches;
-    once = inr fetches.fetches;
-    listings = fetches.listings;
-    kept = asked_grew name store store_after (Ok fetched) fetches;
-    store_counts = fetches.asked.counts;
-    write_counts = answers.counts;
-  }
+  serves_page fetched status fetches answers =
+      let page = page_of fetched in
+      serves_by status (Ok fetched) fetches
+      (λ fault is. reason_remembers command page fault
+      (reason_of command page sink sink_after status answers fault is))
+      sink_after
+      (ServesTo.answered status page (found_page store_after.known name fetched fetches.found)
+      answers fetches.asked.steady fetches.fetches)
 
-  -- the store failed
+  -- it failed
   pub serves_fault : Fetches name store store_after (Err store_error.Failed)
       → Serves command name store store_after sink sink StoreFault
-  serves_fault fetches = record {
-    page = λ read remembered. absurd (read refl);
-    ends = tt;
-    of_reason = λ fault is. absurd cc;
-    store_fault = λ is. fetches.asked.failed refl;
-    write_fault = λ is. absurd cc;
-    unwritten = λ undone other. refl;
-    store_steady = λ read remembered. absurd (read refl);
-    write_steady = λ is. refl;
-    complete = λ store sink. absurd (store (fetches.asked.failed refl));
-    asked = λ other. fetches.fetches;
-    once = inr fetches.fetches;
-    listings = fetches.listings;
-    kept = asked_grew name store store_after (Err store_error.Failed) fetches;
-    store_counts = fetches.asked.counts;
-    write_counts = omega arith;
-  }
+  serves_fault fetches =
+      serves_by StoreFault (Err store_error.Failed) fetches (λ fault is. absurd cc) sink
+      (ServesTo.store_fault (fetches.asked.failed refl) fetches.fetches refl)
 
-  -- memory ran out for the store's answer
+  -- memory ran out for its answer
   pub serves_no_memory : Fetches name store store_after (Err store_error.NoMemory)
       → Serves command name store store_after sink sink NoMemory
-  serves_no_memory fetches = record {
-    page = λ read remembered. absurd (remembered refl);
-    ends = tt;
-    of_reason = λ fault is. absurd cc;
-    store_fault = λ is. absurd cc;
-    write_fault = λ is. absurd cc;
-    unwritten = λ undone other. refl;
-    store_steady = λ read remembered. absurd (remembered refl);
-    write_steady = λ is. refl;
-    complete = λ store sink. inr (inr refl);
-    asked = λ other. fetches.fetches;
-    once = inr fetches.fetches;
-    listings = fetches.listings;
-    kept = asked_grew name store store_after (Err store_error.NoMemory) fetches;
-    store_counts = fetches.asked.counts;
-    write_counts = omega arith;
-  }
+  serves_no_memory fetches =
+      serves_by NoMemory (Err store_error.NoMemory) fetches (λ fault is. absurd cc) sink
+      (ServesTo.no_memory refl)

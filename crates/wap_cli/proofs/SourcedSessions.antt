@@ -12,13 +12,13 @@ use Rattle.wap_cli.specs.declared.status.Status.{Status}
 use Rattle.wap_cli.specs.browse.Outside.{Outside}
 use Rattle.wap_cli.specs.browse.Plays.{AreUnitPages as AreSeen}
 use Rattle.wap_cli.specs.browse.Headline.{Browses}
-use Rattle.wap_cli.proofs.BrowseLemmas.Optional.{if_some, some_fact}
 use Rattle.wap_cli.specs.resume.Saving.{opened_at, unshown, EndsAt, IsWhole, Images, ImagesSeen}
 use Rattle.wap_cli.specs.resume.Resuming.{resumed_at, asked_once, GoesOn, Resumes, ResumesSeen}
 use Rattle.wap_cli.specs.Devices.{Devices, uncached}
 use Rattle.wap_cli.specs.Browsing.{ArePagesAndCalls, source_site}
 use Rattle.wap_cli.specs.SavedSessions.{ImagesOver, ResumesOver}
-use Rattle.wap_cli.proofs.Sourcing.{browses_too, units_of}
+use Rattle.wap_cli.proofs.BrowseLemmas.Forgetting.{browses_too}
+use Rattle.wap_cli.proofs.Sourcing.{units_of}
 
 -- ---- other pages with the same site
 
@@ -67,14 +67,10 @@ module _ {P Q : Type 0} (Are : P → Type 0) (site : P → Site) (AreToo : Q →
 
   resumes_too : (name : List ℕ) (old new : Outside) (status : Status)
       → Resumes Are site name old new status → Resumes AreToo site_too name old new status
-  resumes_too name old new status so = record {
-    saved = so.saved;
-    goes_on = if_some so.saved (GoesOn AreToo site_too name old new status)
-        (λ one is. goes_on_too name old new status one
-        (some_fact so.saved (GoesOn Are site name old new status) one is so.goes_on));
-    stops = so.stops;
-    of_reason = so.of_reason;
-  }
+  resumes_too name old new status (Resumes.goes_on saved so) =
+      Resumes.goes_on saved (goes_on_too name old new status saved so)
+  resumes_too name old new status (Resumes.stops unbegun of_reason) =
+      Resumes.stops unbegun of_reason
 
 -- ---- over the pages of a store
 

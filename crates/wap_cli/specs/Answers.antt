@@ -1,10 +1,9 @@
 -- What a command on one page comes to: verify, list, check, canon and compile. This project's own.
-use Rattle.std.specs.Prelude.{◌≡◌, ◌≢◌, ◌≤◌, ℕ, List, Option, Some, None, Result, Ok, Err}
+use Rattle.std.specs.Prelude.{◌≡◌, ℕ, List, Option, Some, None, Result, Ok, Err, IfOk}
+use Rattle.wap_base.specs.Outcome.{Meets}
 use Rattle.wap_devices.specs.declared.store.Fetched.{Fetched}
 use Rattle.wap_devices.specs.declared.store.Fetched.TheVariants as fetched
 use Rattle.wap_base.specs.Contents.{Contents, page_named}
-use Rattle.wap_base.specs.Count.{Rose}
-use Rattle.wap_devices.specs.Transfer.{Appends, AppendsPrefix}
 use Rattle.wap_devices.specs.Sinks.{SinkSeen}
 use Rattle.wap_devices.specs.Stores.{Known, Agrees}
 use Rattle.wap_keys.specs.declared.words.words.PageCommand.{PageCommand}
@@ -19,9 +18,8 @@ use Rattle.wap_cli.specs.inspect.Sources.{IsCompiled}
 use Rattle.wap_pages.specs.Refusals.{RefusesUnit, RefusesVerify, RefusesDocument, RefusesCheck}
 use Rattle.wap_pages.specs.Refusals.{RefusesSource}
 use Rattle.wap_cli.specs.declared.status.Status.{Status}
-use Rattle.wap_cli.specs.declared.status.Status.TheVariants.{Done, Usage, Refused, StoreFault}
-use Rattle.wap_cli.specs.declared.status.Status.TheVariants.{KeyReadFault, WriteFault, NoMemory}
-use Rattle.wap_cli.specs.declared.status.Status.TheVariants.{BadKey, OpenDialog, TooManyKeys}
+use Rattle.wap_cli.specs.declared.status.Status.TheVariants.{Done, Refused, WriteFault, NoMemory}
+use Rattle.wap_cli.specs.Writing.{PutsTo}
 
 -- the text that a command writes for a page with these bytes
 abbrev pub IsText : PageCommand → List ℕ → List ℕ → Type 0
@@ -38,6 +36,17 @@ IsReason command.List bytes fault = RefusesUnit bytes fault
 IsReason command.Check bytes fault = RefusesCheck bytes fault
 IsReason command.Canon bytes fault = RefusesDocument bytes fault
 IsReason command.Compile bytes fault = RefusesSource bytes fault
+
+-- what is found for a command in a page with these bytes, unless memory runs out
+pub record Finds (command : PageCommand) (bytes : List ℕ) (result : Result (List ℕ) PageErr)
+    : Type 0 where
+  -- its text, and there is no other, nor a reason to refuse the page then
+  pub found : IfOk result (λ text. IsText command bytes text)
+  pub only : (text : List ℕ) → IsText command bytes text
+      → Meets error.NoMemory (λ text. text) result (Ok text)
+  -- or the reason
+  pub refused : (fault : PageFault) → result ≡ Err (error.Refused fault)
+      → IsReason command bytes fault
 
 -- the same, where the page may be missing
 abbrev pub IsTextOf : PageCommand → Option (List ℕ) → List ℕ → Type 0
@@ -57,39 +66,18 @@ abbrev pub page_of : Fetched → Option (List ℕ)
 page_of fetched.Missing = None
 page_of (fetched.Found bytes) = Some bytes
 
--- a command on one page ends so
-abbrev pub IsOfPage : Status → Type 0
-IsOfPage Done = Unit {0}
-IsOfPage Usage = ⊥
-IsOfPage (Refused fault) = Unit {0}
-IsOfPage StoreFault = Unit {0}
-IsOfPage KeyReadFault = ⊥
-IsOfPage WriteFault = Unit {0}
-IsOfPage NoMemory = Unit {0}
-IsOfPage (BadKey line fault) = ⊥
-IsOfPage OpenDialog = ⊥
-IsOfPage TooManyKeys = ⊥
-
 -- what a command comes to on a page: the sink before and after, and how it ended
-pub record Answers (command : PageCommand) (page : Option (List ℕ)) (before after : SinkSeen)
-    (status : Status) : Type 0 where
-  -- on Done its text was written
-  pub done : status ≡ Done
-      → (text : List ℕ) × IsTextOf command page text × Appends before.taken after.taken text
-  -- on Refused there is no text, for this reason
-  pub refused : (fault : PageFault) → status ≡ Refused fault → IsReasonOf command page fault
-  pub accepted : (text : List ℕ) (fault : PageFault) → IsTextOf command page text
-      → status ≢ Refused fault
-  -- where the sink failed, a prefix of its text was written
-  pub prefix : status ≡ WriteFault → (text : List ℕ) × IsTextOf command page text
-      × AppendsPrefix before.taken after.taken text
-  pub failed : status ≡ WriteFault → Rose before.faults after.faults
-  -- and else nothing is written
-  pub unwritten : status ≢ Done → status ≢ WriteFault → after ≡ before
-  pub steady : status ≢ WriteFault → after.faults ≡ before.faults
-  pub counts : before.faults ≤ after.faults
-  pub ends : IsOfPage status
-  pub stored : status ≢ StoreFault
+pub data Answers (command : PageCommand) (page : Option (List ℕ)) (before after : SinkSeen)
+    : Status → Type 0 where
+  -- it has a text, which was to be written
+  writes : (status : Status) (text : List ℕ) → IsTextOf command page text
+      → PutsTo text before after status → Answers command page before after status
+  -- it has none, for this reason
+  refused : (fault : PageFault) → IsReasonOf command page fault
+      → ((text : List ℕ) → ¬ IsTextOf command page text) → after ≡ before
+      → Answers command page before after (Refused fault)
+  -- memory ran out, and nothing was written
+  no_memory : after ≡ before → Answers command page before after NoMemory
 
 -- how a command ends that has no text
 abbrev pub refused_by : PageErr → Status

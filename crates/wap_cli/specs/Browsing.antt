@@ -10,9 +10,8 @@ use Rattle.wap_base.specs.declared.key.Key.{Key}
 use Rattle.wap_keys.specs.Lines.{keys_of}
 use Rattle.wap_world.specs.Sites.{Call, Site}
 use Rattle.wap_world.specs.Steps.{Step}
-use Rattle.wap_world.specs.Sessions.{Begun}
+use Rattle.wap_world.specs.Sessions.{Begun, session}
 use Rattle.wap_push.specs.Pushes.{push_at}
-use Rattle.wap_world.specs.inboxes.Sessions.{session_with}
 use Rattle.wap_world.specs.scripting.Sources.{AllPages, site_of}
 use Rattle.wap_site_laws.specs.exchange.Denial.{is_let_in, DifferInScripts}
 use Rattle.wap_site_laws.specs.programs.Programs.{Accepted, programs}
@@ -45,7 +44,7 @@ source_site one = site_of programs one.call one.pages
 -- what keys come to where a session with an inbox begins so: its URL is opened before they are
 -- played
 abbrev pub opened_over : Begun → PagesAndCalls → List Key → Step
-opened_over begun one keys = (session_with push_at (source_site one) begun keys).step
+opened_over begun one keys = (session push_at (source_site one) begun keys).step
 
 -- ---- scripts to which nobody was let in
 

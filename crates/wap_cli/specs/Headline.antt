@@ -1,5 +1,5 @@
 -- What a run comes to, by its command. This project's own.
-use Rattle.std.specs.Prelude.{◌≡◌, ◌≢◌, ◌⊎◌, ℕ, ◌≤◌, false, List, Option, Some, None}
+use Rattle.std.specs.Prelude.{◌≡◌, ◌⊎◌, ℕ, ◌≤◌, false, List, Option, Some, None}
 use Rattle.wap_base.specs.Count.{raised, Rose}
 use Rattle.wap_devices.specs.Stores.{StoreSeen, Grew}
 use Rattle.wap_devices.specs.Sinks.{SinkSeen}
@@ -12,10 +12,9 @@ use Rattle.wap_keys.specs.declared.words.words.Command.TheVariants.{Prepare, Mak
 use Rattle.wap_keys.specs.declared.words.words.PageCommand.{PageCommand}
 use Rattle.wap_world.specs.Sessions.{Begun}
 use Rattle.wap_cli.specs.declared.status.Status.{Status}
-use Rattle.wap_cli.specs.declared.status.Status.TheVariants.{Done, Usage, Refused, StoreFault}
-use Rattle.wap_cli.specs.declared.status.Status.TheVariants.{WriteFault, NoMemory}
+use Rattle.wap_cli.specs.declared.status.Status.TheVariants.{Usage, Refused, StoreFault, NoMemory}
 use Rattle.wap_cli.specs.Statuses.{IsOrWants}
-use Rattle.wap_cli.specs.Answers.{IsOfPage, IsPageOf, Answers}
+use Rattle.wap_cli.specs.Answers.{IsPageOf, Answers}
 use Rattle.wap_cli.specs.Memory.{is_of_memory}
 use Rattle.wap_cli.specs.Browsing.{BrowsesOver}
 use Rattle.wap_cli.specs.Devices.{Devices}
@@ -33,43 +32,35 @@ abbrev pub each_begun_by : Replaying → Begun
 each_begun_by one =
     record { url = one.url; seed = one.seed; budget = one.budget; limits = one.limits }
 
--- a status of a command on one page where nothing failed
-abbrev pub IsAnswer : Status → Type 0
-IsAnswer status =
-    (status ≡ Done) ⊎ ((fault : PageFault) × (status ≡ Refused fault)) ⊎ (status ≡ NoMemory)
+-- how a command ends on the page of a name, with each status, and with no other
+pub data ServesTo (command : PageCommand) (name : List ℕ) (store store_after : StoreSeen)
+    (sink sink_after : SinkSeen) : Status → Type 0 where
+  -- it did its work on some page, which is that of the name in any pages that may be the store's
+  answered : (status : Status) (page : Option (List ℕ))
+      → IsPageOf store_after.known name page → Answers command page sink sink_after status
+      → store_after.faults ≡ store.faults → store_after.fetches ≡ raised store.fetches
+      → ServesTo command name store store_after sink sink_after status
+  -- the store failed, and nothing was written
+  store_fault : Rose store.faults store_after.faults
+      → store_after.fetches ≡ raised store.fetches → sink_after ≡ sink
+      → ServesTo command name store store_after sink sink_after StoreFault
+  -- memory ran out, and nothing was written
+  no_memory : sink_after ≡ sink
+      → ServesTo command name store store_after sink sink_after NoMemory
 
 -- a command on the page of a name: the store and the sink, before and after
 pub record Serves (command : PageCommand) (name : List ℕ) (store store_after : StoreSeen)
     (sink sink_after : SinkSeen) (status : Status) : Type 0 where
-  -- its text was written, or it was refused for a reason, for some page, which is that of the name
-  -- in any pages that may be the store's
-  pub page : status ≢ StoreFault → status ≢ NoMemory → (page : Option (List ℕ))
-      × IsPageOf store_after.known name page × Answers command page sink sink_after status
-  pub ends : IsOfPage status
+  pub ends : ServesTo command name store store_after sink sink_after status
   -- out of memory is no reason to refuse
   pub of_reason : (fault : PageFault) → status ≡ Refused fault → is_of_memory fault ≡ false
-  -- these statuses come only where a count of faults rose
-  pub store_fault : status ≡ StoreFault → Rose store.faults store_after.faults
-  pub write_fault : status ≡ WriteFault → Rose sink.faults sink_after.faults
-  -- but on Done and WriteFault nothing was written
-  pub unwritten : status ≢ Done → status ≢ WriteFault → sink_after ≡ sink
-  -- after a fault of the store the status is StoreFault, or out of memory; after one of the sink it
-  -- is WriteFault
-  pub store_steady : status ≢ StoreFault → status ≢ NoMemory
-      → store_after.faults ≡ store.faults
-  pub write_steady : status ≢ WriteFault → sink_after.faults ≡ sink.faults
-  -- where neither failed, the command has its answer, or memory ran out
-  pub complete : ¬ Rose store.faults store_after.faults → ¬ Rose sink.faults sink_after.faults
-      → IsAnswer status
-  -- one page is asked for, or none where memory ran out, and no names
-  pub asked : status ≢ NoMemory → store_after.fetches ≡ raised store.fetches
+  -- one page is asked for at most, and no names
   pub once : (store_after.fetches ≡ store.fetches)
       ⊎ (store_after.fetches ≡ raised store.fetches)
   pub listings : store_after.listings ≡ store.listings
-  -- however it ends
+  -- what is known of the pages only grows, however it ends
   pub kept : Grew store.known store_after.known
-  pub store_counts : store.faults ≤ store_after.faults
-  pub write_counts : sink.faults ≤ sink_after.faults
+  pub counts : store.faults ≤ store_after.faults
 
 -- a command on the page of a name reads no key
 pub record ServesUnread (command : PageCommand) (name : List ℕ) (old new : Devices)

@@ -1,19 +1,15 @@
 -- Browsing over a store and a source in memory, which hold their contents and their bytes. This
 -- project's own.
-use Rattle.std.specs.Prelude.{◌≡◌, ℕ, ◌<◌, Bool, List}
+use Rattle.std.specs.Prelude.{◌≡◌, ℕ, ◌<◌, List}
 use Rattle.wap_base.specs.Contents.{Contents, names_of}
 use Rattle.wap_base.specs.Count.{greatest_count}
 use Rattle.wap_base.specs.Texts.{AreDistinct}
 use Rattle.wap_devices.specs.Stores.{Held}
-use Rattle.wap_devices.specs.Sources.{Left}
-use Rattle.wap_world.specs.Sessions.{Begun}
+use Rattle.wap_devices.specs.Sources.{Left, MayGive}
 use Rattle.wap_site_laws.specs.pages.SourcePages.{ArePages}
-use Rattle.wap_cli.specs.declared.status.Status.{Status}
-use Rattle.wap_cli.specs.browse.Endings.{at_end}
-use Rattle.wap_cli.specs.browse.Headline.{Reads}
 use Rattle.wap_cli.specs.Calls.{ReadsCalls}
-use Rattle.wap_cli.specs.Devices.{Devices, uncached}
-use Rattle.wap_cli.specs.Browsing.{PagesAndCalls, opened_over, WritesOver}
+use Rattle.wap_cli.specs.Devices.{Devices}
+use Rattle.wap_cli.specs.Browsing.{PagesAndCalls, ArePagesAndCalls}
 
 -- at first the store holds these contents, of which no name stands twice, and the source these
 -- bytes, whose count of ends isn't the greatest
@@ -27,14 +23,13 @@ pub record HoldAll (contents : Contents) (bytes : List ℕ) (old : Devices) : Ty
 abbrev pub AreHeld : Contents → PagesAndCalls → Type 0
 AreHeld contents one = ArePages contents one.pages × ReadsCalls one.call
 
--- browsing over exactly these contents, with exactly these bytes of keys
-pub record BrowsesHeld (begun : Begun) (capacity : ℕ) (contents : Contents) (bytes : List ℕ)
-    (old new : Devices) (status : Status) : Type 0 where
-  -- what was read and written
-  pub reads : Reads (AreHeld contents) (opened_over begun) bytes (uncached capacity old)
-      (uncached capacity new) status
-  -- the store holds what it held, and the source the bytes that weren't taken
+-- all that is said over any pages and bytes that there may be is said over exactly these
+pub record AreBrowsed (contents : Contents) (bytes : List ℕ) (old new : Devices) : Type 0 where
+  -- the store holds what it held: its pages are those of these contents, and no others
   pub held : new.store.known ≡ Held contents
-  pub left : new.source.coming ≡ Left reads.rest
-  -- where all keys were played, scripts to which nobody was let in might have been any others
-  pub denied : (is_open : Bool) → status ≡ at_end is_open → WritesOver begun old new bytes
+  pub pages : (one : PagesAndCalls) → AreHeld contents one → ArePagesAndCalls new.store one
+  pub no_others : (one : PagesAndCalls) → ArePagesAndCalls new.store one → AreHeld contents one
+  -- the source may give these bytes, and no others; it holds those that weren't taken
+  pub may : MayGive old.source new.source bytes
+  pub left : new.source.coming ≡ Left may.rest
+  pub only : (others : List ℕ) → MayGive old.source new.source others → others ≡ bytes

@@ -1,4 +1,5 @@
 pub mod Statuses
+pub mod Writing
 pub mod Headline
 pub mod Browsing
 pub mod InMemory

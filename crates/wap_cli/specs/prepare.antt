@@ -1,6 +1,5 @@
 pub mod Reports
 pub mod Fetching
 pub mod Working
-pub mod Writing
 pub mod Preparing
 pub mod inside

@@ -9,7 +9,7 @@ ghost use Rattle.wap_cli.specs.declared.status.Status.{Status};
 ghost use Rattle.wap_cli.specs.Browsing.{BrowsesOver};
 ghost use Rattle.wap_cli.specs.Calls.{ReadsCalls};
 ghost use Rattle.wap_cli.specs.Devices.{Devices};
-ghost use Rattle.wap_cli.specs.InMemory.{HoldAll, BrowsesHeld};
+ghost use Rattle.wap_cli.specs.InMemory.{HoldAll, AreBrowsed};
 
 /// Laws of what reads calls, over which keys are said to be played: there is one, the calculation
 /// by which a browser reads them, and no two are different.
@@ -24,6 +24,5 @@ pub fn calls_are_read_one_way()
 pub fn held_devices_are_browsed_exactly()
     ensures { (begun : Begun) (capacity : ℕ) (contents : Contents) (bytes : List ℕ)
         (old new : Devices) (status : Status) → HoldAll contents bytes old
-        → BrowsesOver begun capacity old new status
-        → BrowsesHeld begun capacity contents bytes old new status }
+        → BrowsesOver begun capacity old new status → AreBrowsed contents bytes old new }
 {}

@@ -1,7 +1,8 @@
 //! Commands on one page.
-ghost use Rattle.std.specs.Prelude.{◌≡◌, ◌<◌, ◌^◌, Some, length};
+ghost use Rattle.std.specs.Prelude.{◌≡◌, ◌<◌, ◌^◌, ℕ, List, Some, length};
 ghost use Rattle.wap_devices.specs.Pages.{IsSmall};
-ghost use Rattle.wap_cli.specs.Answers.{Answers, page_of};
+ghost use Rattle.wap_keys.specs.declared.words.words.PageCommand.{PageCommand};
+ghost use Rattle.wap_cli.specs.Answers.{Finds, Answers, page_of};
 ghost use Rattle.wap_cli.specs.Answers.{refused_by, written_so};
 ghost use Rattle.wap_cli.specs.Headline.{Serves};
 
@@ -10,7 +11,7 @@ use crate::inspect::{
     PageErr, PageFault, canonical, check_line, compiled_bytes, unit_in, verify_line,
 };
 use std::alloc::Global;
-use wap_base::Text;
+use wap_base::{Bytes, Text};
 use wap_devices::{Failed, Fetched, Sink, Store, StoreErr, write_all};
 use wap_dis::listing;
 use wap_keys::words::PageCommand;
@@ -35,14 +36,13 @@ fn written_so(wrote: Result<(), Failed>) -> Status
     }
 }
 
-/// Writes the line of a unit that may be run.
-fn verify<O: Sink>(alloc: Global, bytes: &[u8], out: &mut O) -> Status
-    requires { length bytes.now < 2 ^ 31 }
-    ensures { Answers PageCommand.Verify (Some bytes.now) (O.seen out.old) (O.seen out.new)
-        result }
+/// Writes the text that was found for a command.
+fn write_found<O: Sink>(found: Result<Bytes, PageErr>, out: &mut O) -> Status
+    ensures { (command : PageCommand) (bytes : List ℕ) → Finds command bytes found
+        → Answers command (Some bytes) (O.seen out.old) (O.seen out.new) result }
 {
-    match verify_line(alloc, bytes) {
-        Ok(line) => written_so(write_all(out, line.as_slice())),
+    match found {
+        Ok(text) => written_so(write_all(out, text.as_slice())),
         Err(error) => refused_by(error),
     }
 }
@@ -59,42 +59,6 @@ fn list<O: Sink>(alloc: Global, bytes: &[u8], out: &mut O) -> Status
     }
 }
 
-/// Writes the one spelling of a document.
-fn canon<O: Sink>(alloc: Global, bytes: &[u8], out: &mut O) -> Status
-    requires { length bytes.now < 2 ^ 31 }
-    ensures { Answers PageCommand.Canon (Some bytes.now) (O.seen out.old) (O.seen out.new)
-        result }
-{
-    match canonical(alloc, bytes) {
-        Ok(text) => written_so(write_all(out, text.as_slice())),
-        Err(error) => refused_by(error),
-    }
-}
-
-/// Writes the line of a good deck.
-fn check<O: Sink>(alloc: Global, bytes: &[u8], out: &mut O) -> Status
-    requires { length bytes.now < 2 ^ 31 }
-    ensures { Answers PageCommand.Check (Some bytes.now) (O.seen out.old) (O.seen out.new)
-        result }
-{
-    match check_line(alloc, bytes) {
-        Ok(line) => written_so(write_all(out, line.as_slice())),
-        Err(error) => refused_by(error),
-    }
-}
-
-/// Writes the unit that a source is compiled to.
-fn compile<O: Sink>(alloc: Global, bytes: &[u8], out: &mut O) -> Status
-    requires { length bytes.now < 2 ^ 31 }
-    ensures { Answers PageCommand.Compile (Some bytes.now) (O.seen out.old) (O.seen out.new)
-        result }
-{
-    match compiled_bytes(alloc, bytes) {
-        Ok(unit) => written_so(write_all(out, unit.as_slice())),
-        Err(error) => refused_by(error),
-    }
-}
-
 /// Does a command on a page with these bytes.
 fn answer_bytes<O: Sink>(alloc: Global, command: PageCommand, bytes: &[u8], out: &mut O) -> Status
     requires { length bytes.now < 2 ^ 31 }
@@ -102,11 +66,11 @@ fn answer_bytes<O: Sink>(alloc: Global, command: PageCommand, bytes: &[u8], out:
         result }
 {
     match command {
-        PageCommand::Verify => verify(alloc, bytes, out),
+        PageCommand::Verify => write_found(verify_line(alloc, bytes), out),
         PageCommand::List => list(alloc, bytes, out),
-        PageCommand::Check => check(alloc, bytes, out),
-        PageCommand::Canon => canon(alloc, bytes, out),
-        PageCommand::Compile => compile(alloc, bytes, out),
+        PageCommand::Check => write_found(check_line(alloc, bytes), out),
+        PageCommand::Canon => write_found(canonical(alloc, bytes), out),
+        PageCommand::Compile => write_found(compiled_bytes(alloc, bytes), out),
     }
 }
 

@@ -48,7 +48,8 @@ fn fault_end(fault: KeyFault) -> &'static [u8]
 
 /// Writes the line of a line that is no key line.
 fn print_bad_key<O: Sink>(out: &mut O, line: u32, fault: KeyFault) -> Result<(), Failed>
-    ensures { Puts (status_line (Status.BadKey line fault)) (O.seen out.old) (O.seen out.new) result }
+    ensures { Puts (status_line (Status.BadKey line fault)) (O.seen out.old) (O.seen out.new)
+        result }
 {
     let mut buffer = Buffer::new();
     write_all(out, b"wap: line ")?;
@@ -58,7 +59,8 @@ fn print_bad_key<O: Sink>(out: &mut O, line: u32, fault: KeyFault) -> Result<(),
 
 /// Writes the line of a page that is refused.
 fn print_refused<O: Sink>(out: &mut O, fault: &PageFault) -> Result<(), Failed>
-    ensures { Puts (status_line (Status.Refused fault.now)) (O.seen out.old) (O.seen out.new) result }
+    ensures { Puts (status_line (Status.Refused fault.now)) (O.seen out.old) (O.seen out.new)
+        result }
 {
     write_all(out, b"wap: refused ")?;
     fault.print(out)?;

@@ -1,5 +1,5 @@
 -- Scripts that are started: what the decision and the start come to.
-use Rattle.std.proofs.Common.{◌≡◌, ◌∙◌, ℕ, Bool, true, false, List, [], ◌∷◌, ◌++◌, Option, Some}
+use Rattle.std.proofs.Common.{◌≡◌, ◌∙◌, ℕ, Bool, true, false, List, [], ◌∷◌, Option, Some}
 use Rattle.std.proofs.Common.{None, Ok, refl, sym, ap, ap₂, subst, cond, eqb, arith, append-nil}
 use Rattle.std.specs.Prelude.{Result, length, slice_get}
 use Rattle.std.specs.Option.{option_map, option_and_then}
@@ -51,8 +51,7 @@ use Rattle.wap_context.specs.inside.Starting.{not_started_at, failed_at, end_at}
 use Rattle.wap_machine.specs.declared.machine.Outcome.TheVariants.{Fatal as Died}
 use Rattle.wap_context.proofs.Ending.{failed_is}
 use Rattle.wap_context.proofs.Places.{held_now}
-use Rattle.wap_context.proofs.Plays.{history_kept, over_kept, turns_kept, plays_behind}
-use Rattle.wap_context.proofs.Arrivals.{moves_settled}
+use Rattle.wap_context.proofs.Plays.{history_kept, over_kept, turns_kept}
 use Rattle.wap_context.proofs.Takings.{Rule, takes_moves, takes_by, takes_from, takes_after}
 
 -- ---- what is started can be entered
@@ -134,14 +133,6 @@ module _ (unit : Unit) (string : ℕ) (base : Url) (referer : Option Url) (index
       called_enters (option_and_then fragment_call url.fragment) (sym is ∙ starts)
 
 -- ---- a script isn't started
-
-pub rejects : (why : Fatal) (old new : Browser) (before line after : List Line)
-    → line ≡ before ++ script_line why ∷ [] → PlaysAt show_at old new line after
-    → Moves (not_started_at why (place_held old) old.world) (λ shelf. IsOver shelf old) old new
-    before after None
-rejects why old new before line after added plays =
-    moves_settled (λ place world. behind (script_line why ∷ []) (show_at place world)) old new before
-    after (plays_behind (script_line why) show_at old new before line after added plays)
 
 -- over a shelf that has the deck at hand
 not_started_is : (shelf : Shelf) (old : Browser) → IsOver shelf old → (why : Fatal)

@@ -2,6 +2,5 @@ pub mod DialogWords
 pub mod Shelves
 pub mod Serving
 pub mod Comings
-pub mod Externals
 pub mod Calls
 pub mod Loads

@@ -5,7 +5,7 @@ use Rattle.std.proofs.Math.Nat.{eq-or-lt_of_le}
 use Rattle.std.specs.Prelude.{IfSome, option_map}
 use Rattle.wap_base.specs.Count.{greatest_count, raised, Rose}
 use Rattle.wap_world.specs.site.Misses.{Cache, Asked, after_all, misses}
-use Rattle.wap_world.specs.site.Asking.{Seen, raised_by, RaisedWithin, Stays, Asks, Fails}
+use Rattle.wap_world.specs.site.Asking.{Seen, raised_by, RaisedWithin, Stays, Asks}
 use Rattle.wap_world.proofs.SiteLemmas.Counts.{misses-then, raised_by-then}
 use Rattle.wap_context.specs.Missing.{Missed}
 
@@ -48,17 +48,6 @@ within_after m n k l o is so = record {
 }
 
 -- ---- what is seen
-
--- a store that failed at one of some pages
-missed_by : (asked : List Asked) (cache : Option Cache) (k l : ℕ)
-    → IfSome cache (λ one. RaisedWithin (misses asked one) k l)
-    → IfSome cache (λ one. k < greatest_count → RaisedWithin (misses asked one) k l)
-missed_by asked None k l so = tt
-missed_by asked (Some cache) k l so = λ low. so
-
-pub missed_fails : (asked : List Asked) (x y : Seen) → Fails asked x y → Missed asked x y
-missed_fails asked x y so =
-    record { rose = so.rose; fetches = missed_by asked x.cache x.fetches y.fetches so.fetches }
 
 -- more were to be asked for
 more_by : (asked others : List Asked) (cache : Option Cache) (k l : ℕ)

@@ -1,6 +1,6 @@
 -- Time that passes: quiet steps, a timer that runs out, and time in a dialog.
 use Rattle.std.proofs.Common.{◌≡◌, ◌∙◌, ◌<◌, ◌≤◌, ◌-◌, ℕ, Bool, List, [], ◌++◌}
-use Rattle.std.proofs.Common.{Option, Some, None, Ok, Err, refl, sym, ap, ap₂, subst}
+use Rattle.std.proofs.Common.{Option, Some, None, Ok, Err, refl, sym, ap, subst}
 use Rattle.std.proofs.Common.{cond}
 use Rattle.std.specs.Prelude.{Result, IsErr, IsErrAnd}
 use Rattle.std.specs.Option.{option_map}
@@ -22,21 +22,19 @@ use Rattle.wap_world.specs.Entering.{event_task}
 use Rattle.wap_world.specs.Tasks.{act}
 use Rattle.wap_world.specs.Keys.{ignored, act_or, expire, pass_time, at_card}
 use Rattle.wap_world.proofs.Joining.{joined_nothing}
-use Rattle.wap_world.specs.scripting.Dialogs.{tick_waiting}
 use Rattle.wap_world.specs.scripting.UnitSites.{Pages, shelf_of, unit_pages, units_site}
 use Rattle.wap_state.specs.Scenes.{Line}
 use Rattle.wap_context.specs.declared.waiting.Went.{Went}
 use Rattle.wap_context.specs.declared.waiting.Went.TheVariants.{Settled, Leads, Asks as AsksUser}
 use Rattle.wap_context.specs.declared.waiting.Step.{Step as Did}
 use Rattle.wap_context.specs.declared.waiting.Step.TheVariants.{Settled as Done}
-use Rattle.wap_context.specs.Browsers.{Browser, IsOver, place_held, Shows}
+use Rattle.wap_context.specs.Browsers.{Browser, IsOver, place_held}
 use Rattle.wap_context.specs.Sites.{site_of}
 use Rattle.wap_context.specs.Missing.{Missed}
 use Rattle.wap_context.specs.Acting.{tick}
 use Rattle.wap_context.specs.inside.AtHand.{event_at}
 use Rattle.wap_context.specs.inside.Moving.{PlaysAt, next_in, waits_in, pursued, Ends, Pursues}
 use Rattle.wap_context.specs.inside.Ticking.{left_of, left_at, end_place, run_out}
-use Rattle.wap_context.specs.inside.Ticking.{count_down_at}
 use Rattle.wap_context.proofs.Places.{held_now}
 use Rattle.wap_context.proofs.Plays.{history_kept, over_kept, if_ok}
 use Rattle.wap_context.proofs.Takings.{over_map}
@@ -262,28 +260,3 @@ module _ (old mid : Browser) (before middle : List Line) (task : Option Task) (w
       over_ended out_is) so
 
 -- ---- in a dialog
-
-count_is : (n left : ℕ) (old : Browser) → old.world.timer ≡ Running left
-    → (shelf : Shelf) → IsOver shelf old
-    → count_down_at n left (place_held old) old.world
-    ≡ tick_waiting shelf n old.world.timer old.world
-count_is n left old runs shelf over =
-    ap (λ (p : Option Place). count_down_at n left p old.world) (sym (held_now shelf old over))
-    ∙ ap (λ (t : Timer). tick_waiting shelf n t old.world) (sym runs)
-
-pub counts_down : (n left : ℕ) (old new : Browser) (before lines : List Line)
-    → old.world.timer ≡ Running left → before ≡ []
-    → PlaysAt (count_down_at n left) old new before lines
-    → Shows old new lines (λ shelf world. tick_waiting shelf n world.timer world)
-counts_down n left old new before lines runs none plays =
-    let same : (shelf : Shelf) → IsOver shelf old
-    → count_down_at n left (place_held old) old.world
-    ≡ tick_waiting shelf n old.world.timer old.world = count_is n left old runs in
-    record {
-      world = λ shelf over. plays.plays.world ∙ ap (λ (s : Scene). s.world) (same shelf over);
-      tells = λ shelf over. plays.plays.lines
-          ∙ ap₂ (λ (l : List Line) (s : Scene). l ++ s.lines) none (same shelf over);
-      over = λ shelf over. over_kept shelf old new plays.deck
-          (history_kept (count_down_at n left (place_held old) old.world) old.world new.world before
-          lines plays.plays) over;
-    }

@@ -525,11 +525,3 @@ acts rule seen after old new before result none pursues =
       missed = so.missed;
       stays = so.stays;
     }
-
--- the same where a fault is handed on
-pub acts_fault : (rule : StepRule) (seen after : Seen) (old new : Browser) (before : List Line)
-    (err : RunErr) (result : Result Did RunErr) → result ≡ Err err → before ≡ []
-    → Pursues rule seen after old new before (Err err) → Acts rule seen after old new result
-acts_fault rule seen after old new before err result is none pursues =
-    acts rule seen after old new before result none
-    (subst (λ (r : Result Did RunErr). Pursues rule seen after old new before r) (sym is) pursues)

@@ -14,7 +14,7 @@ use Rattle.wap_world.specs.declared.site.page.Page.{Page}
 use Rattle.wap_world.specs.declared.site.page.Page.TheVariants as page
 use Rattle.wap_world.specs.site.Pages.{Pages as JudgedPages, page_of, AreSitePages}
 use Rattle.wap_world.specs.site.Misses.{Asked as Question}
-use Rattle.wap_world.specs.site.Asking.{Seen, MayBe, Stays, Asks}
+use Rattle.wap_world.specs.site.Asking.{Seen, MayBe, Asks}
 use Rattle.wap_world.proofs.SiteLemmas.Asking.{Asks-nil, Stays-same}
 use Rattle.wap_world.specs.declared.history.Entry.{Entry}
 use Rattle.wap_world.specs.World.{World, last_entry, deck_at, deck_in}
@@ -84,20 +84,6 @@ returns_missed world last before after err result is asked =
 
       store : (one : RunErr) → ◌≡◌ {A = Result Revived RunErr} (Err one) (Err Store) → one ≡ Store
       store one e = cc e
-
-pub returns_rejected : (world : World) (last : Entry) (before after : Seen)
-    (result : Result Revived RunErr) → Stays before after → IsErr result
-    → IsErrAnd result (λ err. err ≡ NoMemory) → Returns world last before after result
-returns_rejected world last before after (Ok it) stays is so = absurd (false≢true is)
-returns_rejected world last before after (Err err) stays is so = record {
-  returned = tt;
-  site = tt;
-  asks = tt;
-  missed = λ e. absurd (cc (sym so ∙ same err e));
-  stays = stays;
-} where
-  same : (one : RunErr) → ◌≡◌ {A = Result Revived RunErr} (Err one) (Err Store) → one ≡ Store
-  same one e = cc e
 
 -- ---- a context of parts
 

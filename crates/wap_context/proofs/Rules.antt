@@ -118,13 +118,13 @@ module _ (shelf : Shelf) (browser : Browser) (over : IsOver shelf browser) where
       → (keys : List Key)
       → arrive shelf keys sets url w deck ≡ once_before keys (arrive_at sets url place w deck)
   arrive_on sets url deck has keys =
-      arrive_leaves shelf keys sets url w deck ∙ ap (once_before keys) (arrive_is sets url deck has)
+      arrive_leaves shelf sets url w deck keys ∙ ap (once_before keys) (arrive_is sets url deck has)
 
   pub return_on : (sets : Pairs) (earlier : Entry) (deck : Deck)
       → deck_at shelf earlier.url ≡ Some deck → (keys : List Key)
       → return shelf keys sets earlier w deck ≡ once_before keys (return_at sets earlier place w deck)
   return_on sets earlier deck has keys =
-      return_leaves shelf keys sets earlier w deck
+      return_leaves shelf sets earlier w deck keys
       ∙ ap (once_before keys) (return_is sets earlier deck has)
 
   pub try_on : (sets : Pairs) (caller : Option Url) (url : Url) (deck : Deck)
@@ -133,7 +133,7 @@ module _ (shelf : Shelf) (browser : Browser) (over : IsOver shelf browser) where
       ≡ once_before keys (try_deck_at sets caller url place w deck)
   try_on sets caller url deck has keys =
       let one = test_of url caller (entrance_of deck) in
-      try_leaves shelf keys sets caller url w deck
+      try_leaves shelf sets caller url w deck keys
       ∙ ap (λ (o : Once). once_before keys (after_step (test [] one w) o))
       (arrive_if_is sets url deck one.allowed has)
 

@@ -1,7 +1,7 @@
 -- A machine that runs over pages comes to what the definitions say.
-use Rattle.std.proofs.Common.{◌≡◌, ◌∙◌, ◌⊎◌, inl, inr, ◌≤◌, ◌<◌, ◌+◌, zero, suc, ℕ, Bool, false, List, []}
-use Rattle.std.proofs.Common.{◌∷◌, ◌++◌, Option, Some, None, Ok, Err, refl, sym, ap, ap₂, subst, arith}
-use Rattle.std.proofs.Common.{append_assoc, append-nil}
+use Rattle.std.proofs.Common.{◌≡◌, ◌∙◌, ◌⊎◌, inl, inr, ◌≤◌, ◌<◌, ◌+◌, zero, suc, ℕ, Bool, false}
+use Rattle.std.proofs.Common.{List, [], ◌∷◌, ◌++◌, Option, Some, None, Ok, Err, refl, sym, ap, ap₂}
+use Rattle.std.proofs.Common.{subst, arith, append_assoc, append-nil}
 use Rattle.std.proofs.lemmas.Bool.{cases_lt}
 use Rattle.std.specs.Prelude.{Result, IfSome, min, unwrap_or, if◌then◌else◌, ◌||◌}
 use Rattle.std.specs.Option.{option_map, option_and_then}
@@ -12,9 +12,7 @@ use Rattle.wap_base.specs.Count.{greatest_count, raised, Rose}
 use Rattle.wap_url.specs.declared.url.Url.{Url}
 use Rattle.wap_base.specs.declared.key.Key.{Key}
 use Rattle.wap_execution.specs.Outcomes.{Outcome as Meant, value, exit, fatal, waits, stuck, Ended}
-use Rattle.wap_execution.specs.laws.Settings.{uncounted}
 use Rattle.wap_execution.specs.laws.Simulation.{ComeToSame, IsKin}
-use Rattle.wap_execution.proofs.LawsLemmas.RunLaws.{Keeps, finished_follows}
 use Rattle.wap_machine.specs.Hosts.{AtMost, Fetches}
 use Rattle.wap_machine.specs.Stacks.{Stack}
 use Rattle.wap_machine.specs.Runs.{run_of as machine_run, IsEnd, KeepsLimits}
@@ -30,14 +28,14 @@ use Rattle.wap_world.specs.Steps.{Step, Once, quiet, after_step}
 use Rattle.wap_cardrules.specs.declared.task.Task.{Task}
 use Rattle.wap_world.specs.Shelves.{Shelf}
 use Rattle.wap_world.specs.Starting.{in_world, end_done}
-use Rattle.wap_world.proofs.Joining.{once_before}
-use Rattle.wap_world.specs.scripting.UnitSites.{Pages, shelf_of, externals_of, unit_under, host_of}
-use Rattle.wap_world.specs.scripting.UnitSites.{unit_pages}
+use Rattle.wap_world.proofs.Joining.{once_before, or_false}
+use Rattle.wap_world.specs.scripting.UnitSites.{Pages, shelf_of, host_of, unit_pages}
 use Rattle.wap_world.specs.scripting.Views.{Counted, counted_all, View, viewing, view_of, Shows}
 use Rattle.wap_world.specs.scripting.Views.{IsAtHand, NoStep, NoView}
 use Rattle.wap_world.specs.scripting.Waiting.{Waits, inside}
 use Rattle.wap_world.specs.scripting.Halves.{Half, half_by, half_of, once_by, once_of}
-use Rattle.wap_world.proofs.ScriptingLawsLemmas.Plain.{external_plain, library_plain}
+use Rattle.wap_world.proofs.Hosts.Kin.{Kinship, staying}
+use Rattle.wap_world.proofs.Hosts.Runs.{parts_of, moved_alike, finished_holds}
 use Rattle.wap_world.proofs.ScriptingLawsLemmas.Runs.{starts}
 use Rattle.wap_world.proofs.ScriptingLawsLemmas.Viewing.{views_run_alike}
 use Rattle.wap_state.specs.Scenes.{Line}
@@ -51,31 +49,21 @@ use Rattle.wap_context.specs.inside.Starting.{run_of, run_with, CameTo, RunsTo, 
 use Rattle.wap_context.proofs.Places.{held_now}
 use Rattle.wap_context.proofs.Ending.{half_is}
 
--- ---- a run leaves whether a dialog is open
+-- ---- a run opens no dialog
 
--- whether one is, is the same in both steps
-abbrev Shut : Step → Step → Type 0
-Shut s t = t.is_open ≡ s.is_open
-
-host_shut : (pages : Pages) (limits : Limits) → Keeps (uncounted limits (host_of pages)) Shut
-host_shut pages limits = record {
-  same = λ s. refl;
-  chained = λ s t u some more. more ∙ some;
-  ticks = λ function s. refl;
-  external = λ s caller url name count working.
-      (external_plain (shelf_of pages) (externals_of pages) (unit_under pages) caller name count
-      working url).shut s;
-  library = λ s base referer number index arguments.
-      (library_plain (shelf_of pages) (place_now (shelf_of pages)) base referer number index
-      arguments).shut s;
-}
+-- none is open, whatever is added to a step
+abbrev shut : Kinship
+shut = staying (λ s. s.is_open ≡ false) (record {
+  more = λ lines asked tests s shut. or_false s.is_open ∙ shut;
+  changes = λ change s shut. shut;
+})
 
 run_shut : (pages : Pages) (machine : Stack) (first : List Line) (world : World)
     → (run_of machine first pages world).state.is_open ≡ false
 run_shut pages machine first world =
-    (finished_follows (uncounted machine.limits (host_of pages)) Shut
-    (host_shut pages machine.limits) machine.frames world.turns
-    (quiet [] (record { world = inside world; lines = first }))).kin
+    let s = quiet [] (record { world = inside world; lines = first }) in
+    finished_holds shut (host_of pages) (moved_alike shut (parts_of pages)) machine.limits
+    machine.frames world.turns s s (record { is = refl; so = refl })
 
 -- ---- counts
 

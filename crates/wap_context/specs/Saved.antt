@@ -33,10 +33,8 @@ with_last_in deck world = record world {
 abbrev pub revived_on : World → Page → Revived
 revived_on world (page.Deck deck) =
     Context (record { world = with_last_in deck world; deck = Some deck })
-revived_on world (page.Script unit) = Refused
-revived_on world (page.Words text) = Refused
-revived_on world page.Refused = Refused
 revived_on world page.Missing = Missing
+revived_on world other = Refused
 
 -- what is made of parts, where this is the page of the current card; without a card it doesn't
 -- matter
@@ -53,8 +51,7 @@ asked_for parts = map (λ entry. (name_for entry.url, false))
 -- the shelf has the deck of what was made
 abbrev pub StandsOver : Shelf → Revived → Type 0
 StandsOver shelf (Context browser) = IsOver shelf browser
-StandsOver shelf Missing = ⊤
-StandsOver shelf Refused = ⊤
+StandsOver shelf other = ⊤
 
 -- what is made of parts over any pages that these may be
 pub record IsRevived (parts : ContextParts) (seen : Seen) (result : Revived) : Type 0 where

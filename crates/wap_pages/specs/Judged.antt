@@ -150,13 +150,5 @@ Refuses name bytes = RefusesAs (kind_of name) bytes
 -- beside this fault another may be named: of the places of a unit at which the numbers of values
 -- don't fit any may be
 abbrev pub may_differ : PageFault → Bool
-may_differ fault.Missing = false
-may_differ (fault.Document why) = false
-may_differ (fault.Deck why) = false
-may_differ (fault.Source why) = false
-may_differ (fault.Unit why) = false
 may_differ (fault.Verify why) = is_of_depths why
-may_differ fault.NotText = false
-may_differ (fault.Image why) = false
-may_differ (fault.Save why) = false
-may_differ fault.NotDeck = false
+may_differ other = false

@@ -7,5 +7,5 @@ pub mod Turning
 pub mod Ignoring
 pub mod Replying
 pub mod Playing
+pub mod Sessions
 pub mod NoticesLemmas
-pub mod HandsetLemmas

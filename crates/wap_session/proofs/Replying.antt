@@ -12,7 +12,7 @@ use Rattle.wap_world.specs.site.Misses.{Asked}
 use Rattle.wap_world.specs.site.Asking.{Seen, Asks}
 use Rattle.wap_world.proofs.SiteLemmas.Asking.{Asks-nil, Stays-same}
 use Rattle.wap_world.specs.declared.timer.Timer.{Timer}
-use Rattle.wap_world.specs.declared.timer.Timer.TheVariants.{NotStarted, Running, Off, Expired}
+use Rattle.wap_world.specs.declared.timer.Timer.TheVariants.{Running, Expired}
 use Rattle.wap_world.specs.Shelves.{Shelf}
 use Rattle.wap_world.specs.World.{World, Place, place_now}
 use Rattle.wap_world.specs.Steps.{Scene, Step, then_step, quiet, still}
@@ -34,7 +34,7 @@ use Rattle.wap_context.specs.Pausing.{Paused, waits_of}
 use Rattle.wap_context.specs.Sites.{fragment_call}
 use Rattle.wap_context.specs.Acting.{Acts, answer, stop}
 use Rattle.wap_session.specs.Feeding.{left_open}
-use Rattle.wap_session.proofs.Turning.{turn_rule}
+use Rattle.wap_session.specs.inside.Turns.{resumed_rule}
 
 -- ---- an answer, and the end
 
@@ -50,7 +50,7 @@ replied pages one w reply key keys =
 -- a key that answers goes on with the script
 pub answers_so : (dialog : Dialog) (paused : Paused) (one : Key) (v : Value)
     → reply_to dialog one ≡ answers v → (pages : Pages) (keys : List Key) (world : World)
-    → turn_rule (Some (waits_of dialog paused)) one pages keys world
+    → resumed_rule (waits_of dialog paused) one pages keys world
     ≡ answer paused v pages keys world
 unfolding resumed_step
 answers_so dialog paused one v is pages keys world =
@@ -60,7 +60,7 @@ answers_so dialog paused one v is pages keys world =
 -- and `stop` ends it
 pub ends_so : (dialog : Dialog) (paused : Paused) (one : Key)
     → reply_to dialog one ≡ ends_it → (pages : Pages) (keys : List Key) (world : World)
-    → turn_rule (Some (waits_of dialog paused)) one pages keys world
+    → resumed_rule (waits_of dialog paused) one pages keys world
     ≡ stop paused pages keys world
 unfolding resumed_step
 ends_so dialog paused one is pages keys world =
@@ -88,7 +88,6 @@ out_apart (Some place) w =
 tick_apart : (shelf : Shelf) (n : ℕ) (timer : Timer) (w : World)
     → let scene = tick_waiting shelf n timer (inside w) in
     record scene { world = record scene.world { turns = w.turns } } ≡ tick_waiting shelf n timer w
-tick_apart shelf n NotStarted w = refl
 tick_apart shelf n (Running time) w = by (ltb n time)
   where
     by : (b : Bool) → let scene = cond b
@@ -99,27 +98,13 @@ tick_apart shelf n (Running time) w = by (ltb n time)
         (at_place run_out (place_now shelf w) w)
     by true = refl
     by false = out_apart (place_now shelf w) w
-tick_apart shelf n Off w = refl
-tick_apart shelf n Expired w = refl
+tick_apart shelf n timer w = refl
 
 -- or any key that is no answer
 apart : (shelf : Shelf) (one : Key) (w : World) → let scene = meanwhile shelf one (inside w) in
     record scene { world = record scene.world { turns = w.turns } } ≡ meanwhile shelf one w
-apart shelf (key.Open url) w = refl
-apart shelf (key.Do name) w = refl
-apart shelf (key.Pick n) w = refl
-apart shelf (key.Enter n text) w = refl
-apart shelf (key.Choose n m) w = refl
-apart shelf key.Back w = refl
 apart shelf (key.Tick n) w = tick_apart shelf n w.timer w
-apart shelf key.Ok w = refl
-apart shelf key.Cancel w = refl
-apart shelf (key.Answer text) w = refl
-apart shelf key.Stop w = refl
-apart shelf key.Vars w = refl
-apart shelf (key.Push bytes) w = refl
-apart shelf key.Inbox w = refl
-apart shelf (key.Follow n) w = refl
+apart shelf one w = refl
 
 module _ (pages : Pages) (one : Waits) (key : Key) (w : World)
     (is : reply_to one.dialog key ≡ passes) where
@@ -128,7 +113,7 @@ module _ (pages : Pages) (one : Waits) (key : Key) (w : World)
   scene = meanwhile (shelf_of pages) key w
 
   -- the dialog stays for the keys after it
-  passes_so : (keys : List Key) → turn_rule (Some one) key pages keys w
+  passes_so : (keys : List Key) → resumed_rule one key pages keys w
       ≡ then_step (quiet [] scene) (resumed_step fragment_call pages one keys scene.world)
   passes_so keys =
       stay_means fragment_call pages one w key is keys
@@ -136,13 +121,13 @@ module _ (pages : Pages) (one : Waits) (key : Key) (w : World)
       (apart (shelf_of pages) key w)
 
   -- and without these it is open
-  left_so : turn_rule (Some one) key pages [] w
+  left_so : resumed_rule one key pages [] w
       ≡ record (quiet [] (record scene { lines = scene.lines ++ [] })) { is_open = true }
   unfolding resumed_step
   left_so = passes_so []
 
   -- so this was done
-  shut_so : left_open (turn_rule (Some one) key pages [] w) ≡ quiet [] scene
+  shut_so : left_open (resumed_rule one key pages [] w) ≡ quiet [] scene
   shut_so = ap (λ (s : Step). left_open s) left_so
       ∙ ap (λ (lines : List (List ℕ)). quiet [] (record scene { lines = lines }))
       (append-nil scene.lines)
@@ -151,7 +136,7 @@ module _ (pages : Pages) (one : Waits) (key : Key) (w : World)
 pub passes_act : (dialog : Dialog) (paused : Paused) (one : Key) (seen : Seen)
     (old new : Browser) (lines : List (List ℕ)) → reply_to dialog one ≡ passes
     → Shows old new lines (λ shelf world. meanwhile shelf one world)
-    → Acts (turn_rule (Some (waits_of dialog paused)) one) seen seen old new
+    → Acts (resumed_rule (waits_of dialog paused) one) seen seen old new
     (Ok (AsksUser lines dialog paused))
 passes_act dialog paused one seen old new lines is shows =
     let waits = waits_of dialog paused in

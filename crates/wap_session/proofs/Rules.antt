@@ -1,7 +1,7 @@
 -- Calls of a context, and of what is built on one, by their rules.
 use Rattle.std.proofs.Common.{◌≡◌, ℕ, List, [], ◌∷◌, ◌++◌, Option, Result}
 use Rattle.std.proofs.Common.{Ok, Err, refl, sym, ap, subst, ◌∙◌}
-use Rattle.std.specs.Prelude.{IsErrAnd, is_some}
+use Rattle.std.specs.Prelude.{IsErrAnd, OnOk, is_some}
 use Rattle.std.proofs.lemmas.Result.{err_from_is_err_and}
 use Rattle.wap_base.specs.declared.fault.RunErr.{RunErr}
 use Rattle.wap_base.specs.declared.fault.RunErr.TheVariants as run
@@ -126,6 +126,11 @@ pub Acts-same : (one other : Rule) (before after : Seen) (old new : Browser)
     → Acts other before after old new result
 Acts-same one other before after old new same =
     Acts-leads one other before after old old new (λ pages is. (is, same pages is))
+
+-- what holds anyhow holds where a call did something
+pub anyhow : {A B : Type 0} {P : Type 0} (result : Result A B) → P → OnOk result P
+anyhow (Ok value) so = so
+anyhow (Err fault) so = tt
 
 -- ---- memory ran out
 

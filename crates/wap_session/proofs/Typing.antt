@@ -3,6 +3,7 @@ use Rattle.std.proofs.Common.{◌≡◌, ℕ, Bool, true, false, List, [], Optio
 use Rattle.std.specs.Prelude.{is_some, if◌then◌else◌, not}
 use Rattle.std.specs.Option.{option_map_or, option_and_then}
 use Rattle.wap_base.specs.declared.key.Key.{Key}
+use Rattle.wap_push.specs.declared.indication.Indication.{Indication}
 use Rattle.wap_cardrules.specs.Dos.{do_task}
 use Rattle.wap_cardrules.specs.Fields.{link_task}
 use Rattle.wap_cardrules.specs.declared.task.Task.TheVariants.{Prev}
@@ -28,6 +29,7 @@ use Rattle.wap_world.specs.Keys.{choose_option, after_choice, at_card, apply, pa
 use Rattle.wap_context.specs.Browsers.{Browser, IsOver, Shows, with_vars, typed_in, chosen_in}
 use Rattle.wap_context.specs.Browsers.{place_held}
 use Rattle.wap_session.specs.Ignoring.{fits_nothing}
+use Rattle.wap_session.specs.inside.Pressing.{press_rule}
 use Rattle.wap_session.specs.inside.Pressing.{typed}
 use Rattle.wap_context.proofs.Places.{held_now}
 use Rattle.wap_session.proofs.Rules.{LeadsTo}
@@ -271,36 +273,37 @@ without_card pages keys browser rule none is =
     (held_now (shelf_of pages) browser is ∙ no_place (place_held browser) none)
 
 -- each of them
-pub fits : (one : Key) (pages : Pages) (keys : List Key) (browser : Browser)
-    → fits_nothing (is_some (place_held browser)) one ≡ true → IsOver (shelf_of pages) browser
-    → apply (site_of pages) keys browser.world one ≡ quiet keys (ignored browser.world)
+pub fits : (one : Key) (pushes : List Indication) (pages : Pages) (keys : List Key)
+    (browser : Browser) → fits_nothing (is_some (place_held browser)) one ≡ true
+    → IsOver (shelf_of pages) browser
+    → press_rule pushes one pages keys browser.world ≡ quiet keys (ignored browser.world)
 unfolding units_site
-fits (key.Open url) pages keys browser nothing is = absurd cc
-fits (key.Do name) pages keys browser nothing is =
+fits (key.Open url) pushes pages keys browser nothing is = absurd cc
+fits (key.Do name) pushes pages keys browser nothing is =
     without_card pages keys browser
     (λ place. act_or (ignored browser.world) (site_of pages) keys browser.world
     (do_task browser.world.vars place.deck place.card name)) nothing is
-fits (key.Pick n) pages keys browser nothing is =
+fits (key.Pick n) pushes pages keys browser nothing is =
     without_card pages keys browser
     (λ place. act_or (ignored browser.world) (site_of pages) keys browser.world
     (link_task browser.world.vars place.card n)) nothing is
-fits (key.Enter n text) pages keys browser nothing is =
+fits (key.Enter n text) pushes pages keys browser nothing is =
     without_card pages keys browser
     (λ place. quiet keys (type_text (shelf_of pages) n text place browser.world)) nothing is
-fits (key.Choose n m) pages keys browser nothing is =
+fits (key.Choose n m) pushes pages keys browser nothing is =
     without_card pages keys browser
     (λ place. choose_option (site_of pages) keys n m place browser.world) nothing is
-fits key.Back pages keys browser nothing is =
+fits key.Back pushes pages keys browser nothing is =
     without_card pages keys browser
     (λ place. act (site_of pages) keys browser.world (then_task (Prev []))) nothing is
-fits (key.Tick n) pages keys browser nothing is =
+fits (key.Tick n) pushes pages keys browser nothing is =
     without_card pages keys browser
     (λ place. pass_time (site_of pages) keys n browser.world.timer place browser.world) nothing is
-fits key.Ok pages keys browser nothing is = refl
-fits key.Cancel pages keys browser nothing is = refl
-fits (key.Answer text) pages keys browser nothing is = refl
-fits key.Stop pages keys browser nothing is = refl
-fits key.Vars pages keys browser nothing is = absurd cc
-fits (key.Push bytes) pages keys browser nothing is = refl
-fits key.Inbox pages keys browser nothing is = refl
-fits (key.Follow n) pages keys browser nothing is = refl
+fits key.Ok pushes pages keys browser nothing is = refl
+fits key.Cancel pushes pages keys browser nothing is = refl
+fits (key.Answer text) pushes pages keys browser nothing is = refl
+fits key.Stop pushes pages keys browser nothing is = refl
+fits key.Vars pushes pages keys browser nothing is = absurd cc
+fits (key.Push bytes) pushes pages keys browser nothing is = absurd cc
+fits key.Inbox pushes pages keys browser nothing is = absurd cc
+fits (key.Follow n) pushes pages keys browser nothing is = absurd cc

@@ -1,28 +1,23 @@
--- Keys that a session ignores without a look at its card. This project's own.
+-- Keys that a session ignores without a look at its card or its inbox. This project's own.
 use Rattle.std.specs.Prelude.{Bool, true, false, not, ◌&&◌, is_some, is_none}
 use Rattle.wap_base.specs.declared.key.Key.{Key}
 use Rattle.wap_base.specs.declared.key.Key.TheVariants as key
 use Rattle.wap_context.specs.Browsers.{place_held}
 use Rattle.wap_session.specs.Feeding.{State}
 
--- whether a key fits nothing outside a dialog, whatever a card has: those of dialogs, those of an
--- inbox, and without a card those that are for one
+-- whether a key fits nothing outside a dialog, whatever a card or an inbox has: those of dialogs,
+-- and without a card those that are for one
 abbrev pub fits_nothing : Bool → Key → Bool
-fits_nothing has_card (key.Open url) = false
-fits_nothing has_card (key.Do name) = not has_card
-fits_nothing has_card (key.Pick n) = not has_card
-fits_nothing has_card (key.Enter n text) = not has_card
-fits_nothing has_card (key.Choose n m) = not has_card
-fits_nothing has_card key.Back = not has_card
-fits_nothing has_card (key.Tick n) = not has_card
 fits_nothing has_card key.Ok = true
 fits_nothing has_card key.Cancel = true
 fits_nothing has_card (key.Answer text) = true
 fits_nothing has_card key.Stop = true
+fits_nothing has_card (key.Open url) = false
 fits_nothing has_card key.Vars = false
-fits_nothing has_card (key.Push bytes) = true
-fits_nothing has_card key.Inbox = true
-fits_nothing has_card (key.Follow n) = true
+fits_nothing has_card (key.Push bytes) = false
+fits_nothing has_card key.Inbox = false
+fits_nothing has_card (key.Follow n) = false
+fits_nothing has_card one = not has_card
 
 -- so it is ignored outside a dialog, until a key fails
 abbrev pub ignores : State → Key → Bool

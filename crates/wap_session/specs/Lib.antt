@@ -2,4 +2,3 @@ pub mod Feeding
 pub mod Ignoring
 pub mod inside
 pub mod notices
-pub mod handset

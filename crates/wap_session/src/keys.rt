@@ -1,5 +1,5 @@
 //! What each key does, one function for each that is more than one call.
-ghost use Rattle.std.specs.Prelude.{◌≡◌, ◌∷◌, [], IfOk};
+ghost use Rattle.std.specs.Prelude.{◌≡◌, ◌∷◌, [], IfOk, OnOk};
 ghost use Rattle.std.specs.Option.{option_and_then};
 ghost use Rattle.std.specs.Prelude.{is_some};
 ghost use Rattle.wap_cardrules.specs.Dos.{do_task};
@@ -10,21 +10,27 @@ ghost use Rattle.wap_world.specs.Lines.{refusal_line};
 ghost use Rattle.wap_world.specs.Steps.{behind};
 ghost use Rattle.wap_world.specs.Screens.{show, show_screen, refuse};
 ghost use Rattle.wap_world.specs.Keys.{ignored, act_or, apply};
+ghost use Rattle.wap_world.specs.inboxes.Inboxes.{pushes_after, opening, play_pressed};
+ghost use Rattle.wap_push.specs.Pushes.{push_at};
+ghost use Rattle.wap_push.specs.Inbox.{HaveWinners};
 ghost use Rattle.wap_world.specs.scripting.UnitSites.{shelf_of};
 ghost use Rattle.wap_context.specs.Browsers.{place_held, Shows};
 ghost use Rattle.wap_context.specs.Sites.{site_of};
 ghost use Rattle.wap_context.specs.Acting.{Acts};
 ghost use Rattle.wap_session.specs.Ignoring.{fits_nothing};
 ghost use Rattle.wap_session.specs.inside.Turns.{IsBehind};
-ghost use Rattle.wap_session.specs.inside.Pressing.{typed};
+ghost use Rattle.wap_session.specs.inside.Pressing.{typed, press_rule};
+ghost use Rattle.wap_session.specs.notices.Taking.{url_in};
 
 use crate::lines::{refusal_lines, variable_lines};
+use crate::notices::{entry_lines, take_push, url_in};
 use std::alloc::Global;
 use wap_base::{Key, NoMemory, Rows, RunErr, Text};
 use wap_cardrules::{Chosen, Entered, Task};
 use wap_cards::{do_task, link_task};
 use wap_context::{Context, Step};
 use wap_layout::buffer::Lines;
+use wap_push::Inbox;
 use wap_state::screen_lines::add_fault_lines;
 use wap_world::Refusal;
 use wap_world::site::Pages;
@@ -41,20 +47,14 @@ pub(crate) fn fits_nothing(context: &Context, key: &Key) -> bool
     ensures { result ≡ fits_nothing (is_some (place_held context.now)) key.now }
 {
     match key {
-        Key::Open(_) | Key::Vars => false,
+        Key::Ok | Key::Cancel | Key::Answer(_) | Key::Stop => true,
+        Key::Open(_) | Key::Vars | Key::Push(_) | Key::Inbox | Key::Follow(_) => false,
         Key::Do(_)
         | Key::Pick(_)
         | Key::Enter(_, _)
         | Key::Choose(_, _)
         | Key::Back
         | Key::Tick(_) => !context.has_card(),
-        Key::Ok
-        | Key::Cancel
-        | Key::Answer(_)
-        | Key::Stop
-        | Key::Push(_)
-        | Key::Inbox
-        | Key::Follow(_) => true,
     }
 }
 
@@ -80,12 +80,16 @@ fn behind(mut lines: Lines, did: Step) -> Result<Step, NoMemory>
 /// `Store` where a page couldn't be fetched, and `NoMemory`.
 pub(crate) fn press<P: Pages>(
     context: &mut Context,
+    inbox: &mut Inbox,
     alloc: Global,
     key: &Key,
     pages: &mut P,
 ) -> Result<Step, RunErr>
-    ensures { Acts (λ of keys world. apply (site_of of) keys world key.now)
+    requires own { HaveWinners inbox.old inbox.old }
+    ensures acts { Acts (press_rule inbox.old key.now)
         (P.seen pages.old) (P.seen pages.new) context.old context.new result }
+    ensures taken { OnOk result (HaveWinners (pushes_after push_at inbox.old key.now) inbox.new) }
+    ensures own { HaveWinners inbox.new inbox.new }
 {
     match key {
         Key::Open(url) => context.open(alloc, pages, url),
@@ -98,13 +102,30 @@ pub(crate) fn press<P: Pages>(
         Key::Back => go_back(context, alloc, pages),
         Key::Tick(time) => context.tick(alloc, pages, *time),
         Key::Vars => Ok(Step::Settled(variable_lines(alloc, context.vars())?)),
-        Key::Ok
-        | Key::Cancel
-        | Key::Answer(_)
-        | Key::Stop
-        | Key::Push(_)
-        | Key::Inbox
-        | Key::Follow(_) => Ok(ignore(alloc)?),
+        Key::Ok | Key::Cancel | Key::Answer(_) | Key::Stop => Ok(ignore(alloc)?),
+        Key::Push(bytes) => Ok(Step::Settled(take_push(inbox, alloc, bytes.as_slice())?)),
+        Key::Inbox => Ok(Step::Settled(entry_lines(alloc, inbox)?)),
+        Key::Follow(number) => follow_entry(context, inbox, alloc, *number, pages),
+    }
+}
+
+/// Opens the URL of the entry of a number; without one the key fits nothing.
+// A call, so that other keys take no room for it.
+#[inline(never)]
+fn follow_entry<P: Pages>(
+    context: &mut Context,
+    inbox: &Inbox,
+    alloc: Global,
+    number: u16,
+    pages: &mut P,
+) -> Result<Step, RunErr>
+    ensures { Acts (λ of keys world.
+        play_pressed (site_of of) keys world (opening (url_in inbox.now number)))
+        (P.seen pages.old) (P.seen pages.new) context.old context.new result }
+{
+    match url_in(inbox, alloc, usize::from(number))? {
+        Some(url) => context.open(alloc, pages, &url),
+        None => Ok(ignore(alloc)?),
     }
 }
 

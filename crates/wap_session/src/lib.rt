@@ -1,14 +1,14 @@
-//! Browsers that are played by keys, and handsets, which have an inbox.
+//! Browsers that are played by keys, with an inbox of service indications.
 //!
-//! - `notices`: What a handset shows of service indications: the lines of what is pushed into an
-//!   inbox, and of its entries.
-//! - `handset`: A handset: a session that is played by keys, with an inbox of service indications.
+//! - `notices`: What is shown of service indications: the lines of what is pushed into an inbox, and
+//!   of its entries.
+//! - `laws`: What follows from the definitions of sessions. It runs nothing.
 #![tactic(auto)]
 
 mod dots;
 mod fault;
-pub mod handset;
 mod keys;
+pub mod laws;
 mod lines;
 pub mod notices;
 mod replies;

@@ -1,4 +1,4 @@
-//! What a handset shows of service indications: the lines of what is pushed into an inbox, and of its
+//! What is shown of service indications: the lines of what is pushed into an inbox, and of its
 //! entries.
 
 mod entries;

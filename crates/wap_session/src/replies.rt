@@ -1,14 +1,12 @@
 //! Keys in a dialog (WAP-194, "Dialogs Library").
-ghost use Rattle.std.specs.Prelude.{◌≡◌, Some, IfOk};
+ghost use Rattle.std.specs.Prelude.{◌≡◌, IfOk};
 ghost use Rattle.wap_world.specs.scripting.Dialogs.{reply_to_prompt, reply_to_buttons, reply_to};
 ghost use Rattle.wap_world.specs.scripting.Dialogs.{meanwhile};
-ghost use Rattle.wap_world.specs.scripting.Feeding.{turned};
 ghost use Rattle.wap_base.specs.declared.key.Key.TheVariants as the_keys;
 ghost use Rattle.wap_context.specs.Browsers.{Shows};
 ghost use Rattle.wap_context.specs.Pausing.{waits_of};
-ghost use Rattle.wap_context.specs.Sites.{fragment_call};
 ghost use Rattle.wap_context.specs.Acting.{Acts};
-ghost use Rattle.wap_session.specs.inside.Turns.{meant};
+ghost use Rattle.wap_session.specs.inside.Turns.{meant, resumed_rule};
 
 use crate::lines::{refusal_lines, variable_lines};
 use std::alloc::Global;
@@ -144,8 +142,8 @@ pub(crate) fn play_in_dialog<P: Pages>(
     key: &Key,
     pages: &mut P,
 ) -> Result<Step, RunErr>
-    ensures { Acts (λ of keys world. turned fragment_call of (Some (waits_of dialog waiting)) world
-        key.now keys) (P.seen pages.old) (P.seen pages.new) context.old context.new result }
+    ensures { Acts (resumed_rule (waits_of dialog waiting) key.now)
+        (P.seen pages.old) (P.seen pages.new) context.old context.new result }
 {
     match reply_to(alloc, &dialog, key)? {
         Reply::Answers(value) => context.answer(alloc, pages, waiting, value),

@@ -5,7 +5,9 @@ ghost use Rattle.wap_session.specs.Feeding.{going_on, context_at_rest};
 
 use crate::session::Session;
 use crate::standing::Standing;
+use std::alloc::Global;
 use wap_context::Context;
+use wap_push::Inbox;
 
 impl Session {
     /// The context, unless a script waits for its user or a key failed.
@@ -18,8 +20,9 @@ impl Session {
         }
     }
 
-    /// A session that goes on with a context. Each key has so many turns, one at least.
-    pub fn of(context: Context, budget: u32) -> Session
+    /// A session that goes on with a context, with nothing in its inbox. Each key has so many turns,
+    /// one at least.
+    pub fn of(alloc: Global, context: Context, budget: u32) -> Session
         requires { 0 < budget }
         ensures { result ≡ going_on context budget }
     {
@@ -28,6 +31,7 @@ impl Session {
         Session {
             context,
             standing: Standing::Rest,
+            inbox: Inbox::new(alloc),
         }
     }
 }

@@ -3,6 +3,7 @@ ghost use Rattle.std.specs.Prelude.{◌≡◌, ◌++◌, ◌∷◌, ℕ, List, [
 ghost use Rattle.std.specs.Prelude.{◌&&◌, not, None, Ok};
 ghost use Rattle.std.specs.Prelude.{IfOk, OnOk, IfErr, OnErr, IsErrOf};
 ghost use Rattle.wap_base.specs.Limits.{AreInRange};
+ghost use Rattle.wap_push.specs.Inbox.{HaveWinners};
 ghost use Rattle.wap_context.specs.Missing.{Missed};
 ghost use Rattle.wap_context.specs.Sites.{IfOver};
 ghost use Rattle.wap_world.specs.site.Asking.{Seen};
@@ -20,19 +21,22 @@ use std::mem;
 use wap_base::{Key, Limits, NoMemory};
 use wap_context::Context;
 use wap_layout::buffer::Lines;
+use wap_push::Inbox;
 use wap_world::site::Pages;
 
-/// A browser that is played by keys: it is at rest, waits for the answer to a dialog, or is over. A
-/// contract sees its state between two keys.
+/// A browser that is played by keys, with an inbox: it is at rest, waits for the answer to a dialog,
+/// or is over. A contract sees its state between two keys.
 #[derive(Drop)]
 pub struct Session {
     pub(crate) context: Context,
     pub(crate) standing: Standing,
+    pub(crate) inbox: Inbox,
 }
 
 impl Model for Session {
     ghost use Rattle.wap_session.specs.Feeding.{State};
     ghost use Rattle.wap_session.specs.inside.Turns.{state_of};
+    ghost use Rattle.wap_push.specs.Inbox.{HaveWinners};
     ghost use Rattle.wap_tokens.specs.contracts.markup.deck.Item as item;
     ghost use Rattle.std.specs.Coded.{codes};
 
@@ -40,7 +44,9 @@ impl Model for Session {
 
     ghost coded = { Prim.hlevel (codes, item.the_row.coded) };
 
-    ghost view = { λ session. state_of session.context session.standing };
+    ghost view = { λ session. state_of session.context session.standing session.inbox };
+
+    ghost invariant = { λ session. HaveWinners session.inbox session.inbox };
 }
 
 impl Session {
@@ -56,12 +62,14 @@ impl Session {
         Session {
             context,
             standing: Standing::Rest,
+            inbox: Inbox::new(alloc),
         }
     }
 
     /// Whether a key failed.
     fn is_over(&self) -> bool
-        ensures { result ≡ self.now.is_over }
+        ensures over { result ≡ self.now.is_over }
+        ensures own { HaveWinners self.now.winners self.now.winners }
     {
         match &self.standing {
             Standing::Over => true,
@@ -79,9 +87,9 @@ impl Session {
         }
     }
 
-    /// Plays a key that fits nothing, if that shows outside a dialog without a look at the card,
-    /// and answers whether it did. The one line that the key shows isn't made: `refusal_lines`
-    /// has it. Any other key is left to `feed`.
+    /// Plays a key that fits nothing, if that shows outside a dialog without a look at the card or
+    /// the inbox, and answers whether it did. The one line that the key shows isn't made:
+    /// `refusal_lines` has it. Any other key is left to `feed`.
     pub fn try_ignore(&mut self, key: &Key) -> bool
         ensures when { result ≡ ignores self.old key.now }
         ensures plays { result ≡ true → (seen : Seen) → Plays (key.now ∷ []) seen seen
@@ -103,7 +111,8 @@ impl Session {
         true
     }
 
-    /// Plays a key, and gives the lines that it shows. In a dialog it answers this, if it can.
+    /// Plays a key, and gives the lines that it shows. In a dialog it answers this, if it can;
+    /// outside one `Push`, `Inbox` and `Follow` are those of the inbox.
     ///
     /// # Errors
     /// `Store` where a page couldn't be fetched, and `NoMemory`; from then on `Ended`.
@@ -129,7 +138,14 @@ impl Session {
             return Err(SessionFault::Ended);
         }
         let standing = mem::replace(&mut self.standing, Standing::Over);
-        let did = turn(&mut self.context, alloc, standing, key, pages)?;
+        let did = turn(
+            &mut self.context,
+            &mut self.inbox,
+            alloc,
+            standing,
+            key,
+            pages,
+        )?;
         let (lines, standing) = after(alloc, did)?;
         self.standing = standing;
         Ok(lines)

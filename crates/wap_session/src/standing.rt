@@ -1,11 +1,11 @@
 //! How a session stands between two keys, and what a key does there.
-ghost use Rattle.std.specs.Prelude.{◌≡◌, false, map, Some, IfOk};
+ghost use Rattle.std.specs.Prelude.{◌≡◌, false, map, IfOk, OnOk};
 ghost use Rattle.wap_base.specs.Controls.{shown_text};
-ghost use Rattle.wap_world.specs.scripting.Feeding.{turned};
+ghost use Rattle.wap_push.specs.Inbox.{HaveWinners};
 ghost use Rattle.wap_context.specs.Pausing.{waits_of};
-ghost use Rattle.wap_context.specs.Sites.{fragment_call};
 ghost use Rattle.wap_context.specs.Acting.{Acts, lines_in};
-ghost use Rattle.wap_session.specs.inside.Turns.{waiting_of, is_over, IsAfter};
+ghost use Rattle.wap_session.specs.inside.Turns.{waiting_of, is_over, resumed_rule, turn_rule};
+ghost use Rattle.wap_session.specs.inside.Turns.{taken_by, IsAfter};
 
 use crate::dots::shown_lines;
 use crate::keys::press;
@@ -15,6 +15,7 @@ use wap_base::{Key, NoMemory, RunErr};
 use wap_context::{Context, Step, Waiting};
 use wap_execution::Dialog;
 use wap_layout::buffer::Lines;
+use wap_push::Inbox;
 use wap_world::site::Pages;
 
 /// A dialog, and the script that goes on with its answer.
@@ -45,8 +46,7 @@ fn play_asked<P: Pages>(
     key: &Key,
     pages: &mut P,
 ) -> Result<Step, RunErr>
-    ensures { Acts (λ of keys world. turned fragment_call of
-        (Some (waits_of asked.value.dialog asked.value.waiting)) world key.now keys)
+    ensures { Acts (resumed_rule (waits_of asked.value.dialog asked.value.waiting) key.now)
         (P.seen pages.old) (P.seen pages.new) context.old context.new result }
 {
     let Asked { dialog, waiting } = Box::into_inner(asked);
@@ -54,23 +54,28 @@ fn play_asked<P: Pages>(
 }
 
 /// Plays a key by how the session stands: outside a dialog it has its turns, and in one those that
-/// are left.
+/// are left, and no push is taken.
 pub(crate) fn turn<P: Pages>(
     context: &mut Context,
+    inbox: &mut Inbox,
     alloc: Global,
     standing: Standing,
     key: &Key,
     pages: &mut P,
 ) -> Result<Step, RunErr>
-    requires { is_over standing ≡ false }
-    ensures { Acts (λ of keys world. turned fragment_call of (waiting_of standing) world
-        key.now keys) (P.seen pages.old) (P.seen pages.new) context.old context.new result }
+    requires going { is_over standing ≡ false }
+    requires own { HaveWinners inbox.old inbox.old }
+    ensures acts { Acts (turn_rule (waiting_of standing) inbox.old key.now)
+        (P.seen pages.old) (P.seen pages.new) context.old context.new result }
+    ensures taken { OnOk result
+        (HaveWinners (taken_by (waiting_of standing) inbox.old key.now) inbox.new) }
+    ensures own { HaveWinners inbox.new inbox.new }
 {
     match standing {
         Standing::Rest => {
             let budget = context.budget();
             context.begin_key(budget);
-            press(context, alloc, key, pages)
+            press(context, inbox, alloc, key, pages)
         }
         Standing::Waits(asked) => play_asked(context, alloc, asked, key, pages),
         Standing::Over => unreachable!(),

@@ -1,5 +1,5 @@
 pub mod Replacing
+pub mod Letting
 pub mod Denying
 pub mod Sources
-pub mod Inboxes
 pub mod Stores

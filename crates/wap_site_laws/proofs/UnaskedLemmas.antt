@@ -1,5 +1,3 @@
 pub mod Beside
-pub mod Hosts
 pub mod Rules
 pub mod Sites
-pub mod Inboxes

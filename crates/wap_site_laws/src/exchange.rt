@@ -8,10 +8,8 @@ ghost use Rattle.wap_base.specs.declared.key.Key.{Key};
 ghost use Rattle.wap_push.specs.declared.indication.Indication.{Indication};
 ghost use Rattle.wap_push.specs.declared.fault.PushFault.{PushFault};
 ghost use Rattle.wap_world.specs.Sites.{Call};
-ghost use Rattle.wap_world.specs.World.{World};
+ghost use Rattle.wap_world.specs.inboxes.Inboxes.{Phone};
 ghost use Rattle.wap_world.specs.Sessions.{played};
-ghost use Rattle.wap_world.specs.inboxes.Inboxes.{Handset};
-ghost use Rattle.wap_world.specs.inboxes.Sessions.{played_with};
 ghost use Rattle.wap_world.specs.scripting.UnitSites.{units_site};
 ghost use Rattle.wap_world.specs.scripting.Sources.{LanguageOf, AllPages, Agrees, site_of};
 ghost use Rattle.wap_world.specs.scripting.Sources.{compiled_pages};
@@ -38,19 +36,12 @@ pub fn sources_may_be_compiled<L: Language>()
 /// Stores that differ in scripts alone, which let the same in, show the same over keys by which no
 /// such script was entered: each access test of one was a denial.
 pub fn denied_scripts_do_not_matter()
-    ensures alone { (call : List ℕ → Option Call) (among : List ℕ → Bool) (one other : Contents)
-        (pages others : AllPages Accepted) → DifferInScripts among one other pages others
-        → (keys : List Key) (world : World)
-        → let here = site_of programs call pages in
-        let there = site_of programs call others in
-        is_let_in among (played here keys world).tests ≡ false
-        → played here keys world ≡ played there keys world }
-    ensures with_inbox { (call : List ℕ → Option Call) (among : List ℕ → Bool)
+    ensures { (call : List ℕ → Option Call) (among : List ℕ → Bool)
         (one other : Contents) (pages others : AllPages Accepted)
         → DifferInScripts among one other pages others
-        → (read : List ℕ → Result Indication PushFault) (keys : List Key) (handset : Handset)
+        → (read : List ℕ → Result Indication PushFault) (keys : List Key) (phone : Phone)
         → let here = site_of programs call pages in
         let there = site_of programs call others in
-        is_let_in among (played_with read here keys handset).step.tests ≡ false
-        → played_with read here keys handset ≡ played_with read there keys handset }
+        is_let_in among (played read here keys phone).step.tests ≡ false
+        → played read here keys phone ≡ played read there keys phone }
 {}

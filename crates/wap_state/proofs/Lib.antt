@@ -1,4 +1,3 @@
-pub mod Slots
 pub mod Standing
 pub mod Lasts
 pub mod Keeping

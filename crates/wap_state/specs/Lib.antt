@@ -2,6 +2,5 @@ pub mod CardAtHand
 pub mod Scenes
 pub mod Standing
 pub mod Saved
-pub mod inside
 pub mod page_urls
 pub mod screen_lines

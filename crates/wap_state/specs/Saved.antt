@@ -21,8 +21,7 @@ use Rattle.wap_world.specs.World.{World}
 abbrev pub saved_timer : Timer → SavedTimer
 saved_timer NotStarted = saved.NotStarted
 saved_timer (Running tenths) = saved.Running tenths
-saved_timer Off = saved.Off
-saved_timer Expired = saved.Off
+saved_timer other = saved.Off
 
 -- the timer of a world; without a card it is not started
 abbrev pub timer_in : List Entry → Timer → SavedTimer

@@ -1,82 +1,29 @@
 //! The history (WAP-191, section 9.2).
 ghost use Rattle.std.specs.Prelude.{◌≡◌, ◌≤◌, ◌<◌, ◌-◌, nat_lt, if◌then◌else◌, [], ◌∷◌, ◌++◌};
-ghost use Rattle.std.specs.Prelude.{length, map, take, drop, slice_get, Some, None};
-ghost use Rattle.std.specs.Prelude.{IfSome, IfOk, OnOk, OnErr};
-ghost use Rattle.std.specs.List.{last_or, flat_map, AllByRecursion};
+ghost use Rattle.std.specs.Prelude.{length, map, take, drop, slice_get, vec_len, vec_capacity};
+ghost use Rattle.std.specs.Prelude.{None, IfSome, IfOk, OnOk, OnErr};
+ghost use Rattle.std.specs.List.{last_or, AllByRecursion};
 ghost use Rattle.std.specs.Option.{option_map, option_copied, option_to_list};
-ghost use Rattle.wap_base.specs.declared.limits.TheConstants.{MOST_HISTORY};
 ghost use Rattle.wap_state.specs.page_urls.PageUrls.{IsPageUrl, IsPageEntry};
 ghost use Rattle.wap_world.specs.declared.timer.Timer.TheVariants.{NotStarted};
 ghost use Rattle.wap_world.specs.World.{last_entry};
 ghost use Rattle.wap_world.specs.History.{pushed, earlier_entry, all_but_last, back_at};
 ghost use Rattle.wap_state.specs.Saved.{saved_entry};
-ghost use Rattle.wap_state.specs.inside.History.{saved_slot};
 
 use crate::page_urls::PageEntry;
 use crate::state::State;
-use arrayvec::ArrayVec;
 use std::alloc::Global;
 use std::marker::Model;
-use wap_base::{MOST_HISTORY, NoMemory, Rows, Text};
+use wap_base::{NoMemory, Rows, Text};
 use wap_url::{Url, print};
 use wap_world::Timer;
 
-/// How many entries there is room for, which is the most that may be chosen.
-const ROOM: usize = MOST_HISTORY as usize;
-
-/// Room for an entry, which stands in memory of its own. A contract sees the entry, if there is
-/// one.
-#[derive(Drop)]
-struct Slot {
-    held: Option<Box<PageEntry>>,
-}
-
-impl Model for Slot {
-    ghost use Rattle.std.specs.Prelude.{Option};
-    ghost use Rattle.std.specs.Option.{option_map};
-    ghost use Rattle.wap_world.specs.declared.history.Entry.{Entry};
-
-    ghost Value = { Option Entry };
-
-    ghost view = { λ slot. option_map (λ held. held.value) slot.held };
-}
-
-impl Default for Slot {
-    ghost use Rattle.std.specs.Prelude.{◌≡◌, None};
-
-    ghost is_default = { λ slot. slot ≡ None };
-
-    fn default() -> Slot {
-        Slot { held: None }
-    }
-}
-
-impl Slot {
-    /// The rules that the entry keeps. It does nothing.
-    fn keep_rules(&self)
-        ensures { IfSome self.now IsPageEntry }
-    {
-        if let Some(held) = &self.held {
-            held.keep_rules();
-        }
-    }
-
-    fn entry(&self) -> Option<&PageEntry>
-        ensures { option_copied result ≡ self.now }
-    {
-        match &self.held {
-            Some(held) => Some(held),
-            None => None,
-        }
-    }
-}
-
-/// The rules that the entries of slots keep. It does nothing.
-fn keep_slots(slots: &[Slot])
-    ensures { AllByRecursion (λ slot. IfSome slot IsPageEntry) slots.now }
+/// The rules that entries keep. It does nothing.
+fn keep_entries(entries: &[PageEntry])
+    ensures { AllByRecursion IsPageEntry entries.now }
 {
-    for slot in slots {
-        slot.keep_rules();
+    for entry in entries {
+        entry.keep_rules();
     }
 }
 
@@ -87,47 +34,63 @@ fn saved_entry(alloc: Global, entry: &PageEntry) -> Result<(Text, usize), NoMemo
     Ok((print(alloc, entry.url())?, entry.card()))
 }
 
-/// Adds the entry of a slot as it is saved, if there is one.
-fn add_slot(alloc: Global, slot: &Slot, entries: &mut Rows<(Text, usize)>) -> Result<(), NoMemory>
-    ensures { OnOk result (entries.new ≡ entries.old ++ saved_slot slot.now) }
-{
-    if let Some(entry) = slot.entry() {
-        entries.add(saved_entry(alloc, entry)?)?;
-    }
-    Ok(())
-}
-
 /// The same of several, in order.
-fn add_slots(
-    alloc: Global,
-    slots: &[Slot],
-    entries: &mut Rows<(Text, usize)>,
-) -> Result<(), NoMemory>
-    ensures { OnOk result (entries.new ≡ entries.old ++ flat_map saved_slot slots.now) }
+fn saved_entries(alloc: Global, entries: &[PageEntry]) -> Result<Rows<(Text, usize)>, NoMemory>
+    ensures { IfOk result (λ saved. saved ≡ map saved_entry entries.now) }
 {
-    for slot in slots {
-        add_slot(alloc, slot, entries)?;
+    let mut saved = Rows::new(alloc);
+    for entry in entries {
+        saved.add(saved_entry(alloc, entry)?)?;
     }
-    Ok(())
+    Ok(saved)
 }
 
-/// Entries in order, of which there are as many as there is room for at most. A contract sees the
-/// list of them.
+/// Drops the last entry, if there is one.
+fn drop_last(entries: &mut Vec<PageEntry>)
+    ensures rest { entries.new.items ≡ all_but_last entries.old.items }
+    ensures fewer { vec_len entries.new ≤ vec_len entries.old }
+    ensures room { vec_capacity entries.new ≡ vec_capacity entries.old }
+{
+    let count = entries.len();
+    entries.truncate(count.saturating_sub(1));
+}
+
+/// Drops the first entry where there are so many.
+fn make_room(entries: &mut Vec<PageEntry>, limit: u8)
+    ensures kept { entries.new.items ≡ (if nat_lt (length entries.old.items) limit
+        then entries.old.items else drop 1 entries.old.items) }
+    ensures fewer { vec_len entries.new ≤ vec_len entries.old }
+    ensures room { vec_capacity entries.new ≡ vec_capacity entries.old }
+{
+    if entries.len() >= usize::from(limit) && !entries.is_empty() {
+        let _first = entries.remove(0);
+    }
+}
+
+/// Adds an entry for which there is room.
+fn add(entries: &mut Vec<PageEntry>, entry: PageEntry)
+    requires { vec_len entries.old < vec_capacity entries.old }
+    ensures { entries.new.items ≡ entries.old.items ++ entry ∷ [] }
+{
+    match entries.push(entry) {
+        Ok(()) => (),
+        Err(_) => unreachable!(),
+    }
+}
+
+/// Entries in order. A contract sees the list of them.
 #[derive(Drop)]
 pub struct History {
-    slots: ArrayVec<Slot, ROOM, Global>,
+    entries: Vec<PageEntry>,
 }
 
 impl Model for History {
     ghost use Rattle.std.specs.Prelude.{List};
     ghost use Rattle.wap_world.specs.declared.history.Entry.{Entry};
-    ghost use Rattle.wap_state.specs.inside.History.{entries_in, AreFilled};
 
     ghost Value = { List Entry };
 
-    ghost view = { λ history. entries_in history.slots.items };
-
-    ghost invariant = { λ history. AreFilled history.slots.items };
+    ghost view = { λ history. history.entries.items };
 }
 
 impl History {
@@ -136,7 +99,7 @@ impl History {
         ensures { result ≡ [] }
     {
         History {
-            slots: ArrayVec::new_in(alloc),
+            entries: Vec::new(alloc),
         }
     }
 
@@ -144,49 +107,28 @@ impl History {
     pub fn keep_rules(&self)
         ensures { AllByRecursion IsPageEntry self.now }
     {
-        keep_slots(self.slots.as_slice());
+        keep_entries(&self.entries);
     }
 
     /// The entries as they are saved: each URL as it is written, and the number of the card.
     pub(crate) fn saved(&self, alloc: Global) -> Result<Rows<(Text, usize)>, NoMemory>
         ensures { IfOk result (λ entries. entries ≡ map saved_entry self.now) }
     {
-        let mut entries = Rows::new(alloc);
-        add_slots(alloc, self.slots.as_slice(), &mut entries)?;
-        Ok(entries)
+        saved_entries(alloc, &self.entries)
     }
 
     /// How many entries there are, the current card's among them.
     pub fn len(&self) -> usize
-        ensures value { result ≡ length self.now }
-        ensures fits { result ≤ MOST_HISTORY }
+        ensures { result ≡ length self.now }
     {
-        self.slots.len()
+        self.entries.len()
     }
 
     /// The entry of a number, from 0.
     pub fn get(&self, at: usize) -> Option<&PageEntry>
         ensures { option_copied result ≡ slice_get self.now at }
     {
-        match self.slots.as_slice().get(at) {
-            Some(slot) => slot.entry(),
-            None => None,
-        }
-    }
-
-    /// Room for an entry, in memory of its own.
-    fn room_for(&self, entry: PageEntry) -> Result<Box<PageEntry>, NoMemory>
-        ensures { IfOk result (λ held. held.value ≡ entry) }
-    {
-        Ok(Box::new(*self.slots.allocator(), entry)?)
-    }
-
-    /// Adds an entry at the end.
-    fn add(&mut self, entry: Box<PageEntry>)
-        requires { length self.old < MOST_HISTORY }
-        ensures { self.new ≡ self.old ++ entry.value ∷ [] }
-    {
-        self.slots.push(Slot { held: Some(entry) });
+        self.entries.get(at)
     }
 
     /// Adds an entry at the end. Where there are so many, the first one is dropped.
@@ -195,9 +137,9 @@ impl History {
             else drop 1 self.old) ++ entry ∷ []) }
         ensures same { OnErr result (self.new ≡ self.old) }
     {
-        let held = self.room_for(entry)?;
-        self.make_room(limit);
-        self.add(held);
+        self.entries.reserve(1)?;
+        make_room(&mut self.entries, limit);
+        add(&mut self.entries, entry);
         Ok(())
     }
 
@@ -206,9 +148,9 @@ impl History {
         ensures last { OnOk result (self.new ≡ all_but_last self.old ++ last ∷ []) }
         ensures same { OnErr result (self.new ≡ self.old) }
     {
-        let held = self.room_for(last)?;
-        self.drop_last();
-        self.add(held);
+        self.entries.reserve(1)?;
+        drop_last(&mut self.entries);
+        add(&mut self.entries, last);
         Ok(())
     }
 
@@ -218,49 +160,20 @@ impl History {
             (self.new ≡ all_but_last (all_but_last self.old) ++ earlier ∷ []) }
         ensures same { OnErr result (self.new ≡ self.old) }
     {
-        let held = self.room_for(earlier)?;
-        self.drop_last();
-        self.drop_last();
-        self.add(held);
+        self.entries.reserve(1)?;
+        drop_last(&mut self.entries);
+        drop_last(&mut self.entries);
+        add(&mut self.entries, earlier);
         Ok(())
-    }
-
-    /// Drops the last entry, if there is one.
-    fn drop_last(&mut self)
-        ensures rest { self.new ≡ take (length self.old - 1) self.old }
-        ensures room { length self.new < MOST_HISTORY }
-    {
-        let count = self.slots.len();
-        self.slots.truncate(count.saturating_sub(1));
-    }
-
-    /// Drops the first entry, if there is one.
-    fn drop_first(&mut self)
-        ensures { self.new ≡ drop 1 self.old }
-    {
-        if !self.slots.is_empty() {
-            let _first = self.slots.remove(0);
-        }
-    }
-
-    /// Drops the first entry where there are so many.
-    fn make_room(&mut self, limit: u8)
-        ensures kept { self.new ≡ (if nat_lt (length self.old) limit then self.old
-            else drop 1 self.old) }
-        ensures room { length self.new < MOST_HISTORY }
-    {
-        if self.len() >= usize::from(limit) {
-            self.drop_first();
-        }
     }
 
     /// Drops every entry but the last.
     pub fn keep_last(&mut self)
         ensures { self.new ≡ option_to_list (last_or None self.old) }
     {
-        if let Some(last) = self.slots.pop() {
-            self.slots.clear();
-            self.slots.push(last);
+        if let Some(last) = self.entries.pop() {
+            self.entries.clear();
+            add(&mut self.entries, last);
         }
     }
 
@@ -268,7 +181,7 @@ impl History {
     pub fn clear(&mut self)
         ensures { self.new ≡ [] }
     {
-        self.slots.clear();
+        self.entries.clear();
     }
 }
 

@@ -1,6 +1,6 @@
 -- What a reader expects of the definitions.
-use Rattle.std.proofs.Common.{◌≡◌, ℕ, ◌≤◌, Bool, true, false, List, [], ◌∷◌, ◌++◌}
-use Rattle.std.proofs.Common.{Option, Some, None, refl, sym, ap, ◌∙◌, arith}
+use Rattle.std.proofs.Common.{◌≡◌, ℕ, ◌≤◌, Bool, true, false, List, [], ◌∷◌, ◌++◌, Option, Some}
+use Rattle.std.proofs.Common.{None, refl, sym, ap, ◌∙◌, arith}
 use Rattle.std.proofs.lemmas.List.{length-append, length-drop, length-take}
 use Rattle.std.specs.Prelude.{length, drop, nat_lt, if◌then◌else◌}
 use Rattle.std.specs.Option.{option_and_then}
@@ -13,82 +13,111 @@ use Rattle.wap_cardrules.specs.Values.{Pairs}
 use Rattle.wap_world.specs.site.Pages.{Pages}
 use Rattle.wap_world.specs.declared.history.Entry.{Entry}
 use Rattle.wap_world.specs.declared.refusal.Refusal.TheVariants as refusals
-use Rattle.wap_world.specs.Shelves.{Shelf, Entrance, deck_page, script_page}
-use Rattle.wap_world.specs.Sites.{Site}
-use Rattle.wap_world.specs.Decks.{shelf_of, decks_site}
+use Rattle.wap_world.specs.Shelves.{Entrance, deck_page, script_page}
+use Rattle.wap_world.specs.Sites.{Site, Ran}
+use Rattle.wap_world.specs.Decks.{decks_site}
 use Rattle.wap_world.specs.World.{World}
-use Rattle.wap_world.specs.Steps.{Step, followed, settled, after_step}
+use Rattle.wap_world.specs.Steps.{settled, after_step}
 use Rattle.wap_world.specs.History.{entry_of, in_deck, all_but_last, KeepsToLimit}
 use Rattle.wap_world.specs.Screens.{refuse, show}
 use Rattle.wap_world.specs.Access.{may_enter, entrance_of}
 use Rattle.wap_world.specs.Requests.{Request, request_line, answer_to, ask, test}
-use Rattle.wap_world.specs.Starting.{script_line, start_call, start_if}
-use Rattle.wap_world.specs.Tasks.{request, answered, arrive_if, card_for}
+use Rattle.wap_world.specs.Starting.{script_line, start_call, start_if, ended_script}
+use Rattle.wap_world.specs.Tasks.{request, answered, arrive_if, card_for, go, prev, onward, act}
 use Rattle.wap_world.specs.Keys.{react}
-use Rattle.wap_world.specs.Sessions.{played_in, played}
-use Rattle.wap_world.proofs.Walk.{Keeping, Kept, KeepsSite, react_moves}
-use Rattle.wap_world.proofs.Joining.{before, once_before, joined_assoc}
+use Rattle.wap_cardrules.specs.declared.task.Go.{Go}
+use Rattle.wap_world.specs.session_laws.Scripts.{MakesNoKeys, GivesNoTurns, ScriptsKeep}
+use Rattle.wap_world.proofs.Alike.{Fact}
+use Rattle.wap_world.proofs.Invariants.{Keeps, RunsKeep, go_keeps, prev_keeps, ended_keeps}
+use Rattle.wap_world.proofs.Invariants.{react_keeps}
+use Rattle.wap_world.proofs.Joining.{before, once_before}
 use Rattle.wap_world.proofs.Leaving.{LeavesKeys, react_leaves}
 
 -- ---- keys
 
--- no more keys are left than there were
-abbrev pub KeepsKeys : Keeping
-KeepsKeys keys old left new = length left ≤ length keys
+-- no more keys are left than so many
+abbrev FewKeys : ℕ → Fact
+FewKeys n keys w = length keys ≤ n
 
-pub keys_kept : (shelf : Shelf) → Kept KeepsKeys shelf
-keys_kept shelf = record {
-  none = λ k w. omega arith;
-  joins = λ k u l v m w a b. omega (a, b, arith);
-  vars = λ k w v. omega arith;
-  reset = λ k w. omega arith;
-  timer = λ k w t place here. omega arith;
-  settle = λ k w. omega arith;
-  pending = λ k w t. omega arith;
-  turn = λ k w n e. omega arith;
-  clear = λ k w. omega arith;
-  push = λ k w url deck has. omega arith;
-  pop = λ k w e deck has. omega arith;
+keys_few : (n : ℕ) (site : Site) → Keeps (FewKeys n) site
+keys_few n site = record {
+  vars = λ k w v few. few;
+  reset = λ k w few. few;
+  timer = λ k w t place e is few. few;
+  turn = λ k w m e few. few;
+  clear = λ k w few. few;
+  push = λ k w url deck fine has few. few;
+  pop = λ k w e deck fine has few. few;
+  begins = λ k w few. few;
+  ends = λ k w few. few;
 }
 
+runs_few : (n : ℕ) (site : Site) → MakesNoKeys site → RunsKeep (FewKeys n) site
+runs_few n site falls name base referer index arguments turns step few =
+    omega (falls name base referer index arguments turns step, few, arith)
+
 -- no key makes keys
-pub keys_fall : (site : Site) → KeepsSite KeepsKeys site
-    → (one : Key) (keys : List Key) (world : World)
+pub keys_fall : (site : Site) → MakesNoKeys site → (one : Key) (keys : List Key) (world : World)
     → length (react site one keys world).keys ≤ length keys
-keys_fall site runs = react_moves KeepsKeys site (keys_kept site.shelf) runs
+keys_fall site falls one keys world =
+    let n = length keys in
+    react_keeps (FewKeys n) site (keys_few n site) (runs_few n site falls) one keys world
+    (omega arith)
+
+-- nor does the end of a script, with all that it leads to
+pub ended_few : (site : Site) → MakesNoKeys site → (base : Url) (ran : Ran) (n : ℕ)
+    → length ran.step.keys ≤ n
+    → length (onward (act site) (ended_script site.shelf base ran)).keys ≤ n
+ended_few site falls base ran n few =
+    ended_keeps (FewKeys n) site (keys_few n site) (runs_few n site falls) base ran few
 
 -- ---- turns
 
--- no more turns are left than there were
-abbrev pub KeepsTurns : Keeping
-KeepsTurns keys old left new = new.turns ≤ old.turns
+-- no more turns are left than so many
+abbrev FewTurns : ℕ → Fact
+FewTurns n keys w = w.turns ≤ n
 
-pub turns_kept : (shelf : Shelf) → Kept KeepsTurns shelf
-turns_kept shelf = record {
-  none = λ k w. omega arith;
-  joins = λ k u l v m w a b. omega (a, b, arith);
-  vars = λ k w v. omega arith;
-  reset = λ k w. omega arith;
-  timer = λ k w t place here. omega arith;
-  settle = λ k w. omega arith;
-  pending = λ k w t. omega arith;
-  turn = λ k w n e. omega (e, arith);
-  clear = λ k w. omega arith;
-  push = λ k w url deck has. omega arith;
-  pop = λ k w e deck has. omega arith;
+turns_few : (n : ℕ) (site : Site) → Keeps (FewTurns n) site
+turns_few n site = record {
+  vars = λ k w v few. few;
+  reset = λ k w few. few;
+  timer = λ k w t place e is few. few;
+  turn = λ k w m e few. omega (e, few, arith);
+  clear = λ k w few. few;
+  push = λ k w url deck fine has few. few;
+  pop = λ k w e deck fine has few. few;
+  begins = λ k w few. few;
+  ends = λ k w few. few;
 }
 
--- within a key turns never grow
-pub turns_fall : (site : Site) → KeepsSite KeepsTurns site
-    → (one : Key) (keys : List Key) (world : World)
-    → (react site one keys world).world.turns ≤ world.budget
-turns_fall site runs = react_moves KeepsTurns site (turns_kept site.shelf) runs
+module _ (site : Site) (falls : GivesNoTurns site) where
+  turns_given : (n : ℕ) → RunsKeep (FewTurns n) site
+  turns_given n name base referer index arguments turns step few =
+      omega (falls name base referer index arguments turns step, few, arith)
+
+  -- within a key turns never grow
+  pub turns_fall : (one : Key) (keys : List Key) (world : World)
+      → (react site one keys world).world.turns ≤ world.budget
+  turns_fall one keys world =
+      let n = world.budget in
+      react_keeps (FewTurns n) site (turns_few n site) (turns_given n) one keys world (omega arith)
+
+  -- nor by a go
+  pub go_falls : (keys : List Key) (base : Option Url) (one : Go) (world : World)
+      → (go site keys base one world).step.world.turns ≤ world.turns
+  go_falls keys base one world =
+      let n = world.turns in
+      go_keeps (FewTurns n) site (turns_few n site) (turns_given n) keys base one world
+      (omega arith)
+
+  -- nor by a prev
+  pub prev_falls : (keys : List Key) (sets : Pairs) (world : World)
+      → (prev site.shelf keys sets world).step.world.turns ≤ world.turns
+  prev_falls keys sets world =
+      let n = world.turns in
+      prev_keeps (FewTurns n) site (turns_few n site) (turns_given n) keys sets world (omega arith)
 
 -- ---- the history
-
--- where it keeps to its limit before, it does after
-abbrev pub KeepsBound : Keeping
-KeepsBound keys old left new = KeepsToLimit old → KeepsToLimit new
 
 few_pushed : (b : Bool) (limit : ℕ) (history : List Entry) (e : Entry)
     → nat_lt (length history) limit ≡ b → 1 ≤ limit → length history ≤ limit
@@ -101,34 +130,36 @@ few_popped : (limit : ℕ) (history : List Entry) (e : Entry) → 1 ≤ limit �
     → length (all_but_last (all_but_last history) ++ e ∷ []) ≤ limit
 few_popped limit history e some few = grind (some, few, arith, length-append, length-take)
 
-pub bound_kept : (shelf : Shelf) → Kept KeepsBound shelf
-bound_kept shelf = record {
-  none = λ k w b. b;
-  joins = λ k u l v m w f g b. g (f b);
+-- it keeps to its limit
+abbrev Bound : Fact
+Bound keys w = KeepsToLimit w
+
+bound_kept : (site : Site) → Keeps Bound site
+bound_kept site = record {
   vars = λ k w v b. record { some = b.some; few = b.few };
   reset = λ k w b. record { some = b.some; few = b.few };
-  timer = λ k w t place here b. record { some = b.some; few = b.few };
-  settle = λ k w b. record { some = b.some; few = b.few };
-  pending = λ k w t b. record { some = b.some; few = b.few };
+  timer = λ k w t place e is b. record { some = b.some; few = b.few };
   turn = λ k w n e b. record { some = b.some; few = b.few };
   clear = λ k w b. record { some = b.some; few = omega arith };
-  push = λ k w url deck has b. record {
+  push = λ k w url deck fine has b. record {
     some = b.some;
     few = few_pushed _ w.limits.history w.history (entry_of url (card_for deck url)) refl
         b.some b.few;
   };
-  pop = λ k w e deck has b. record {
+  pop = λ k w e deck fine has b. record {
     some = b.some;
     few = few_popped w.limits.history w.history (in_deck deck e) b.some b.few;
   };
+  begins = λ k w b. record { some = b.some; few = b.few };
+  ends = λ k w b. record { some = b.some; few = b.few };
 }
 
 -- no key makes a history longer than its limit
-pub history_bound : (site : Site) → KeepsSite KeepsBound site
+pub history_bound : (site : Site) → ScriptsKeep KeepsToLimit site
     → (one : Key) (keys : List Key) (world : World) → KeepsToLimit world
     → KeepsToLimit (react site one keys world).world
 history_bound site runs one keys world bound =
-    react_moves KeepsBound site (bound_kept site.shelf) runs one keys world
+    react_keeps Bound site (bound_kept site) runs one keys world
     (record { some = bound.some; few = bound.few })
 
 -- ---- a page that may not be entered
@@ -187,46 +218,15 @@ no_call pages (Some text) = refl
 
 -- so that no script is started
 starts_none : (pages : Pages) → LeavesKeys (decks_site pages)
-starts_none pages keys sets caller url w true =
+starts_none pages sets caller url w true keys =
     ap (λ o. start_call (decks_site pages) keys sets caller url w o) (no_call pages url.fragment)
     ∙ sym (ap (λ o. once_before keys (start_call (decks_site pages) [] sets caller url w o))
     (no_call pages url.fragment))
-starts_none pages keys sets caller url w false = refl
+starts_none pages sets caller url w false keys = refl
 
 -- a key sees none of the keys after it, and leaves them
 pub leaves_keys : (pages : Pages) (one : Key) (keys : List Key) (world : World)
     → react (decks_site pages) one keys world
     ≡ before keys (react (decks_site pages) one [] world)
-leaves_keys pages = react_leaves (decks_site pages) (starts_none pages)
-
--- what each change of a world keeps, such a site keeps
-pub decks_keep : (pages : Pages) (K : Keeping) → Kept K (shelf_of pages)
-    → KeepsSite K (decks_site pages)
-decks_keep pages K kept name base referer index arguments turns step =
-    kept.none step.keys (record step.world { turns = turns })
-
--- a key, and then the others
-pub one_first : (pages : Pages) (one : Key) (keys : List Key) (world : World)
-    → played (decks_site pages) (one ∷ keys) world
-    ≡ followed (react (decks_site pages) one [] world) (λ left w. played (decks_site pages) keys w)
-unfolding played
-one_first pages one keys world =
-    ap (λ (step : Step). followed step (played_in (length keys) (decks_site pages)))
-    (leaves_keys pages one keys world)
-
--- what keys come to is what the first come to, and then the others
-pub plays_in_parts : (pages : Pages) (first others : List Key) (world : World)
-    → let site = decks_site pages in
-    played site (first ++ others) world
-    ≡ followed (played site first world) (λ left w. played site others w)
-unfolding played
-plays_in_parts pages [] others world = refl
-plays_in_parts pages (one ∷ first) others world =
-    let site = decks_site pages in
-    let r = react site one [] world in
-    let p = played site first r.world in
-    one_first pages one (first ++ others) world
-    ∙ ap (λ (step : Step). followed r (λ left w. step)) (plays_in_parts pages first others r.world)
-    ∙ sym (joined_assoc r p (played site others p.world))
-    ∙ sym (ap (λ (step : Step). followed step (λ left w. played site others w))
-    (one_first pages one first world))
+leaves_keys pages one keys world =
+    react_leaves (decks_site pages) (starts_none pages) one world keys

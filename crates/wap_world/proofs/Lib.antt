@@ -1,7 +1,11 @@
 pub mod Entries
 pub mod Places
+pub mod Alike
 pub mod Walk
+pub mod Invariants
+pub mod Plays
 pub mod Joining
+pub mod Hosts
 pub mod Leaving
 pub mod Laws
 pub mod SiteLemmas

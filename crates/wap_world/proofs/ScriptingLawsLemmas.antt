@@ -1,4 +1,3 @@
-pub mod Plain
 pub mod Keeping
 pub mod Runs
 pub mod Viewing

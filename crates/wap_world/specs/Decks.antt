@@ -10,10 +10,9 @@ use Rattle.wap_world.specs.Sites.{done, Site}
 -- a judged page, as it stands on a shelf
 abbrev pub shelved : Page → Shelved
 shelved (page.Deck deck) = deck_page deck
-shelved (page.Script unit) = refused_page
 shelved (page.Words text) = text_page text
-shelved page.Refused = refused_page
 shelved page.Missing = no_page
+shelved other = refused_page
 
 -- each name has its page, and any other name none
 abbrev pub shelf_of : Pages → Shelf

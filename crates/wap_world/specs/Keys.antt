@@ -16,7 +16,7 @@ use Rattle.wap_cardrules.specs.Fields.{link_task}
 use Rattle.wap_cardrules.specs.Entering.{enter_text, choose}
 use Rattle.wap_world.specs.declared.refusal.Refusal.TheVariants as refusals
 use Rattle.wap_world.specs.declared.timer.Timer.{Timer}
-use Rattle.wap_world.specs.declared.timer.Timer.TheVariants.{NotStarted, Running, Off, Expired}
+use Rattle.wap_world.specs.declared.timer.Timer.TheVariants.{Running}
 use Rattle.wap_world.specs.Shelves.{Shelf}
 use Rattle.wap_world.specs.Sites.{Site}
 use Rattle.wap_world.specs.World.{World, Place, place_now}
@@ -75,12 +75,10 @@ expire site keys place world = followed (quiet keys (end_timer place.card world)
 
 -- some time passes: less than remains, or all
 abbrev pub pass_time : Site → List Key → ℕ → Timer → Place → World → Step
-pass_time site keys n NotStarted place world = quiet keys (ignored world)
 pass_time site keys n (Running time) place world =
     if nat_lt n time then quiet keys (still (record world { timer = Running (time - n) }))
     else expire site keys place world
-pass_time site keys n Off place world = quiet keys (ignored world)
-pass_time site keys n Expired place world = quiet keys (ignored world)
+pass_time site keys n other place world = quiet keys (ignored world)
 
 -- ---- each key
 
@@ -114,15 +112,9 @@ apply site keys world key.Back = on_card site keys world
     (λ place. act site keys world (then_task (Prev [])))
 apply site keys world (key.Tick n) = on_card site keys world
     (λ place. pass_time site keys n world.timer place world)
-apply site keys world key.Ok = quiet keys (ignored world)
-apply site keys world key.Cancel = quiet keys (ignored world)
-apply site keys world (key.Answer text) = quiet keys (ignored world)
-apply site keys world key.Stop = quiet keys (ignored world)
 apply site keys world key.Vars =
     quiet keys (record { world = world; lines = map variable_line world.vars })
-apply site keys world (key.Push bytes) = quiet keys (ignored world)
-apply site keys world key.Inbox = quiet keys (ignored world)
-apply site keys world (key.Follow n) = quiet keys (ignored world)
+apply site keys world other = quiet keys (ignored world)
 
 -- a key, before keys that are left
 unfoldable pub react : Site → Key → List Key → World → Step

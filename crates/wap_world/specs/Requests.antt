@@ -37,9 +37,8 @@ form_text posts = join_with_byte ampersand (map field_text posts)
 
 -- a form after a query, if there is one that isn't empty
 abbrev pub query_before : Option (List ℕ) → List ℕ → List ℕ
-query_before None form = form
-query_before (Some []) form = form
 query_before (Some (c ∷ query)) form = (c ∷ query) ++ ampersand ∷ form
+query_before other form = form
 
 -- with get the postfields, if there are some, go after the query
 abbrev pub url_with : Url → Pairs → Url

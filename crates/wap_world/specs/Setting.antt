@@ -3,7 +3,7 @@
 use Rattle.std.specs.Prelude.{ℕ, List, [], ◌∷◌}
 use Rattle.std.specs.List.{flat_map}
 use Rattle.wap_vars.specs.declared.fault.VarFault.{VarFault}
-use Rattle.wap_vars.specs.declared.fault.VarFault.TheVariants.{BadName, TooLong, Full, NoMemory}
+use Rattle.wap_vars.specs.declared.fault.VarFault.TheVariants.{TooLong, Full}
 use Rattle.wap_cardrules.specs.Values.{Pairs}
 use Rattle.wap_cardrules.specs.Setting.{Set, set_all}
 use Rattle.wap_world.specs.declared.refusal.Refusal.TheVariants as refusals
@@ -13,10 +13,9 @@ use Rattle.wap_world.specs.Steps.{Scene}
 
 -- a name that is none of a variable is passed over
 abbrev pub fault_lines : VarFault → List (List ℕ)
-fault_lines BadName = []
 fault_lines (TooLong bytes) = refusal_line refusals.Long ∷ []
 fault_lines Full = refusal_line refusals.Full ∷ []
-fault_lines NoMemory = []
+fault_lines other = []
 
 -- the variables after some sets, and a line for each that was refused
 abbrev pub with_set : World → Set → Scene

@@ -9,14 +9,14 @@ use Rattle.wap_base.specs.declared.key.Key.{Key}
 use Rattle.wap_url.specs.declared.url.Url.{Url}
 use Rattle.wap_url.specs.Printing.{name_for, without_fragment}
 use Rattle.wap_value.specs.declared.value.Value.{Value}
-use Rattle.wap_value.specs.declared.value.Value.TheVariants.{Int, Bool as Boolean, Str, Invalid}
+use Rattle.wap_value.specs.declared.value.Value.TheVariants.{Str}
 use Rattle.wap_execution.specs.declared.fatal.Fatal.{Fatal}
 use Rattle.wap_execution.specs.declared.fatal.Fatal.TheVariants as fatal
 use Rattle.wap_cardrules.specs.declared.task.Task.{Task}
 use Rattle.wap_cardrules.specs.declared.event.Event.TheVariants as event
 use Rattle.wap_cardrules.specs.Values.{Pairs}
 use Rattle.wap_world.specs.declared.timer.Timer.{Timer}
-use Rattle.wap_world.specs.declared.timer.Timer.TheVariants.{NotStarted, Running, Off, Expired}
+use Rattle.wap_world.specs.declared.timer.Timer.TheVariants.{Off, Expired}
 use Rattle.wap_world.specs.Shelves.{Shelf}
 use Rattle.wap_world.specs.World.{World}
 use Rattle.wap_world.specs.Steps.{Step, Once, then_task, still, behind, quiet, settled}
@@ -66,12 +66,10 @@ or_show shelf keys (Some task) world =
 -- no navigation is done: where the timer ran out meanwhile, its task is next, else the card is
 -- shown
 abbrev pub rest : Shelf → List Key → Timer → World → Once
-rest shelf keys NotStarted world = settled (quiet keys (show shelf world))
-rest shelf keys (Running time) world = settled (quiet keys (show shelf world))
-rest shelf keys Off world = settled (quiet keys (show shelf world))
 rest shelf keys Expired world =
     let late = record world { timer = Off } in
     or_show shelf keys (event_task shelf event.Timer late) late
+rest shelf keys other world = settled (quiet keys (show shelf world))
 
 -- what the script asked for is next, from its own URL where there is no card, and a timer that ran
 -- out is off; where it asked for nothing, as above
@@ -110,10 +108,8 @@ prepared world = record world { pending = None; turns = 0 }
 
 -- a String of a literal past the limit
 abbrev pub is_too_long : ℕ → Value → Bool
-is_too_long string (Int number) = false
-is_too_long string (Boolean truth) = false
 is_too_long string (Str text) = nat_lt string (length (encode_utf8_all text))
-is_too_long string Invalid = false
+is_too_long string other = false
 
 -- the task's variables are set just before
 abbrev pub external_started : Site → List Key → Pairs → Option Url → Url → World → ℕ → List Value

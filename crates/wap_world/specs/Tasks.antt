@@ -34,8 +34,8 @@ use Rattle.wap_world.specs.declared.history.Entry.{Entry}
 use Rattle.wap_world.specs.declared.timer.Timer.TheVariants.{NotStarted}
 use Rattle.wap_world.specs.declared.refusal.Refusal.{Refusal}
 use Rattle.wap_world.specs.declared.refusal.Refusal.TheVariants as refusals
-use Rattle.wap_world.specs.Shelves.{Shelf, Shelved, deck_page, script_page, text_page}
-use Rattle.wap_world.specs.Shelves.{refused_page, no_page}
+use Rattle.wap_world.specs.Shelves.{Shelf, Shelved, deck_page, script_page}
+use Rattle.wap_world.specs.Shelves.{no_page}
 use Rattle.wap_world.specs.Sites.{Site}
 use Rattle.wap_world.specs.Access.{entrance_of}
 use Rattle.wap_world.specs.Starting.{start_if}
@@ -121,11 +121,9 @@ answered site keys sets caller url world (deck_page deck) =
 answered site keys sets caller url world (script_page entrance) =
     let one = test_of url caller entrance in
     after_step (test keys one world) (start_if site keys sets caller url world one.allowed)
-answered site keys sets caller url world (text_page text) =
-    refusing site.shelf keys refusals.Refused world
-answered site keys sets caller url world refused_page =
-    refusing site.shelf keys refusals.Refused world
 answered site keys sets caller url world no_page = refusing site.shelf keys refusals.Missing world
+answered site keys sets caller url world other =
+    refusing site.shelf keys refusals.Refused world
 
 -- 6: the page is asked for
 abbrev pub request : Site → List Key → Pairs → Option Url → Request → World → Once
@@ -179,12 +177,9 @@ return shelf keys sets earlier world deck =
 abbrev pub returned : Shelf → List Key → Pairs → Entry → World → Shelved → Once
 returned shelf keys sets earlier world (deck_page deck) =
     return shelf keys sets earlier world deck
-returned shelf keys sets earlier world (script_page entrance) =
-    refusing shelf keys refusals.Refused world
-returned shelf keys sets earlier world (text_page text) =
-    refusing shelf keys refusals.Refused world
-returned shelf keys sets earlier world refused_page = refusing shelf keys refusals.Refused world
 returned shelf keys sets earlier world no_page = refusing shelf keys refusals.Missing world
+returned shelf keys sets earlier world other =
+    refusing shelf keys refusals.Refused world
 
 -- the earlier card's deck, where it is not the current one, is asked for; access is not tested
 abbrev pub ask_back : Shelf → List Key → Pairs → Entry → World → Once

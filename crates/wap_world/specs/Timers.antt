@@ -1,11 +1,11 @@
 -- The timer of the current card (WAP-191, section 11.7).
-use Rattle.std.specs.Prelude.{ℕ, zero, suc, List, [], ◌∷◌, Option, Some, None}
+use Rattle.std.specs.Prelude.{ℕ, suc, List, [], ◌∷◌, Option, Some, None}
 use Rattle.std.specs.Fmt.{decimal}
 use Rattle.std.specs.Option.{option_and_then}
 use Rattle.wap_tokens.specs.declared.markup.deck.Node.{Node}
 use Rattle.wap_cardrules.specs.Timers.{timer_in, timer_variable, timer_of}
 use Rattle.wap_world.specs.declared.timer.Timer.{Timer}
-use Rattle.wap_world.specs.declared.timer.Timer.TheVariants.{NotStarted, Running, Off, Expired}
+use Rattle.wap_world.specs.declared.timer.Timer.TheVariants.{NotStarted, Running, Off}
 use Rattle.wap_world.specs.World.{World}
 use Rattle.wap_world.specs.Steps.{Scene, still}
 use Rattle.wap_world.specs.Setting.{set_variables}
@@ -14,9 +14,8 @@ use Rattle.wap_world.specs.Setting.{set_variables}
 
 -- 0 is no time
 abbrev pub timer_from : Option (Option (List ℕ) × ℕ) → Timer
-timer_from None = Off
-timer_from (Some (name, zero)) = Off
 timer_from (Some (name, suc time)) = Running (suc time)
+timer_from other = Off
 
 -- the timer starts, whatever its state
 abbrev pub start_timer : Node → World → World
@@ -25,9 +24,7 @@ start_timer card world = record world { timer = timer_from (timer_of world.vars 
 -- the timer starts, unless it has since the card was entered
 abbrev pub timer_started : Timer → Node → World → World
 timer_started NotStarted card world = start_timer card world
-timer_started (Running time) card world = world
-timer_started Off card world = world
-timer_started Expired card world = world
+timer_started other card world = world
 
 -- ---- the variable
 
@@ -44,10 +41,8 @@ store_time card time world = store_under (option_and_then timer_variable (timer_
 
 -- what remains of a timer that runs
 abbrev pub store_left : Timer → Node → World → Scene
-store_left NotStarted card world = still world
 store_left (Running time) card world = store_time card time world
-store_left Off card world = still world
-store_left Expired card world = still world
+store_left other card world = still world
 
 -- ---- the end
 
@@ -61,5 +56,4 @@ end_timer card world = store_time card 0 (record world { timer = Off })
 abbrev pub settled_timer : Timer → Timer
 settled_timer NotStarted = NotStarted
 settled_timer (Running time) = Running time
-settled_timer Off = Off
-settled_timer Expired = Off
+settled_timer other = Off

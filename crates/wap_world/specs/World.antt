@@ -14,8 +14,8 @@ use Rattle.wap_cardrules.specs.declared.task.Task.{Task}
 use Rattle.wap_world.specs.declared.history.Entry.{Entry}
 use Rattle.wap_world.specs.declared.timer.Timer.{Timer}
 use Rattle.wap_world.specs.declared.timer.Timer.TheVariants.{NotStarted}
-use Rattle.wap_world.specs.Shelves.{Shelved, deck_page, script_page, text_page, refused_page}
-use Rattle.wap_world.specs.Shelves.{no_page, Shelf}
+use Rattle.wap_world.specs.Shelves.{Shelved, deck_page}
+use Rattle.wap_world.specs.Shelves.{Shelf}
 
 -- what a browser keeps
 pub record World : Type 0 where
@@ -56,10 +56,7 @@ pub record Place : Type 0 where
 -- the deck that a page is, if it is one
 abbrev pub deck_in : Shelved → Option Deck
 deck_in (deck_page deck) = Some deck
-deck_in (script_page entrance) = None
-deck_in (text_page text) = None
-deck_in refused_page = None
-deck_in no_page = None
+deck_in other = None
 
 -- the deck that pages have under the name of a URL
 abbrev pub deck_at : Shelf → Url → Option Deck

@@ -1,4 +1,3 @@
 pub mod Winners
 pub mod Notices
 pub mod Inboxes
-pub mod Sessions

@@ -1,18 +1,20 @@
 //! What follows from the definitions of scripts in a browser's world. These functions do nothing
 //! when they are called.
-ghost use Rattle.std.specs.Prelude.{◌≡◌, ◌++◌, ◌∷◌, [], ℕ, false, List, Option, Some, Ok};
+ghost use Rattle.std.specs.Prelude.{◌≡◌, ◌++◌, ◌∷◌, [], ℕ, false, List, Option, Some, Result, Ok};
 ghost use Rattle.wap_base.specs.declared.limits.Limits.{Limits as TheLimits};
 ghost use Rattle.wap_url.specs.declared.url.Url.{Url};
 ghost use Rattle.wap_url.specs.Printing.{name_for};
 ghost use Rattle.wap_value.specs.declared.value.Value.{Value as TheValue};
 ghost use Rattle.wap_base.specs.declared.key.Key.{Key};
+ghost use Rattle.wap_push.specs.declared.indication.Indication.{Indication};
+ghost use Rattle.wap_push.specs.declared.fault.PushFault.{PushFault};
 ghost use Rattle.wap_execution.specs.declared.fatal.Fatal.TheVariants.{Denied, Stopped};
 ghost use Rattle.wap_execution.specs.declared.found.Found.TheVariants.{Not};
 ghost use Rattle.wap_execution.specs.Running.{resumed};
 ghost use Rattle.wap_execution.specs.laws.Settings.{uncounted};
 ghost use Rattle.wap_world.specs.Shelves.{Shelf, Entrance, script_page};
 ghost use Rattle.wap_world.specs.Sites.{Call, failed};
-ghost use Rattle.wap_world.specs.Steps.{Step, still, quiet, then_step};
+ghost use Rattle.wap_world.specs.Steps.{Step, still, quiet};
 ghost use Rattle.wap_world.specs.Access.{may_enter};
 ghost use Rattle.wap_world.specs.Urls.{target_of};
 ghost use Rattle.wap_world.specs.Requests.{plain_get, request_line};
@@ -25,27 +27,31 @@ ghost use Rattle.wap_world.specs.session_laws.Standing.{StandsOnCard};
 ghost use Rattle.wap_world.specs.scripting.Dialogs.{answers, ends_it, passes, reply_to, meanwhile};
 ghost use Rattle.wap_world.specs.scripting.UnitSites.{Pages, shelf_of, host_of, keyed_host};
 ghost use Rattle.wap_world.specs.scripting.UnitSites.{units_site};
-ghost use Rattle.wap_world.specs.scripting.Waiting.{Waits, State, inside, played_from};
+ghost use Rattle.wap_world.specs.Sessions.{before_all};
+ghost use Rattle.wap_world.specs.scripting.Waiting.{Waits, State, inside, resumed_step};
+ghost use Rattle.wap_world.specs.scripting.Waiting.{played_from};
 ghost use Rattle.wap_world.specs.scripting.Halves.{half_of, once_of, GoesOnWithKeys};
-ghost use Rattle.wap_world.specs.scripting.Feeding.{Fed, Means, turned, Turns, Feeds, AreFed};
+ghost use Rattle.wap_world.specs.scripting.Feeding.{Means, Taken, Turns, Feeds, AreFed};
 ghost use Rattle.wap_world.specs.scripting.Feeding.{last_fed, all_fed};
 ghost use Rattle.wap_world.specs.scripting.Views.{ViewsRunAlike};
 
 /// Where a key did so much without further keys and left the rest to these, the lines of the key,
 /// and then what any further keys show from the state that it leaves, are what the key and these
-/// show from the state before.
+/// show from the state before; and so are the pushes that are taken.
 pub fn keys_are_fed_one_by_one()
-    ensures { (call : List ℕ → Option Call) (pages : Pages) (state : State) (one : Key) (fed : Fed)
-        → Turns call pages state one fed → Feeds call pages state one fed }
+    ensures { (read : List ℕ → Result Indication PushFault) (call : List ℕ → Option Call)
+        (pages : Pages) (state : State) (one : Key) (taken : Taken)
+        → Turns read call pages state one taken → Feeds read call pages state one taken }
 {}
 
 /// So keys in two parts show what they show together: the first are fed one by one, and the others
 /// go on from the state after these.
 pub fn keys_play_in_parts()
-    ensures { (call : List ℕ → Option Call) (pages : Pages) (state : State) (keys : List Key)
-        (feds : List Fed) → AreFed call pages state keys feds → (others : List Key)
-        → played_from call pages state (keys ++ others)
-        ≡ then_step (all_fed state feds) (played_from call pages (last_fed state feds) others) }
+    ensures { (read : List ℕ → Result Indication PushFault) (call : List ℕ → Option Call)
+        (pages : Pages) (state : State) (keys : List Key) (feds : List Taken)
+        → AreFed read call pages state keys feds → (others : List Key)
+        → played_from read call pages state (keys ++ others) ≡ before_all (all_fed state feds)
+        (played_from read call pages (last_fed state feds) others) }
 {}
 
 /// Whatever scripts do, they give no turns back, make no keys, keep the history to its limit and
@@ -74,7 +80,7 @@ pub fn scripts_go_on_with_keys()
 pub fn dialogs_go_by_their_keys()
     ensures answers { (call : List ℕ → Option Call) (pages : Pages) (one : Waits) (world : World)
         (key : Key) (v : TheValue) → reply_to one.dialog key ≡ answers v → (keys : List Key)
-        → turned call pages (Some one) world key keys
+        → resumed_step call pages one (key ∷ keys) world
         ≡ onward (act (units_site call pages)) (once_of pages (half_of one.limits
         (shelf_of pages) one.base (resumed (uncounted one.limits (host_of pages)) one.frames v
         world.turns (quiet [] (still (inside world))))) keys) }
@@ -85,7 +91,7 @@ pub fn dialogs_go_by_their_keys()
           turns = world.turns;
           step = quiet [] (still (inside world));
         }) in
-        turned call pages (Some one) world key keys
+        resumed_step call pages one (key ∷ keys) world
         ≡ onward (act (units_site call pages))
         (record stopped { step = record stopped.step { keys = keys } }) }
     ensures stays { (call : List ℕ → Option Call) (pages : Pages) (one : Waits) (world : World)
@@ -94,7 +100,7 @@ pub fn dialogs_go_by_their_keys()
         Means call pages (record {
           step = quiet [] (record scene { world = record scene.world { turns = world.turns } });
           waiting = Some one;
-        }) (turned call pages (Some one) world key) }
+        }) (λ keys. resumed_step call pages one (key ∷ keys) world) }
 {}
 
 /// Runs of a browser, and of what it sees of its session and of the store, come to the same.

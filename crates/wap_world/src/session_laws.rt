@@ -4,12 +4,14 @@ mod fields;
 mod keys;
 
 ghost use Rattle.std.specs.Prelude.{◌≡◌, ◌≤◌, ◌<◌, suc, ◌++◌, ◌∷◌, [], ℕ, List};
-ghost use Rattle.std.specs.Prelude.{Option, Some, Ok, false, IfSome};
+ghost use Rattle.std.specs.Prelude.{Option, Some, Ok, false, IfSome, Result};
 ghost use Rattle.wap_base.specs.declared.limits.Limits.{Limits};
 ghost use Rattle.wap_url.specs.declared.url.Url.{Url};
 ghost use Rattle.wap_url.specs.Printing.{name_for};
 ghost use Rattle.wap_tokens.specs.declared.markup.deck.Deck.{Deck};
 ghost use Rattle.wap_base.specs.declared.key.Key.{Key};
+ghost use Rattle.wap_push.specs.declared.indication.Indication.{Indication};
+ghost use Rattle.wap_push.specs.declared.fault.PushFault.{PushFault};
 ghost use Rattle.wap_execution.specs.declared.fatal.Fatal.TheVariants as fatal;
 ghost use Rattle.wap_cardrules.specs.declared.task.Go.{Go};
 ghost use Rattle.wap_cardrules.specs.declared.task.Task.TheVariants as task;
@@ -20,7 +22,7 @@ ghost use Rattle.wap_world.specs.Shelves.{Shelf, Entrance, deck_page, script_pag
 ghost use Rattle.wap_world.specs.Sites.{Site};
 ghost use Rattle.wap_world.specs.Decks.{decks_site};
 ghost use Rattle.wap_world.specs.World.{World, Place, first_world, place_now};
-ghost use Rattle.wap_world.specs.Steps.{Next, then_task, still, quiet, followed, settled};
+ghost use Rattle.wap_world.specs.Steps.{Next, then_task, still, quiet, settled};
 ghost use Rattle.wap_world.specs.History.{KeepsToLimit};
 ghost use Rattle.wap_world.specs.Urls.{target_of};
 ghost use Rattle.wap_world.specs.Screens.{refuse, show};
@@ -30,7 +32,8 @@ ghost use Rattle.wap_world.specs.Starting.{script_line};
 ghost use Rattle.wap_world.specs.Tasks.{request, is_here, with_turn, open_url, task_once};
 ghost use Rattle.wap_world.specs.Tasks.{onward, act, visit};
 ghost use Rattle.wap_world.specs.Keys.{react};
-ghost use Rattle.wap_world.specs.Sessions.{played};
+ghost use Rattle.wap_world.specs.inboxes.Inboxes.{Phone, taking_none, react_with};
+ghost use Rattle.wap_world.specs.Sessions.{followed_with, played};
 ghost use Rattle.wap_world.specs.session_laws.Scripts.{GivesNoTurns, MakesNoKeys, ScriptsKeep};
 ghost use Rattle.wap_world.specs.session_laws.Standing.{HaveCards, StandsOnCard};
 
@@ -59,10 +62,11 @@ pub fn decks_run_no_script()
 /// Keys in two parts show what they show as one list, where no page is a script: a script reads
 /// keys that are left.
 pub fn keys_play_in_parts()
-    ensures { (pages : Pages) (first others : List Key) (world : World)
-        → let site = decks_site pages in
-        played site (first ++ others) world
-        ≡ followed (played site first world) (λ left w. played site others w) }
+    ensures { (read : List ℕ → Result Indication PushFault) (pages : Pages)
+        (first others : List Key) (phone : Phone) → let site = decks_site pages in
+        played read site (first ++ others) phone
+        ≡ followed_with (played read site first phone)
+        (λ left after. played read site others after) }
 {}
 
 /// A deck that may not be entered adds its request's line, its name and its test; then the current
@@ -147,13 +151,15 @@ pub fn tasks_are_followed_to_their_end()
 
 /// Keys are played one after the other, and none is left, where no script makes keys.
 pub fn keys_are_played_to_the_last()
-    ensures none { (site : Site) (world : World)
-        → played site [] world ≡ quiet [] (still world) }
-    ensures first { (site : Site) (one : Key) (keys : List Key) (world : World)
-        → MakesNoKeys site
-        → played site (one ∷ keys) world ≡ followed (react site one keys world) (played site) }
-    ensures left { (pages : Pages) (one : Key) (keys : List Key) (world : World)
-        → (react (decks_site pages) one keys world).keys ≡ keys }
-    ensures all { (site : Site) (keys : List Key) (world : World)
-        → MakesNoKeys site → (played site keys world).keys ≡ [] }
+    ensures none { (read : List ℕ → Result Indication PushFault) (site : Site) (phone : Phone)
+        → played read site [] phone ≡ taking_none phone (quiet [] (still phone.world)) }
+    ensures first { (read : List ℕ → Result Indication PushFault) (site : Site) (one : Key)
+        (keys : List Key) (phone : Phone) → MakesNoKeys site
+        → played read site (one ∷ keys) phone
+        ≡ followed_with (react_with read site one keys phone) (played read site) }
+    ensures left { (read : List ℕ → Result Indication PushFault) (pages : Pages) (one : Key)
+        (keys : List Key) (phone : Phone)
+        → (react_with read (decks_site pages) one keys phone).step.keys ≡ keys }
+    ensures all { (read : List ℕ → Result Indication PushFault) (site : Site) (keys : List Key)
+        (phone : Phone) → MakesNoKeys site → (played read site keys phone).step.keys ≡ [] }
 {}

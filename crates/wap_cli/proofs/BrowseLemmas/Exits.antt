@@ -2,9 +2,11 @@
 use Rattle.std.proofs.Common.{◌≡◌, ◌≢◌, ℕ, ◌≤◌, List, [], ◌∷◌, ◌++◌, Option, Some, None}
 use Rattle.std.proofs.Common.{length, refl, sym, ap, subst, ◌∙◌, inl, inr, arith}
 use Rattle.std.specs.Prelude.{Bool, true, false, is_some, Ok}
+use Rattle.std.proofs.lemmas.List.{append-nil}
 use Rattle.wap_base.specs.Count.{Rose}
 use Rattle.wap_devices.specs.Sources.{SourceSeen, MayGive}
 use Rattle.wap_devices.specs.Sinks.{SinkSeen}
+use Rattle.wap_devices.specs.Transfer.{AppendsPrefix}
 use Rattle.wap_devices.proofs.Transfers.{Appends-nil}
 use Rattle.wap_base.specs.declared.key.Key.{Key}
 use Rattle.wap_keys.specs.declared.ending.Ending.{Ending}
@@ -15,29 +17,29 @@ use Rattle.wap_keys.specs.Read.{AreFirst, IsAtLast, HasGiven, IsRead}
 use Rattle.wap_keys.specs.KeyReaders.{Reading, Answers, GivesUp, CountsFaults}
 use Rattle.wap_keys.proofs.GivingLaws.{may_split, none_to_come}
 use Rattle.wap_keys.proofs.ReaderLaws.{begun as nothing_read, given_of, gives_up_at_once}
-use Rattle.wap_keys.proofs.WholeLaws.{known_of, few_of}
+use Rattle.wap_keys.proofs.WholeLaws.{known_of}
 use Rattle.wap_keys.proofs.FaultLaws.{ended_counts}
+use Rattle.wap_pages.specs.declared.fault.PageFault.{PageFault}
 use Rattle.wap_world.specs.site.Pages.{Pages as JudgedPages}
-use Rattle.wap_world.specs.site.Asking.{MayBe, Stays}
+use Rattle.wap_world.specs.site.Asking.{Seen, MayBe, Stays}
 use Rattle.wap_world.proofs.SiteLemmas.Asking.{Stays-same, Stays-then, Stays-may}
 use Rattle.wap_world.specs.Steps.{Step, then_step}
-use Rattle.wap_world.specs.scripting.UnitSites.{unit_pages}
+use Rattle.wap_world.specs.scripting.UnitSites.{Pages, unit_pages}
 use Rattle.wap_world.specs.scripting.Waiting.{Waits}
 use Rattle.wap_session.specs.Feeding.{left_open}
-use Rattle.wap_session.specs.handset.Feeding.{State, step_of}
+use Rattle.wap_session.specs.Feeding.{State, step_of}
 use Rattle.wap_cli.specs.declared.status.Status.{Status}
-use Rattle.wap_cli.specs.declared.status.Status.TheVariants.{Done, Usage, Refused, StoreFault}
-use Rattle.wap_cli.specs.declared.status.Status.TheVariants.{KeyReadFault, WriteFault, NoMemory}
-use Rattle.wap_cli.specs.declared.status.Status.TheVariants.{BadKey, OpenDialog, TooManyKeys}
+use Rattle.wap_cli.specs.declared.status.Status.TheVariants.{Done, Refused, StoreFault}
+use Rattle.wap_cli.specs.declared.status.Status.TheVariants.{WriteFault, NoMemory}
 use Rattle.wap_cli.specs.browse.Outside.{Outside}
-use Rattle.wap_cli.specs.browse.Plays.{Play}
+use Rattle.wap_cli.specs.browse.Plays.{Play, AreUnitPages}
 use Rattle.wap_cli.specs.browse.Handling.{bytes_of, IsPlayed}
 use Rattle.wap_cli.specs.browse.Endings.{ended}
+use Rattle.wap_cli.specs.browse.Headline.{ArePlayed, AreAll, Ends, BrowsesSeen}
+use Rattle.wap_cli.specs.browse.Stopping.{StopsAtStore, StopsAtSink, StopsForMemory}
 use Rattle.wap_cli.specs.browse.Resting.{StandsAfter, Rests}
 use Rattle.wap_cli.specs.browse.inside.Played.{Moment, Stops}
 use Rattle.wap_cli.specs.browse.Standing.{Moved, moved_of, outside_of}
-use Rattle.wap_cli.specs.browse.inside.Ends.{EndsSo, ShowsTo, EndsAt, Written, Gives, IsOfLine}
-use Rattle.wap_cli.specs.browse.inside.Ends.{StoreMoves, ReadMoves, WriteMoves, BrowsesTo}
 use Rattle.wap_cli.proofs.BrowseLemmas.Stepping.{open_there, world_there}
 use Rattle.wap_cli.proofs.BrowseLemmas.Going.{moment_of, played_to, Nears, Comes, comes_next}
 use Rattle.wap_cli.proofs.BrowseLemmas.Going.{Reaches}
@@ -49,140 +51,96 @@ use Rattle.wap_cli.proofs.BrowseLemmas.Stopped.{missed_there, prefix_part, wrote
 rose_from : (before now after : ℕ) → now ≡ before → Rose now after → Rose before after
 rose_from before now after is rose = subst (λ (count : ℕ). Rose count after) is rose
 
--- ---- for any bytes and pages that there may be
-
--- what was given of the bytes, how they end, and what was written over the pages
-gives_by : (play : Play) (old new : Outside) (status : Status) (taken : List ℕ) (given : List Key)
-    → HasGiven old.source new.source taken given
-    → ((bytes : List ℕ) (may : MayGive old.source new.source bytes)
-    → EndsSo status old.source new.source bytes taken may.rest given)
-    → ((judged : JudgedPages) (bytes : List ℕ) → MayBe new.pages judged
-    → AreFirst given (keys_of bytes).keys
-    → Written status (play (unit_pages judged)) bytes given old new)
-    → (bytes : List ℕ) → MayGive old.source new.source bytes → Gives play bytes old new status
-gives_by play old new status taken given has ends written bytes may = record {
-  taken = taken;
-  rest = may.rest;
-  split = may_split old.source new.source taken bytes has.takes may;
-  given_is = has.takes.given;
-  given = given;
-  first = has.first;
-  prompt = has.prompt;
-  ends = ends bytes may;
-  written = λ judged is. written judged bytes is (has.of_all bytes may);
-}
+-- what holds of judged pages holds of the units that they are
+over_units : (seen : Seen) (Fact : Pages → Type 0)
+    → ((judged : JudgedPages) → MayBe seen judged → Fact (unit_pages judged))
+    → (pages : Pages) → AreUnitPages seen pages → Fact pages
+over_units seen Fact so pages (judged, may, is) = subst Fact (sym is) (so judged may)
 
 -- ---- the keys came to their end
 
--- how the bytes end
-ends_so : (is_open : Bool) (old new : SourceSeen) (ending : Ending) (taken : List ℕ)
-    (given : List Key) → IsRead old new taken given ending
-    → (bytes : List ℕ) (may : MayGive old new bytes)
-    → EndsSo (ended is_open ending) old new bytes taken may.rest given
-ends_so false old new way.End taken given read bytes may = (
-  none_to_come old new bytes may read.ends.0.ends,
-  known_of old new taken given way.End read (λ e. absurd cc) bytes may,
-)
-ends_so true old new way.End taken given read bytes may = (
-  none_to_come old new bytes may read.ends.0.ends,
-  known_of old new taken given way.End read (λ e. absurd cc) bytes may,
-)
-ends_so is_open old new (way.BadKey line fault) taken given read bytes may =
-    known_of old new taken given (way.BadKey line fault) read (λ e. absurd cc) bytes may
-ends_so is_open old new way.TooManyKeys taken given read bytes may = (
-  read.ends.0,
-  known_of old new taken given way.TooManyKeys read (λ e. absurd cc) bytes may,
-)
-ends_so is_open old new way.ReadFault taken given read bytes may = read.ends.1
+module _ (play : Play) (old last : Outside) (taken : List ℕ) (given : List Key)
+    (played : ArePlayed (AreUnitPages last.pages) play old last taken given) where
+  -- unless the source failed they are those of all bytes
+  are_all : (ending : Ending) → IsRead old.source last.source taken given ending
+      → ending ≢ way.ReadFault → last.source.faults ≡ old.source.faults
+      → AreAll (AreUnitPages last.pages) play old last taken given ending
+  are_all ending read unfailing steady = record {
+    all = known_of old.source last.source taken given ending read unfailing;
+    played = played;
+    source = steady;
+  }
 
--- however the keys came to their end, all that was given was played
-shows_so : (is_open : Bool) (ending : Ending) (play : List Key → Step) (given : List Key)
-    (old new : Outside) → IsPlayed play given old new
-    → ShowsTo (ended is_open ending) play given old new
-shows_so false way.End play given old new so = so
-shows_so true way.End play given old new so = so
-shows_so is_open (way.BadKey line fault) play given old new so = so
-shows_so is_open way.TooManyKeys play given old new so = so
-shows_so is_open way.ReadFault play given old new so = so
+  -- and where it gave its end, all bytes were taken
+  all_taken : IsRead old.source last.source taken given way.End
+      → (bytes : List ℕ) → MayGive old.source last.source bytes → bytes ≡ taken
+  all_taken read bytes may =
+      may_split old.source last.source taken bytes read.given.takes may
+      ∙ ap (λ (rest : List ℕ). taken ++ rest)
+      (none_to_come old.source last.source bytes may read.ends.0.ends)
+      ∙ append-nil taken
 
--- the status says whether a dialog is open
-opens_so : (is_open : Bool) (ending : Ending) (other : Bool) → other ≡ is_open
-    → EndsAt (ended is_open ending) other
-opens_so false way.End other is = is
-opens_so true way.End other is = is
-opens_so is_open (way.BadKey line fault) other is = tt
-opens_so is_open way.TooManyKeys other is = tt
-opens_so is_open way.ReadFault other is = tt
-
--- and the store didn't fail
-store_so : (is_open : Bool) (ending : Ending) (before after : ℕ) → after ≡ before
-    → StoreMoves (ended is_open ending) before after
-store_so false way.End before after is = is
-store_so true way.End before after is = is
-store_so is_open (way.BadKey line fault) before after is = is
-store_so is_open way.TooManyKeys before after is = is
-store_so is_open way.ReadFault before after is = is
-
--- nor did the sink
-write_so : (is_open : Bool) (ending : Ending) (before after : ℕ) → after ≡ before
-    → WriteMoves (ended is_open ending) before after
-write_so false way.End before after is = is
-write_so true way.End before after is = is
-write_so is_open (way.BadKey line fault) before after is = is
-write_so is_open way.TooManyKeys before after is = is
-write_so is_open way.ReadFault before after is = is
-
--- the source failed only where the ending says so
-read_so : (is_open : Bool) (ending : Ending) (before now after : ℕ) → now ≡ before
-    → CountsFaults now after (Ok (next.Ended ending))
-    → ReadMoves (ended is_open ending) before after
-read_so false way.End before now after is counts = counts ∙ is
-read_so true way.End before now after is counts = counts ∙ is
-read_so is_open (way.BadKey line fault) before now after is counts = counts ∙ is
-read_so is_open way.TooManyKeys before now after is counts = counts ∙ is
-read_so is_open way.ReadFault before now after is counts = rose_from before now after is counts.1
-
--- out of memory is no fault of a line
-of_line_so : (is_open : Bool) (ending : Ending) (old new : SourceSeen) (taken : List ℕ)
-    (given : List Key) → IsRead old new taken given ending → IsOfLine (ended is_open ending)
-of_line_so false way.End old new taken given read = tt
-of_line_so true way.End old new taken given read = tt
-of_line_so is_open (way.BadKey line fault) old new taken given read = read.ends.0
-of_line_so is_open way.TooManyKeys old new taken given read = tt
-of_line_so is_open way.ReadFault old new taken given read = tt
+  -- so the session ends, by whether a dialog is open there
+  ends_by : (is_open : Bool) (ending : Ending) → IsRead old.source last.source taken given ending
+      → CountsFaults old.source.faults last.source.faults (Ok (next.Ended ending))
+      → ((pages : Pages) → AreUnitPages last.pages pages → (play pages given).is_open ≡ is_open)
+      → Ends (AreUnitPages last.pages) play old last taken given (ended is_open ending)
+  ends_by false way.End read counts leaves = Ends.done (record {
+    all = are_all way.End read (λ e. absurd cc) counts;
+    whole = all_taken read;
+    leaves = leaves;
+  })
+  ends_by true way.End read counts leaves = Ends.open_dialog (record {
+    all = are_all way.End read (λ e. absurd cc) counts;
+    whole = all_taken read;
+    leaves = leaves;
+  })
+  ends_by is_open (way.BadKey line fault) read counts leaves =
+      Ends.bad_key line fault read.ends.0
+      (are_all (way.BadKey line fault) read (λ e. absurd cc) counts)
+  ends_by is_open way.TooManyKeys read counts leaves =
+      Ends.too_many_keys read.ends.0 (are_all way.TooManyKeys read (λ e. absurd cc) counts)
+  ends_by is_open way.ReadFault read counts leaves =
+      Ends.read_fault counts.1 read.ends.1 played
 
 -- all keys that were given were played, and no more are
 pub ended_browses : (play : Play) (old now : Outside) (reader after : Reading) (state : State)
     (source : SourceSeen) (ending : Ending) → Reaches play old now reader state
     → Answers now.source source reader after (next.Ended ending)
     → CountsFaults now.source.faults source.faults (Ok (next.Ended ending))
-    → BrowsesTo play old (record now { source = source }) (ended (is_some state.waiting) ending)
+    → BrowsesSeen play old (record now { source = source }) (ended (is_some state.waiting) ending)
 ended_browses play old now reader after state source ending reaches answers counts =
     let given = reaches.given in
     let (more, read) = answers old.source reaches.taken given reaches.read in
     let taken = reaches.taken ++ more in
     let last : Outside = record now { source = source } in
-    let is_open = is_some state.waiting in
+    let stands = reaches.browsed.stands in
     record {
-      reads = gives_by play old last (ended is_open ending) taken given read.given
-          (ends_so is_open old.source source ending taken given read)
-          (λ judged bytes is of_all.
-          let pages = unit_pages judged in
-          let stands = reaches.browsed.stands judged is in
-          record {
-            prefix = prefix_played pages (play pages) given (keys_of bytes).keys (moved_of old)
-                (moved_of now) state stands of_all;
-            shows = shows_so is_open ending (play pages) given old last
-                (record { wrote = stands.wrote; asked = stands.asks.fetches });
-            opens = opens_so is_open ending (play pages given).is_open
-                (open_there pages (play pages) given state stands.on);
-          });
-      store = store_so is_open ending old.pages.faults now.pages.faults reaches.browsed.steady;
-      read = read_so is_open ending old.source.faults now.source.faults source.faults
-          reaches.read.steady counts;
-      write = write_so is_open ending old.sink.faults now.sink.faults
-          reaches.browsed.write_steady;
-      of_line = of_line_so is_open ending old.source source taken given read;
+      taken = taken;
+      given = given;
+      reads = read.given;
+      ends = ends_by play old last taken given
+          (record {
+            played = over_units now.pages (λ pages. IsPlayed (play pages) given old last)
+                (λ judged may. record {
+                  wrote = (stands judged may).wrote;
+                  asked = (stands judged may).asks.fetches;
+                });
+            store = reaches.browsed.steady;
+            sink = reaches.browsed.write_steady;
+          })
+          (is_some state.waiting) ending read
+          (subst (λ (count : ℕ). CountsFaults count source.faults (Ok (next.Ended ending)))
+          reaches.read.steady counts)
+          (over_units now.pages (λ pages. (play pages given).is_open ≡ is_some state.waiting)
+          (λ judged may. let pages = unit_pages judged in
+          open_there pages (play pages) given state (stands judged may).on));
+      prefix = λ bytes gives. over_units now.pages
+          (λ pages. AppendsPrefix old.sink.taken now.sink.taken
+          (bytes_of (play pages (keys_of bytes).keys)))
+          (λ judged may. let pages = unit_pages judged in
+          prefix_played pages (play pages) given (keys_of bytes).keys (moved_of old) (moved_of now)
+          state (stands judged may) (read.given.of_all bytes gives));
       stays = reaches.browsed.stays;
       read_counts = omega (
         arith,
@@ -190,8 +148,6 @@ ended_browses play old now reader after state source ending reaches answers coun
         reaches.read.steady,
       );
       write_counts = omega (arith, reaches.browsed.write_steady);
-      few = few_of old.source source taken given read.given;
-      end_once = read.given.end_once;
     }
 
 -- Done says that the keys ended, outside a dialog
@@ -207,7 +163,7 @@ done_so waiting way.ReadFault is = absurd cc
 left_closed : (step : Step) → step.is_open ≡ false → left_open step ≡ step
 left_closed step is = λ i. record step { is_open = sym is i }
 
--- and then the handset stands where they lead
+-- and then the session stands where they lead
 pub ended_rests : (play : Play) (old now : Outside) (reader after : Reading) (state : State)
     (source : SourceSeen) (ending : Ending) → Reaches play old now reader state
     → Answers now.source source reader after (next.Ended ending)
@@ -245,38 +201,35 @@ ended_rests play old now reader after state source ending reaches answers done =
 pub reader_runs_out : (play : Play) (old now : Outside) (reader : Reading) (state : State)
     (source : SourceSeen) → Reaches play old now reader state
     → GivesUp now.source source reader → source.faults ≡ now.source.faults
-    → BrowsesTo play old (record now { source = source }) NoMemory
+    → BrowsesSeen play old (record now { source = source }) NoMemory
 reader_runs_out play old now reader state source reaches gives steady =
     let given = reaches.given in
     let (more, has) = gives old.source reaches.taken given reaches.read in
-    let taken = reaches.taken ++ more in
     let last : Outside = record now { source = source } in
+    let stands = reaches.browsed.stands in
     record {
-      reads = gives_by play old last NoMemory taken given has (λ bytes may. tt)
-          (λ judged bytes is of_all.
-          let pages = unit_pages judged in
-          let stands = reaches.browsed.stands judged is in
-          record {
-            prefix = prefix_played pages (play pages) given (keys_of bytes).keys (moved_of old)
-                (moved_of now) state stands of_all;
-            shows = read_runs_out pages (play pages) given old last (moved_of old) (moved_of now)
-                state refl refl stands;
-            opens = tt;
-          });
-      store = tt;
-      read = steady ∙ reaches.read.steady;
-      write = reaches.browsed.write_steady;
-      of_line = tt;
+      taken = reaches.taken ++ more;
+      given = given;
+      reads = has;
+      ends = Ends.no_memory (steady ∙ reaches.read.steady) reaches.browsed.write_steady
+          (over_units now.pages (λ pages. StopsForMemory (play pages) given old last)
+          (λ judged may. let pages = unit_pages judged in
+          read_runs_out pages (play pages) given old last (moved_of old) (moved_of now) state refl
+          refl (stands judged may)));
+      prefix = λ bytes gives. over_units now.pages
+          (λ pages. AppendsPrefix old.sink.taken now.sink.taken
+          (bytes_of (play pages (keys_of bytes).keys)))
+          (λ judged may. let pages = unit_pages judged in
+          prefix_played pages (play pages) given (keys_of bytes).keys (moved_of old) (moved_of now)
+          state (stands judged may) (has.of_all bytes gives));
       stays = reaches.browsed.stays;
       read_counts = omega (arith, steady, reaches.read.steady);
       write_counts = omega (arith, reaches.browsed.write_steady);
-      few = few_of old.source source taken given has;
-      end_once = has.end_once;
     }
 
 -- or before the first
 pub none_read : (play : Play) (old now : Outside) (reader : Reading) (state : State)
-    → Reaches play old now reader state → BrowsesTo play old now NoMemory
+    → Reaches play old now reader state → BrowsesSeen play old now NoMemory
 none_read play old now reader state reaches =
     reader_runs_out play old now reader state now.source reaches
     (gives_up_at_once now.source reader) refl
@@ -295,118 +248,106 @@ module _ (play : Play) (given : List Key) (key : Key) (taken : List ℕ) (old : 
     (has : HasGiven old.source source taken given)
     (at_last : IsAtLast old.source source taken given)
     (unfailing : source.faults ≡ old.source.faults) where
-  -- what all stops share
-  stopped_by : (status : Status)
-      → ((judged : JudgedPages) (bytes : List ℕ)
+  abbrev last : Outside
+  last = outside_of (played_to new) source
+
+  -- what holds over the pages there may be
+  near : Stays now.pages new.pages → (Fact : Pages → Type 0)
+      → ((judged : JudgedPages)
       → Nears (unit_pages judged) (play (unit_pages judged)) given key (moved_of old) now state
-      → AreFirst given (keys_of bytes).keys → MayBe new.pages judged
-      → Written status (play (unit_pages judged)) bytes given old
-      (outside_of (played_to new) source))
-      → ((bytes rest : List ℕ) → EndsSo status old.source source bytes taken rest given)
-      → StoreMoves status old.pages.faults new.pages.faults
-      → ReadMoves status old.source.faults source.faults
-      → WriteMoves status old.sink.faults new.sink.faults
-      → IsOfLine status → Stays now.pages new.pages → old.sink.faults ≤ new.sink.faults
-      → BrowsesTo play old (outside_of (played_to new) source) status
-  stopped_by status written ends store read write of_line stays counts = record {
-    reads = gives_by play old (outside_of (played_to new) source) status taken given has
-        (λ bytes may. ends bytes may.rest)
-        (λ judged bytes is of_all.
-        written judged bytes
-        (comes.nears judged (Stays-may now.pages new.pages stays judged is)) of_all is);
-    store = store;
-    read = read;
-    write = write;
-    of_line = of_line;
+      → MayBe new.pages judged → Fact (unit_pages judged))
+      → (pages : Pages) → AreUnitPages new.pages pages → Fact pages
+  near stays Fact so =
+      over_units new.pages Fact
+      (λ judged may. so judged (comes.nears judged (Stays-may now.pages new.pages stays judged may))
+      may)
+
+  -- what all stops share
+  stopped_by : (status : Status) → Stays now.pages new.pages
+      → Ends (AreUnitPages new.pages) play old last taken given status
+      → ((bytes : List ℕ) → AreFirst given (keys_of bytes).keys → (judged : JudgedPages)
+      → Nears (unit_pages judged) (play (unit_pages judged)) given key (moved_of old) now state
+      → MayBe new.pages judged → AppendsPrefix old.sink.taken new.sink.taken
+      (bytes_of (play (unit_pages judged) (keys_of bytes).keys)))
+      → old.sink.faults ≤ new.sink.faults → BrowsesSeen play old last status
+  stopped_by status stays ends prefix counts = record {
+    taken = taken;
+    given = given;
+    reads = has;
+    ends = ends;
+    prefix = λ bytes gives. near stays
+        (λ pages. AppendsPrefix old.sink.taken new.sink.taken
+        (bytes_of (play pages (keys_of bytes).keys)))
+        (prefix bytes (has.of_all bytes gives));
     stays = Stays-then old.pages now.pages new.pages comes.stays stays;
     read_counts = omega (arith, unfailing);
     write_counts = counts;
-    few = few_of old.source source taken given has;
-    end_once = has.end_once;
   }
 
+  -- nothing of the key's lines was written
+  unwritten_by : (status : Status) → Stays now.pages new.pages → new.sink ≡ now.sink
+      → Ends (AreUnitPages new.pages) play old last taken given status
+      → BrowsesSeen play old last status
+  unwritten_by status stays unwritten ends =
+      stopped_by status stays ends
+      (λ bytes first judged nears may. let pages = unit_pages judged in
+      prefix_unwritten pages (play pages) given key (moved_of old) now state nears
+      (keys_of bytes).keys new.sink unwritten first)
+      (let steady = sink_steady old.sink now.sink new.sink comes.write_steady unwritten in
+      omega (arith, steady))
+
   -- by status
-  pub stop_browses : (status : Status) → Stops status key (moment_of now state) new
-      → BrowsesTo play old (outside_of (played_to new) source) status
-  stop_browses StoreFault so =
-      let steady = sink_steady old.sink now.sink new.sink comes.write_steady so.unwritten in
-      stopped_by StoreFault
-      (λ judged bytes nears first is.
-      let pages = unit_pages judged in
-      record {
-        prefix = prefix_unwritten pages (play pages) given key (moved_of old) now state nears
-            (keys_of bytes).keys new.sink so.unwritten first;
-        shows = record {
-          wrote = wrote_before pages (play pages) given key (moved_of old) now state nears new.sink
-              so.unwritten;
-          asked = missed_there pages (play pages) given key (moved_of old) now state nears new
-              (so.missed judged is nears.over) so.stays;
-        };
-        opens = tt;
-      })
-      (λ bytes rest. at_last)
+  pub stop_browses : (status : Status) → Stops key (moment_of now state) new status
+      → BrowsesSeen play old last status
+  stop_browses status (Stops.at_store so) =
+      unwritten_by StoreFault so.stays so.unwritten
+      (Ends.store_fault
       (rose_from old.pages.faults now.pages.faults new.pages.faults comes.steady so.rose)
-      unfailing steady tt so.stays (omega (arith, steady))
-  stop_browses WriteFault so =
-      stopped_by WriteFault
-      (λ judged bytes nears first is.
-      let pages = unit_pages judged in
-      let leads = so.leads judged is nears.over in
+      unfailing (sink_steady old.sink now.sink new.sink comes.write_steady so.unwritten) at_last
+      (near so.stays (λ pages. StopsAtStore (play pages) given old last)
+      (λ judged nears may. let pages = unit_pages judged in
       record {
-        prefix = prefix_part pages (play pages) given key (moved_of old) now state nears
-            (keys_of bytes).keys new leads first;
-        shows = record {
-          wrote = wrote_part pages (play pages) given key (moved_of old) now state nears new leads;
-          asked = asked_there pages (play pages) given key (moved_of old) now state nears new leads;
-        };
-        opens = tt;
-      })
-      (λ bytes rest. at_last)
-      (so.steady ∙ comes.steady)
-      unfailing
+        wrote = wrote_before pages (play pages) given key (moved_of old) now state nears new.sink
+            so.unwritten;
+        asked = missed_there pages (play pages) given key (moved_of old) now state nears new
+            (so.missed judged may nears.over) so.stays;
+      })))
+  stop_browses status (Stops.at_sink so) =
+      stopped_by WriteFault so.stays
+      (Ends.write_fault
       (rose_from old.sink.faults now.sink.faults new.sink.faults comes.write_steady so.rose)
-      tt so.stays
-      (omega (arith, comes.write_steady, so.counts))
-  stop_browses NoMemory so =
-      let steady = sink_steady old.sink now.sink new.sink comes.write_steady so.unwritten in
-      stopped_by NoMemory
-      (λ judged bytes nears first is.
-      let pages = unit_pages judged in
+      unfailing (so.steady ∙ comes.steady) at_last
+      (near so.stays (λ pages. StopsAtSink (play pages) given old last)
+      (λ judged nears may. let pages = unit_pages judged in
+      let leads = so.leads judged may nears.over in
       record {
-        prefix = prefix_unwritten pages (play pages) given key (moved_of old) now state nears
-            (keys_of bytes).keys new.sink so.unwritten first;
-        shows = record {
-          count = length given;
-          least = omega arith;
-          most = omega arith;
-          wrote = wrote_before pages (play pages) given key (moved_of old) now state nears new.sink
-              so.unwritten;
-        };
-        opens = tt;
-      })
-      (λ bytes rest. tt)
-      tt unfailing steady tt so.stays (omega (arith, steady))
-  stop_browses Done so = absurd so
-  stop_browses Usage so = absurd so
-  stop_browses (Refused fault) so = absurd so
-  stop_browses KeyReadFault so = absurd so
-  stop_browses (BadKey line fault) so = absurd so
-  stop_browses OpenDialog so = absurd so
-  stop_browses TooManyKeys so = absurd so
+        wrote = wrote_part pages (play pages) given key (moved_of old) now state nears new leads;
+        asked = asked_there pages (play pages) given key (moved_of old) now state nears new leads;
+      })))
+      (λ bytes first judged nears may. let pages = unit_pages judged in
+      prefix_part pages (play pages) given key (moved_of old) now state nears
+      (keys_of bytes).keys new (so.leads judged may nears.over) first)
+      (omega (arith, comes.write_steady, so.counts))
+  stop_browses status (Stops.for_memory so) =
+      unwritten_by NoMemory so.stays so.unwritten
+      (Ends.no_memory unfailing
+      (sink_steady old.sink now.sink new.sink comes.write_steady so.unwritten)
+      (near so.stays (λ pages. StopsForMemory (play pages) given old last)
+      (λ judged nears may. let pages = unit_pages judged in
+      record {
+        count = length given;
+        least = omega arith;
+        most = omega arith;
+        wrote = wrote_before pages (play pages) given key (moved_of old) now state nears new.sink
+            so.unwritten;
+      })))
 
 -- a key that stops it isn't Done
-pub stop_undone : (status : Status) (key : Key) (old new : Moment) → Stops status key old new
+pub stop_undone : (status : Status) (key : Key) (old new : Moment) → Stops key old new status
     → status ≢ Done
-stop_undone StoreFault key old new so is = absurd cc
-stop_undone WriteFault key old new so is = absurd cc
-stop_undone NoMemory key old new so is = absurd cc
-stop_undone Done key old new so is = absurd so
-stop_undone Usage key old new so is = absurd so
-stop_undone (Refused fault) key old new so is = absurd so
-stop_undone KeyReadFault key old new so is = absurd so
-stop_undone (BadKey line fault) key old new so is = absurd so
-stop_undone OpenDialog key old new so is = absurd so
-stop_undone TooManyKeys key old new so is = absurd so
+stop_undone status key old new (Stops.at_store so) is = absurd cc
+stop_undone status key old new (Stops.at_sink so) is = absurd cc
+stop_undone status key old new (Stops.for_memory so) is = absurd cc
 
 -- ---- at a key that was read, and at the first
 
@@ -415,8 +356,8 @@ pub read_stops : (play : Play) (old now : Outside) (reader after : Reading) (sta
     (key : Key) (source : SourceSeen) (new : Moment) (status : Status)
     → Reaches play old now reader state
     → Answers now.source source reader after (next.Key key)
-    → Stops status key (moment_of (moved_of now) state) new
-    → BrowsesTo play old (outside_of (played_to new) source) status
+    → Stops key (moment_of (moved_of now) state) new status
+    → BrowsesSeen play old (outside_of (played_to new) source) status
 read_stops play old now reader after state key source new status reaches answers so =
     let (more, (read, just)) = answers old.source reaches.taken reaches.given reaches.read in
     let given = reaches.given ++ key ∷ [] in
@@ -429,43 +370,39 @@ read_stops play old now reader after state key source new status reaches answers
 -- one before any was read
 pub first_stops : (play : Play) (old : Outside) (now : Moved) (state : State) (key : Key)
     (new : Moment) (status : Status)
-    → Comes play [] key (moved_of old) now state → Stops status key (moment_of now state) new
-    → BrowsesTo play old (outside_of (played_to new) old.source) status
+    → Comes play [] key (moved_of old) now state → Stops key (moment_of now state) new status
+    → BrowsesSeen play old (outside_of (played_to new) old.source) status
 first_stops play old now state key new status comes so =
     stop_browses play [] key [] old now state old.source new comes
     (given_of old.source old.source [] [] _ (nothing_read old.source [] refl))
     (inl (record { stays = refl; none_taken = refl; none_given = refl })) refl status so
 
+-- nor is it refused
+pub unrefused : (play : Play) (old new : Outside) (status : Status)
+    → BrowsesSeen play old new status → (fault : PageFault) → status ≢ Refused fault
+unrefused play old new status so fault is =
+    none (subst (Ends (AreUnitPages new.pages) play old new so.taken so.given) is so.ends)
+  where
+    none : ¬ Ends (AreUnitPages new.pages) play old new so.taken so.given (Refused fault)
+    none ends = elim ends [ ]
+
 -- ---- memory ran out before anything was done
 
 -- nothing was done
-pub nothing_browses : (play : Play) (old : Outside) → BrowsesTo play old old NoMemory
-nothing_browses play old =
-    let has = given_of old.source old.source [] [] _ (nothing_read old.source [] refl) in
-    record {
-      reads = gives_by play old old NoMemory [] [] has (λ bytes may. tt)
-          (λ judged bytes is of_all. record {
-            prefix = (
-              [],
-              bytes_of (play (unit_pages judged) (keys_of bytes).keys),
-              refl,
-              Appends-nil old.sink.taken,
-            );
-            shows = record {
-              count = 0;
-              least = omega arith;
-              most = omega arith;
-              wrote = Appends-nil old.sink.taken;
-            };
-            opens = tt;
-          });
-      store = tt;
-      read = refl;
-      write = refl;
-      of_line = tt;
-      stays = Stays-same old.pages;
-      read_counts = omega arith;
-      write_counts = omega arith;
-      few = few_of old.source old.source [] [] has;
-      end_once = has.end_once;
-    }
+pub nothing_browses : (play : Play) (old : Outside) → BrowsesSeen play old old NoMemory
+nothing_browses play old = record {
+  taken = [];
+  given = [];
+  reads = given_of old.source old.source [] [] _ (nothing_read old.source [] refl);
+  ends = Ends.no_memory refl refl (λ pages may. record {
+    count = 0;
+    least = omega arith;
+    most = omega arith;
+    wrote = Appends-nil old.sink.taken;
+  });
+  prefix = λ bytes gives pages may.
+      ([], bytes_of (play pages (keys_of bytes).keys), refl, Appends-nil old.sink.taken);
+  stays = Stays-same old.pages;
+  read_counts = omega arith;
+  write_counts = omega arith;
+}

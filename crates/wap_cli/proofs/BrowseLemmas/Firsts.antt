@@ -5,7 +5,6 @@ use Rattle.std.proofs.Math.Seq.{take-length}
 use Rattle.std.proofs.lemmas.List.{append-nil, take_at, length-append}
 use Rattle.wap_devices.specs.Transfer.{Appends, AppendsPrefix}
 use Rattle.wap_base.specs.declared.key.Key.{Key}
-use Rattle.wap_keys.specs.Read.{AreFirst}
 use Rattle.wap_world.specs.Steps.{Step}
 use Rattle.wap_cli.specs.browse.Handling.{bytes_of, first_lines, first_asked}
 
@@ -14,12 +13,6 @@ use Rattle.wap_cli.specs.browse.Handling.{bytes_of, first_lines, first_asked}
 -- one key is one more
 pub one_longer : (given : List Key) (key : Key) → length (given ++ key ∷ []) ≡ suc (length given)
 one_longer given key = omega (arith, length-append given (key ∷ []))
-
--- without the last key
-pub shorter_first : (given : List Key) (key : Key) (all : List Key)
-    → AreFirst (given ++ key ∷ []) all → AreFirst given all
-shorter_first given key all (others, split) =
-    (key ∷ others, split ∙ append_assoc given (key ∷ []) others)
 
 -- ---- first steps
 

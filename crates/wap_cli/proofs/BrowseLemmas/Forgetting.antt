@@ -1,10 +1,15 @@
--- What is said of browsing says nothing of what a cache keeps afterwards.
+-- What is said of browsing over some pages is said over others, over which keys come to the same;
+-- and nothing is said of what a cache keeps afterwards.
 use Rattle.std.proofs.Common.{◌≡◌, ℕ, List, [], Option, Some, refl, sym, subst}
-use Rattle.std.specs.Prelude.{option_map}
+use Rattle.std.specs.Prelude.{Bool, true, false, option_map}
 use Rattle.wap_devices.specs.Stores.{StoreSeen}
 use Rattle.wap_devices.specs.Sources.{SourceSeen}
 use Rattle.wap_devices.specs.Sinks.{SinkSeen}
+use Rattle.wap_devices.specs.Transfer.{AppendsPrefix}
 use Rattle.wap_base.specs.declared.key.Key.{Key}
+use Rattle.wap_keys.specs.declared.ending.Ending.{Ending}
+use Rattle.wap_keys.specs.declared.ending.Ending.TheVariants as way
+use Rattle.wap_keys.specs.Lines.{keys_of}
 use Rattle.wap_world.specs.site.Pages.{Pages as JudgedPages}
 use Rattle.wap_world.specs.site.Misses.{Cache}
 use Rattle.wap_world.specs.site.Asking.{Seen, MayBe}
@@ -13,9 +18,9 @@ use Rattle.wap_cli.specs.declared.status.Status.{Status}
 use Rattle.wap_pages.specs.Caches.{CachedPages, cache_of, seen_over}
 use Rattle.wap_cli.specs.browse.Outside.{Outside}
 use Rattle.wap_cli.specs.browse.Plays.{Play, AreUnitPages}
-use Rattle.wap_cli.specs.browse.Handling.{IsPlayed}
+use Rattle.wap_cli.specs.browse.Handling.{bytes_of, IsPlayed}
 use Rattle.wap_cli.specs.browse.Stopping.{StopsAtStore, StopsAtSink, StopsForMemory}
-use Rattle.wap_cli.specs.browse.Headline.{NothingFails, Shows, Reads, BrowsesSeen}
+use Rattle.wap_cli.specs.browse.Headline.{ArePlayed, AreAll, AtEnd, Ends, Browses, BrowsesSeen}
 
 -- the outside, with another cache
 abbrev pub with_cache : Option Cache → Outside → Outside
@@ -27,98 +32,108 @@ pub may_too : (seen : Seen) (cache : Option Cache) (pages : JudgedPages)
 may_too seen cache pages may =
     record { contents = may.contents; agrees = may.agrees; are = may.are }
 
-module _ (play : Play) (old new : Outside) (status : Status) (cache : Option Cache) where
-  -- a session that was played to its end
-  played : (of : List Key → Step) (given : List Key) → IsPlayed of given old new
-      → IsPlayed of given old (with_cache cache new)
-  played of given so = record { wrote = so.wrote; asked = so.asked }
+-- over other pages, where keys come to the same
+module _ {P Q : Type 0} (Are : P → Type 0) (play : P → List Key → Step) (AreToo : Q → Type 0)
+    (play_too : Q → List Key → Step)
+    (same : (q : Q) → AreToo q → (p : P) × Are p × (play p ≡ play_too q)) (old new : Outside)
+    (cache : Option Cache) where
+  abbrev last : Outside
+  last = with_cache cache new
 
-  -- one that the store stopped
-  at_store : (of : List Key → Step) (given : List Key) → StopsAtStore of given old new
-      → StopsAtStore of given old (with_cache cache new)
-  at_store of given so = record { wrote = so.wrote; asked = so.asked }
+  -- what holds over all of the first holds over the others
+  over : (Fact : (List Key → Step) → Type 0) → ((p : P) → Are p → Fact (play p)) → (q : Q)
+      → AreToo q → Fact (play_too q)
+  over Fact so q are = let found = same q are in subst Fact found.2 (so found.0 found.1)
 
-  -- one that the sink stopped
-  at_sink : (of : List Key → Step) (given : List Key) → StopsAtSink of given old new
-      → StopsAtSink of given old (with_cache cache new)
-  at_sink of given so = record { wrote = so.wrote; asked = so.asked }
+  module _ (taken : List ℕ) (given : List Key) where
+    -- keys that were played
+    played_too : ArePlayed Are play old new taken given
+        → ArePlayed AreToo play_too old last taken given
+    played_too so = record {
+      played = over (λ of. IsPlayed of given old last) (λ pages are.
+          let one = so.played pages are in record { wrote = one.wrote; asked = one.asked });
+      store = so.store;
+      sink = so.sink;
+    }
 
-  -- one that memory stopped
-  for_memory : (of : List Key → Step) (given : List Key) → StopsForMemory of given old new
-      → StopsForMemory of given old (with_cache cache new)
-  for_memory of given so =
-      record { count = so.count; least = so.least; most = so.most; wrote = so.wrote }
+    -- keys that were read to their end
+    all_too : (by : Ending) → AreAll Are play old new taken given by
+        → AreAll AreToo play_too old last taken given by
+    all_too by so = record { all = so.all; played = played_too so.played; source = so.source }
 
-  -- nothing failed
-  none_fails : NothingFails old (with_cache cache new) → NothingFails old new
-  none_fails none = record { store = none.store; source = none.source; sink = none.sink }
+    end_too : (is_open : Bool) → AtEnd Are play old new taken given is_open
+        → AtEnd AreToo play_too old last taken given is_open
+    end_too is_open so = record {
+      all = all_too way.End so.all;
+      whole = so.whole;
+      leaves = over (λ of. (of given).is_open ≡ is_open) so.leaves;
+    }
 
-  -- what was written
-  shows : (of : List Key → Step) (bytes : List ℕ) (given : List Key)
-      → Shows of bytes given old new status
-      → Shows of bytes given old (with_cache cache new) status
-  shows of bytes given so = record {
-    prefix = so.prefix;
-    played = λ is_open ending is. played of given (so.played is_open ending is);
-    open_so = so.open_so;
-    store_fault = λ is. at_store of given (so.store_fault is);
-    write_fault = λ is. at_sink of given (so.write_fault is);
-    no_memory = λ is. for_memory of given (so.no_memory is);
-    complete = λ none. so.complete (none_fails none);
-  }
+    -- however it ended
+    ends_too : (status : Status) → Ends Are play old new taken given status
+        → Ends AreToo play_too old last taken given status
+    ends_too status (Ends.done so) = Ends.done (end_too false so)
+    ends_too status (Ends.open_dialog so) = Ends.open_dialog (end_too true so)
+    ends_too status (Ends.bad_key line fault of_line so) =
+        Ends.bad_key line fault of_line (all_too (way.BadKey line fault) so)
+    ends_too status (Ends.too_many_keys many so) =
+        Ends.too_many_keys many (all_too way.TooManyKeys so)
+    ends_too status (Ends.read_fault rose read so) = Ends.read_fault rose read (played_too so)
+    ends_too status (Ends.store_fault rose source sink at_last so) =
+        Ends.store_fault rose source sink at_last
+        (over (λ of. StopsAtStore of given old last) (λ pages are.
+        let one = so pages are in record { wrote = one.wrote; asked = one.asked }))
+    ends_too status (Ends.write_fault rose source store at_last so) =
+        Ends.write_fault rose source store at_last
+        (over (λ of. StopsAtSink of given old last) (λ pages are.
+        let one = so pages are in record { wrote = one.wrote; asked = one.asked }))
+    ends_too status (Ends.no_memory source sink so) =
+        Ends.no_memory source sink
+        (over (λ of. StopsForMemory of given old last) (λ pages are.
+        let one = so pages are in
+        record { count = one.count; least = one.least; most = one.most; wrote = one.wrote }))
 
-  -- what was read
-  reads : (bytes : List ℕ) → Reads (AreUnitPages new.pages) play bytes old new status
-      → Reads (AreUnitPages (with_cache cache new).pages) play bytes old (with_cache cache new)
-      status
-  reads bytes so = record {
-    taken = so.taken;
-    rest = so.rest;
-    split = so.split;
-    given_is = so.given_is;
-    given = so.given;
-    first = so.first;
-    prompt = so.prompt;
-    store_fault = so.store_fault;
-    write_fault = so.write_fault;
-    done = so.done;
-    bad_key = so.bad_key;
-    too_many_keys = so.too_many_keys;
-    read_fault = so.read_fault;
-    complete = λ none. so.complete (none_fails none);
-    shows = λ pages (judged, may, is). shows (play pages) bytes so.given
-        (so.shows pages (judged, may_too new.pages cache judged may, is));
-  }
-
-  -- but that its capacity is as before
-  pub forget_cache
-      : option_map (λ kept. kept.capacity) cache
+  -- all that is said, but that the cache has room for as many pages as before
+  pub browses_by : (status : Status) → option_map (λ kept. kept.capacity) cache
       ≡ option_map (λ kept. kept.capacity) old.pages.cache
-      → BrowsesSeen play old new status → BrowsesSeen play old (with_cache cache new) status
-  forget_cache same so = record {
-    reads = λ bytes may. reads bytes (so.reads bytes may);
-    store_fault = so.store_fault;
-    read_fault = so.read_fault;
-    write_fault = so.write_fault;
-    store_steady = so.store_steady;
-    read_steady = so.read_steady;
-    write_steady = so.write_steady;
-    command = so.command;
-    accepted = so.accepted;
-    of_line = so.of_line;
+      → Browses Are play old new status → Browses AreToo play_too old last status
+  browses_by status room so = record {
+    taken = so.taken;
+    given = so.given;
+    reads = so.reads;
+    ends = ends_too so.taken so.given status so.ends;
+    prefix = λ bytes gives. over
+        (λ of. AppendsPrefix old.sink.taken new.sink.taken (bytes_of (of (keys_of bytes).keys)))
+        (so.prefix bytes gives);
     stays = record {
       known = so.stays.known;
       judge = so.stays.judge;
-      capacity = same;
+      capacity = room;
       listings = so.stays.listings;
       faults = so.stays.faults;
       fetches = so.stays.fetches;
     };
     read_counts = so.read_counts;
     write_counts = so.write_counts;
-    few = so.few;
-    end_once = so.end_once;
   }
+
+-- with the same cache
+pub browses_too : {P Q : Type 0} (Are : P → Type 0) (play : P → List Key → Step)
+    (AreToo : Q → Type 0) (play_too : Q → List Key → Step)
+    → ((q : Q) → AreToo q → (p : P) × Are p × (play p ≡ play_too q)) → (old new : Outside)
+    (status : Status) → Browses Are play old new status → Browses AreToo play_too old new status
+browses_too Are play AreToo play_too same old new status so =
+    browses_by Are play AreToo play_too same old new new.pages.cache status so.stays.capacity so
+
+-- and over the same pages
+pub forget_cache : (play : Play) (old new : Outside) (status : Status) (cache : Option Cache)
+    → option_map (λ kept. kept.capacity) cache
+    ≡ option_map (λ kept. kept.capacity) old.pages.cache
+    → BrowsesSeen play old new status → BrowsesSeen play old (with_cache cache new) status
+forget_cache play old new status cache room so =
+    browses_by (AreUnitPages new.pages) play (AreUnitPages (with_cache cache new).pages) play
+    (λ pages (judged, may, is). (pages, (judged, may_too new.pages cache judged may, is), refl)) old
+    new cache status room so
 
 -- ---- over the pages of a store
 
@@ -139,7 +154,28 @@ module _ {S : Type 0} (seen : S → StoreSeen) where
     sink = sink;
   }
 
-  -- a cache that kept nothing at first
+  -- a fact that says nothing of what a cache keeps afterwards, over one that kept nothing at first
+  pub over_fresh : (Fact : Outside → Outside → Type 0)
+      → ((old new : Outside) (cache : Option Cache)
+      → option_map (λ kept. kept.capacity) cache
+      ≡ option_map (λ kept. kept.capacity) old.pages.cache
+      → Fact old new → Fact old (with_cache cache new))
+      → (first last : CachedPages S) (store back : S) (capacity : ℕ)
+      (source source_after : SourceSeen) (sink sink_after : SinkSeen)
+      → first.store ≡ store → first.kept ≡ [] → first.capacity ≡ capacity → back ≡ last.store
+      → Fact (outside_over first source sink) (outside_over last source_after sink_after)
+      → Fact (fresh_over (seen store) capacity source sink)
+      (fresh_over (seen back) capacity source_after sink_after)
+  over_fresh Fact forget first last store back capacity source source_after sink sink_after of none
+      many is so =
+      let before : Outside = fresh_over (seen store) capacity source sink in
+      let after : Outside = outside_over last source_after sink_after in
+      let from : first ≡ record { store = store; kept = []; capacity = capacity } =
+      λ i. record { store = of i; kept = none i; capacity = many i } in
+      subst (λ (s : S). Fact before (fresh_over (seen s) capacity source_after sink_after)) (sym is)
+      (forget before after (Some (record { names = []; capacity = capacity })) refl
+      (subst (λ (cached : CachedPages S). Fact (outside_over cached source sink) after) from so))
+
   pub browsed_over : (play : Play) (first last : CachedPages S) (store back : S) (capacity : ℕ)
       (source source_after : SourceSeen) (sink sink_after : SinkSeen) (status : Status)
       → first.store ≡ store → first.kept ≡ [] → first.capacity ≡ capacity → back ≡ last.store
@@ -147,17 +183,7 @@ module _ {S : Type 0} (seen : S → StoreSeen) where
       (outside_over last source_after sink_after) status
       → BrowsesSeen play (fresh_over (seen store) capacity source sink)
       (fresh_over (seen back) capacity source_after sink_after) status
-  browsed_over play first last store back capacity source source_after sink sink_after status of
-      none many is so =
-      let before : Outside = fresh_over (seen store) capacity source sink in
-      let after : Outside = outside_over last source_after sink_after in
-      let from : first ≡ record { store = store; kept = []; capacity = capacity } =
-      λ i. record { store = of i; kept = none i; capacity = many i } in
-      let new : BrowsesSeen play before after status =
-      subst (λ (cached : CachedPages S).
-      BrowsesSeen play (outside_over cached source sink) after status) from so in
-      subst (λ (s : S). BrowsesSeen play before
-      (fresh_over (seen s) capacity source_after sink_after) status) (sym is)
-      (forget_cache play before after status
-      (Some (record { names = []; capacity = capacity })) refl
-      new)
+  browsed_over play first last store back capacity source source_after sink sink_after status =
+      over_fresh (λ old new. BrowsesSeen play old new status)
+      (λ old new cache. forget_cache play old new status cache) first last store back capacity
+      source source_after sink sink_after

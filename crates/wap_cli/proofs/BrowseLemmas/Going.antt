@@ -20,7 +20,7 @@ use Rattle.wap_world.proofs.Joining.{joined_assoc}
 use Rattle.wap_world.specs.scripting.UnitSites.{Pages, shelf_of, unit_pages}
 use Rattle.wap_context.specs.Browsers.{IsOver}
 use Rattle.wap_session.specs.Feeding.{left_open}
-use Rattle.wap_session.specs.handset.Feeding.{State, beginning, step_of}
+use Rattle.wap_session.specs.Feeding.{State, beginning, step_of}
 use Rattle.wap_cli.specs.browse.Outside.{Outside}
 use Rattle.wap_cli.specs.browse.Plays.{Play, opened, IsNoPush, HaveNoPush}
 use Rattle.wap_cli.specs.browse.Handling.{bytes_of, first_lines, first_asked}
@@ -129,7 +129,7 @@ module _ (pages : Pages) (play : List Key → Step) (given : List Key) (key : Ke
   pub whole : play given ≡ then_step (left_open nears.before) (step_of pages (key ∷ []) state)
   whole = ap play (sym (append-nil given)) ∙ nears.on []
 
-  -- and with further keys, where it leads to another handset
+  -- and with further keys, where it leads to another session
   pub beyond : (new : State) (others : List Key)
       → step_of pages (key ∷ others) state
       ≡ then_step (left_open (step_of pages (key ∷ []) state)) (step_of pages others new)

@@ -8,9 +8,8 @@ use Rattle.wap_base.specs.declared.key.Key.{Key}
 use Rattle.wap_layout.specs.buffer.Written.{line_bytes, lines_bytes}
 use Rattle.wap_world.specs.Steps.{Step, then_step}
 use Rattle.wap_world.specs.scripting.UnitSites.{Pages}
-use Rattle.wap_session.specs.Feeding.{left_open}
-use Rattle.wap_session.specs.handset.Feeding.{State, step_of}
-use Rattle.wap_session.proofs.HandsetLemmas.Playing.{step_none}
+use Rattle.wap_session.specs.Feeding.{State, step_of, left_open}
+use Rattle.wap_session.proofs.Playing.{step_none}
 use Rattle.wap_cli.specs.browse.Handling.{bytes_of}
 
 -- ---- bytes
@@ -45,7 +44,7 @@ module _ (pages : Pages) (play : List Key → Step) (given : List Key) (state : 
       ∙ ap (λ (s : Step). s.is_open) (on [])
       ∙ ap (λ (s : Step). s.is_open) (step_none pages state)
 
-  -- the world is that of the handset
+  -- the world is that of the session
   pub world_there : state.browser.world ≡ (play given).world
   world_there =
       sym (ap (λ (s : Step). s.world) (step_none pages state))

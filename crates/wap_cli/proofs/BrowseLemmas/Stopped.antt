@@ -14,7 +14,7 @@ use Rattle.wap_world.proofs.SiteLemmas.Asking.{Asks-then}
 use Rattle.wap_world.specs.Steps.{Step}
 use Rattle.wap_world.specs.scripting.UnitSites.{Pages}
 use Rattle.wap_context.specs.Missing.{Missed}
-use Rattle.wap_session.specs.handset.Feeding.{State, step_of}
+use Rattle.wap_session.specs.Feeding.{State, step_of}
 use Rattle.wap_cli.specs.browse.Outside.{Outside}
 use Rattle.wap_cli.specs.browse.Handling.{bytes_of, first_lines, first_asked}
 use Rattle.wap_cli.specs.browse.Stopping.{RoseWithin, WritesPart}

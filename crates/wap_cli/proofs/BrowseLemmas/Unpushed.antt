@@ -1,4 +1,4 @@
--- A key that is played: one that is no push leaves the inbox of a handset as it is.
+-- A key that is played: one that is no push leaves the inbox of a session as it is.
 use Rattle.std.proofs.Common.{◌≡◌, ◌≤◌, ℕ, List, [], ◌∷◌, Option, Some, None, Ok, refl, ap, subst}
 use Rattle.std.proofs.Common.{◌∙◌}
 use Rattle.wap_base.specs.Count.{Rose}
@@ -6,72 +6,31 @@ use Rattle.wap_devices.specs.Transfer.{Appends, AppendsPrefix}
 use Rattle.wap_base.specs.declared.key.Key.{Key}
 use Rattle.wap_base.specs.declared.key.Key.TheVariants as key
 use Rattle.wap_push.specs.declared.indication.Indication.{Indication}
-use Rattle.wap_push.specs.Pushes.{push_at}
 use Rattle.wap_layout.specs.buffer.Written.{lines_bytes}
-use Rattle.wap_world.specs.Sites.{Site}
 use Rattle.wap_world.specs.scripting.UnitSites.{Pages, unit_pages}
 use Rattle.wap_world.specs.scripting.Waiting.{Waits}
-use Rattle.wap_world.proofs.ScriptingLawsLemmas.Keeping.{units_few}
-use Rattle.wap_context.specs.Sites.{fragment_call, site_of}
-use Rattle.wap_session.proofs.Alone.{none_of, turned_none}
 use Rattle.wap_push.specs.Inbox.{HaveWinners}
-use Rattle.wap_world.specs.inboxes.Inboxes.{Handset, Stepped, react_with}
-use Rattle.wap_world.proofs.InboxesLemmas.Counting.{few_with}
+use Rattle.wap_world.specs.inboxes.Inboxes.{Stepped}
 use Rattle.wap_world.proofs.InboxesLemmas.Winning.{exactly}
-use Rattle.wap_session.specs.handset.Holding.{Held}
-use Rattle.wap_session.specs.handset.Feeding.{State, held_with, stepped_of, Leads, Plays}
-use Rattle.wap_session.specs.handset.inside.Turns.{turned_by}
-use Rattle.wap_session.proofs.HandsetLemmas.Holding.{alone_with}
+use Rattle.wap_session.specs.Feeding.{State, stepped_of, Leads, Plays}
+use Rattle.wap_session.specs.inside.Turns.{taken_by}
+use Rattle.wap_session.proofs.Turning.{stepped_is}
 use Rattle.wap_cli.specs.browse.Plays.{IsNoPush}
 use Rattle.wap_cli.specs.browse.inside.Played.{Moment, GoesOn, FailsAtSink}
 
--- outside a dialog it takes none
-react_none : (site : Site) (one : Key) (handset : Handset) → IsNoPush one
-    → (react_with push_at site one [] handset).pushes ≡ handset.pushes
-react_none site (key.Push bytes) handset other = absurd (other bytes refl)
-react_none site key.Inbox handset other = refl
-react_none site (key.Follow n) handset other = refl
-react_none site (key.Open url) handset other = refl
-react_none site (key.Do name) handset other = refl
-react_none site (key.Pick n) handset other = refl
-react_none site (key.Enter n text) handset other = refl
-react_none site (key.Choose n m) handset other = refl
-react_none site key.Back handset other = refl
-react_none site (key.Tick n) handset other = refl
-react_none site key.Ok handset other = refl
-react_none site key.Cancel handset other = refl
-react_none site (key.Answer text) handset other = refl
-react_none site key.Stop handset other = refl
-react_none site key.Vars handset other = refl
-
--- and so in one
-turned_pushes : (pages : Pages) (o : Option Waits) (one : Key) (held : Held) → IsNoPush one
-    → (turned_by pages o one [] held).pushes ≡ held.pushes
-turned_pushes pages None one held other =
-    react_none (site_of pages) one (record { world = held.state.world; pushes = held.pushes }) other
-turned_pushes pages (Some waits) one held other = refl
-
--- a key alone leaves none
-turned_few : (pages : Pages) (o : Option Waits) (one : Key) (held : Held)
-    → (turned_by pages o one [] held).step.keys ≡ []
-turned_few pages None one held =
-    none_of (turned_by pages None one [] held).step.keys
-    (few_with push_at (site_of pages) (units_few fragment_call pages) one []
-    (record { world = held.state.world; pushes = held.pushes }))
-turned_few pages (Some waits) one held =
-    none_of (turned_by pages (Some waits) one [] held).step.keys
-    (turned_none pages (Some waits) held.state.world one)
+-- outside a dialog it takes none, and so in one
+taken_none : (o : Option Waits) (winners : List Indication) (one : Key) → IsNoPush one
+    → taken_by o winners one ≡ winners
+taken_none None winners (key.Push bytes) other = absurd (other bytes refl)
+taken_none None winners one other = refl
+taken_none (Some waits) winners one other = refl
 
 -- so the pushes are as before
 pushes_alone : (pages : Pages) (state : State) (one : Key) → IsNoPush one
     → (stepped_of pages (one ∷ []) state).pushes ≡ state.winners
 pushes_alone pages state one other =
-    let held = held_with state.winners state in
-    let first = turned_by pages state.waiting one [] held in
-    ap (λ (x : Stepped). x.pushes)
-    (alone_with pages state.browser.world state.winners one first.step first.pushes
-    (turned_few pages state.waiting one held) state.waiting refl)
-    ∙ turned_pushes pages state.waiting one held other
+    ap (λ (x : Stepped). x.pushes) (stepped_is one state pages)
+    ∙ taken_none state.waiting state.winners one other
 
 -- no pushes have no winners
 have_none : (winners : List Indication) → HaveWinners [] winners → winners ≡ []

@@ -62,8 +62,7 @@ pub is_played : (keys : List Key) (before mid after : Seen) (old now new : State
 is_played keys before mid after old now new lines more came begun so next counted text judged may =
     let first : Plays keys before mid (beginning made_begun) now (Ok lines) =
     subst (λ (state : State). Plays keys before mid state now (Ok lines)) begun so in
-    let all = plays_more keys Vars before mid after (beginning made_begun) now new lines more first
-    next in
+    let all = plays_more first next in
     in_parts (site_of (unit_pages judged)) keys lines more came
     (first.leads judged (Stays-may mid after next.stays judged may) refl).tells
     (all.leads judged may refl).tells counted text

@@ -178,7 +178,8 @@ attributes input before =
 end_of : (total : ℕ) (state : State) → Remembers (RefusedEnd total state)
 end_of total state bytes fault (inl so) e = lead_of total bytes fault so e
 end_of total state bytes fault (inr so) e =
-    unless (is_end (attribute_mark so.a)) (NoToken total) (no_token total) so.rest fault so.refused e
+    unless (is_end (attribute_mark so.a)) (NoToken total) (no_token total) so.rest fault so.refused
+    e
 
 instruction : (input : Input) (before : State) → Remembers (RefusedInstruction input before)
 unfolding RefusedInstruction

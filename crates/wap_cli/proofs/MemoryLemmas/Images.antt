@@ -17,7 +17,7 @@ use Rattle.wap_image.specs.Items.{is_depth_limit, timer_kind, is_time_left, is_v
 use Rattle.wap_image.specs.Items.{is_value_length, is_next_name, is_entry_count, is_entry_text}
 use Rattle.wap_image.specs.Images.{IsSized, IsText, IsHead, IsDrawn, IsBudget, AreLimits, IsTimer}
 use Rattle.wap_image.specs.Images.{IsNextName, IsVariable, AreVariables, IsEntry}
-use Rattle.wap_image.specs.Refusal.{Refusal, Never, LacksByte, LacksBytes, RefusesNumber}
+use Rattle.wap_image.specs.Refusal.{Refusal, LacksByte, LacksBytes, RefusesNumber}
 use Rattle.wap_image.specs.Refusal.{RefusesInTurn, RefusesPassing, RefusesMadeIf, RefusesRow}
 use Rattle.wap_image.specs.Refusal.{RefusesText, RefusesHead, RefusesDrawn, RefusesRange}
 use Rattle.wap_image.specs.Refusal.{RefusesByte, RefusesLimits, RefusesTimerOf, RefusesTimer}
@@ -64,9 +64,6 @@ row count Is Refuses refuses before end left found so e =
     refuses (before ++ so.whole) end so.rest found so.refused e
 
 -- ---- items
-
-never : Remembers Never
-never end left found so e = so
 
 lacks_byte : Remembers LacksByte
 lacks_byte end left found (none, so) e = cc

@@ -67,7 +67,8 @@ jump_with index code at next takes (Some row) =
     chosen (is_conditional_forward row.after) (jump_read index next takes (read_row row code next))
     (Err (fault.LoneShort index at)) (jump index next takes (read_row row code next)) (λ e. cc)
 
-both : (index : ℕ) (code : List ℕ) (at next takes : ℕ) → Remembers (pair_at index code at next takes)
+both : (index : ℕ) (code : List ℕ) (at next takes : ℕ)
+    → Remembers (pair_at index code at next takes)
 unfolding pair_at
 both index code at next takes =
     chosen (nat_lt next (length code))

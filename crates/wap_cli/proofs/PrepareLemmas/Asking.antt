@@ -2,7 +2,6 @@
 use Rattle.std.proofs.Common.{◌≡◌, ℕ, ◌+◌, ◌≤◌, Result, Ok, Err, refl, sym, ap, ◌∙◌}
 use Rattle.std.proofs.Common.{subst, arith}
 use Rattle.std.specs.Prelude.{List, [], ◌∷◌, ◌++◌, length, All, IsErr, IsErrAnd, IsErrOf}
-use Rattle.std.specs.Map.{keys_of}
 use Rattle.std.proofs.lemmas.List.Elements.{All-push, All-weaker}
 use Rattle.wap_base.specs.Count.{Rose}
 use Rattle.wap_devices.specs.Stores.{StoreSeen, Known, Grew, Fetches}
@@ -100,27 +99,6 @@ pub asks_over : {A : Type 0} (names others : List (List ℕ)) (a b : StoreSeen)
     → AsksFor {A = A} (length others) a b result
 asks_over names others a b result same asks =
     subst (λ (l : List (List ℕ)). AsksFor (length l) a b result) same asks
-
--- the names of a job more
-pub keys-push : (jobs : List Job) (job : Job)
-    → keys_of (jobs ++ job ∷ []) ≡ keys_of jobs ++ job.0 ∷ []
-keys-push [] job = refl
-keys-push (one ∷ jobs) job = ap (λ (names : List (List ℕ)). one.0 ∷ names) (keys-push jobs job)
-
--- all were asked for
-pub all_asked : {A : Type 0} (count : ℕ) (a b : StoreSeen) (jobs : A) → Asked count a b
-    → AsksFor {A = A} count a b (Ok jobs)
-all_asked count a b jobs asked =
-    let same = asked.faults in
-    record {
-      whole = asked.fetches;
-      few = (count, omega arith, asked.fetches);
-      listings = asked.listings;
-      known = asked.known;
-      counts = omega (arith, same);
-      failed = λ is. absurd cc;
-      steady = asked.faults;
-    }
 
 -- what was answered earlier is so of what is known later, and of one job more
 pub answered_more : (before after : Known) (jobs all : List Job) (job : Job) → Grew before after

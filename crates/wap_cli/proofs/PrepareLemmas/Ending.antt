@@ -5,33 +5,28 @@ use Rattle.std.proofs.Common.{ap, subst, ◌∙◌, arith}
 use Rattle.std.specs.Prelude.{length}
 use Rattle.std.specs.List.Sorted.{IsPermutation}
 use Rattle.std.proofs.lemmas.List.Sorted.{length_permutation}
+use Rattle.std.proofs.lemmas.Map.Entries.{length-keys_of}
 use Rattle.wap_base.specs.Contents.{Contents, names_of}
 use Rattle.wap_base.specs.Count.{Rose}
 use Rattle.wap_devices.specs.Stores.{StoreSeen, Grew, Lists}
 use Rattle.wap_devices.specs.Sinks.{SinkSeen}
-use Rattle.wap_devices.specs.Transfer.{Appends, AppendsPrefix}
 use Rattle.wap_devices.proofs.Telling.{grew_nothing, grew_then, agrees_before}
 use Rattle.wap_devices.specs.declared.store.StoreErr.{StoreErr}
 use Rattle.wap_devices.specs.declared.store.StoreErr.TheVariants as store_error
 use Rattle.wap_world.specs.site.Asking.{raised_by}
 use Rattle.wap_cli.specs.declared.status.Status.{Status}
-use Rattle.wap_cli.specs.declared.status.Status.TheVariants.{Done, Usage, Refused, StoreFault}
-use Rattle.wap_cli.specs.declared.status.Status.TheVariants.{KeyReadFault, WriteFault, NoMemory}
-use Rattle.wap_cli.specs.declared.status.Status.TheVariants.{BadKey, OpenDialog, TooManyKeys}
+use Rattle.wap_cli.specs.declared.status.Status.TheVariants.{StoreFault, NoMemory}
 use Rattle.wap_cli.specs.prepare.Fetching.{AsksFor}
-use Rattle.wap_cli.specs.prepare.Working.{WorksOnAll, AsksWithin}
-use Rattle.wap_cli.specs.prepare.Writing.{PutsTo}
-
-length-keys : (pages : Contents) → length (names_of pages) ≡ length pages
-length-keys [] = refl
-length-keys (page ∷ pages) = let so = length-keys pages in omega (arith, so)
+use Rattle.wap_cli.specs.prepare.Working.{WorksTo, WorksOnAll, AsksWithin}
+use Rattle.wap_cli.specs.Writing.{PutsTo}
+use Rattle.wap_cli.proofs.Writing.{writes_as}
 
 -- no more pages were asked for than there are
 within : (pages : Contents) (names : List (List ℕ)) (more : ℕ) → more ≤ length names
     → IsPermutation (names_of pages) names → more ≤ length pages
 within pages names more few all =
     let same = length_permutation (names_of pages) names all in
-    let keys = length-keys pages in
+    let keys = length-keys_of pages in
     omega (arith, few, same, keys)
 
 -- no page was asked for
@@ -39,212 +34,114 @@ pub none_asked : (before after : StoreSeen) → after.fetches ≡ before.fetches
     → AsksWithin before after
 none_asked before after is pages agrees = (0, omega arith, is)
 
+-- what is said of one text is said of another
+pub works_as : (Tells TellsToo : (List ℕ → Type 0) → Type 0)
+    → ((Wrote : List ℕ → Type 0) → Tells Wrote → TellsToo Wrote) → (store store_after : StoreSeen)
+    (sink sink_after : SinkSeen) (status : Status)
+    → WorksOnAll Tells store store_after sink sink_after status
+    → WorksOnAll TellsToo store store_after sink sink_after status
+works_as Tells TellsToo tell store store_after sink sink_after status so = record {
+  ends = by status so.ends;
+  once = so.once;
+  asked = so.asked;
+  kept = so.kept;
+  counts = so.counts;
+}
+  where
+    by : (status : Status) → WorksTo Tells store store_after sink sink_after status
+        → WorksTo TellsToo store store_after sink sink_after status
+    by status (WorksTo.answered one steady listings writes) =
+        WorksTo.answered one steady listings
+        (writes_as Tells TellsToo tell sink sink_after one writes)
+    by status (WorksTo.store_fault rose listings same) = WorksTo.store_fault rose listings same
+    by status (WorksTo.no_memory same) = WorksTo.no_memory same
+
 -- memory ran out before the store was asked
 pub nothing_done : (Tells : (List ℕ → Type 0) → Type 0) (store : StoreSeen) (sink : SinkSeen)
     → WorksOnAll Tells store store sink sink NoMemory
 nothing_done Tells store sink = record {
-  done = λ e. absurd cc;
-  prefix = λ e. absurd cc;
-  unwritten = λ undone other. refl;
-  ends = tt;
-  store_fault = λ e. absurd cc;
-  write_fault = λ e. absurd cc;
-  store_steady = λ read other. refl;
-  write_steady = λ e. refl;
-  complete = λ whole other. inr refl;
-  listings = λ other. absurd (other refl);
+  ends = WorksTo.no_memory refl;
   once = inl refl;
   asked = none_asked store store refl;
   kept = grew_nothing store.known store.known refl;
-  store_counts = omega arith;
-  write_counts = omega arith;
+  counts = omega arith;
 }
 
 module _ (Tells : (List ℕ → Type 0) → Type 0) {A : Type 0} (names_in : A → List (List ℕ))
     (store listed after : StoreSeen) (sink sink_after : SinkSeen) where
-  -- the store failed when it was asked for the names
-  pub list_fails : Lists names_in store listed (Err store_error.Failed)
-      → WorksOnAll Tells store listed sink sink StoreFault
-  list_fails lists = record {
-    done = λ e. absurd cc;
-    prefix = λ e. absurd cc;
-    unwritten = λ undone other. refl;
-    ends = tt;
-    store_fault = λ e. lists.asked.failed refl;
-    write_fault = λ e. absurd cc;
-    store_steady = λ read other. absurd (read refl);
-    write_steady = λ e. refl;
-    complete = λ whole other. absurd (whole (lists.asked.failed refl));
-    listings = λ e. lists.listings;
+  -- the store gave no names
+  unlisted : (status : Status) (fault : StoreErr) → Lists names_in store listed (Err fault)
+      → WorksTo Tells store listed sink sink status
+      → WorksOnAll Tells store listed sink sink status
+  unlisted status fault lists ends = record {
+    ends = ends;
     once = inr lists.listings;
     asked = none_asked store listed lists.fetches;
     kept = grew_nothing store.known listed.known lists.asked.untold;
-    store_counts = lists.asked.counts;
-    write_counts = omega arith;
+    counts = lists.asked.counts;
   }
+
+  -- it failed when it was asked for them
+  pub list_fails : Lists names_in store listed (Err store_error.Failed)
+      → WorksOnAll Tells store listed sink sink StoreFault
+  list_fails lists =
+      unlisted StoreFault store_error.Failed lists
+      (WorksTo.store_fault (lists.asked.failed refl) lists.listings refl)
 
   -- memory ran out for the names
   pub list_no_memory : Lists names_in store listed (Err store_error.NoMemory)
       → WorksOnAll Tells store listed sink sink NoMemory
-  list_no_memory lists = record {
-    done = λ e. absurd cc;
-    prefix = λ e. absurd cc;
-    unwritten = λ undone other. refl;
-    ends = tt;
-    store_fault = λ e. absurd cc;
-    write_fault = λ e. absurd cc;
-    store_steady = λ read other. absurd (other refl);
-    write_steady = λ e. refl;
-    complete = λ whole other. inr refl;
-    listings = λ e. lists.listings;
-    once = inr lists.listings;
-    asked = none_asked store listed lists.fetches;
-    kept = grew_nothing store.known listed.known lists.asked.untold;
-    store_counts = lists.asked.counts;
-    write_counts = omega arith;
-  }
+  list_no_memory lists =
+      unlisted NoMemory store_error.NoMemory lists (WorksTo.no_memory refl)
 
   module _ (names : A) (lists : Lists names_in store listed (Ok names)) where
-    pages_within : {B : Type 0} {result : Result B StoreErr}
-        → AsksFor (length (names_in names)) listed after result → AsksWithin store after
-    pages_within asks pages agrees = (
-      asks.few.0,
-      within pages (names_in names) asks.few.0 asks.few.1
-          (lists.names pages (agrees_before listed.known after.known asks.known pages agrees)),
-      asks.few.2 ∙ ap (raised_by asks.few.0) lists.fetches,
-    )
-
-    kept : {B : Type 0} {result : Result B StoreErr}
-        → AsksFor (length (names_in names)) listed after result → Grew store.known after.known
-    kept asks =
+    -- it gave the names, and was asked for the pages
+    listed_by : {B : Type 0} {result : Result B StoreErr} (status : Status) (last : SinkSeen)
+        → AsksFor (length (names_in names)) listed after result
+        → WorksTo Tells store after sink last status
+        → WorksOnAll Tells store after sink last status
+    listed_by status last asks ends =
         let listing : Grew store.known listed.known =
         record { answers = []; lists = names_in names ∷ []; is = lists.told } in
-        grew_then store.known listed.known after.known listing asks.known
+        let first = lists.asked.counts in
+        let second = asks.counts in
+        record {
+          ends = ends;
+          once = inr (asks.listings ∙ lists.listings);
+          asked = λ pages agrees. (
+            asks.few.0,
+            within pages (names_in names) asks.few.0 asks.few.1
+                (lists.names pages
+                (agrees_before listed.known after.known asks.known pages agrees)),
+            asks.few.2 ∙ ap (raised_by asks.few.0) lists.fetches,
+          );
+          kept = grew_then store.known listed.known after.known listing asks.known;
+          counts = omega (arith, first, second);
+        }
 
     -- it failed at a page
     pub page_fails : {B : Type 0}
         → AsksFor {A = B} (length (names_in names)) listed after (Err store_error.Failed)
         → WorksOnAll Tells store after sink sink StoreFault
     page_fails asks =
-        let rose : Rose store.faults after.faults =
-        subst (λ (faults : ℕ). Rose faults after.faults) lists.asked.steady (asks.failed refl) in
-        let first = lists.asked.counts in
-        let second = asks.counts in
-        record {
-          done = λ e. absurd cc;
-          prefix = λ e. absurd cc;
-          unwritten = λ undone other. refl;
-          ends = tt;
-          store_fault = λ e. rose;
-          write_fault = λ e. absurd cc;
-          store_steady = λ read other. absurd (read refl);
-          write_steady = λ e. refl;
-          complete = λ whole other. absurd (whole rose);
-          listings = λ e. asks.listings ∙ lists.listings;
-          once = inr (asks.listings ∙ lists.listings);
-          asked = pages_within asks;
-          kept = kept asks;
-          store_counts = omega (arith, first, second);
-          write_counts = omega arith;
-        }
+        listed_by StoreFault sink asks
+        (WorksTo.store_fault
+        (subst (λ (faults : ℕ). Rose faults after.faults) lists.asked.steady (asks.failed refl))
+        (asks.listings ∙ lists.listings) refl)
 
     -- memory ran out for the pages, or for what is done with them
     pub no_memory : {B : Type 0}
         → AsksFor {A = B} (length (names_in names)) listed after (Err store_error.NoMemory)
         → WorksOnAll Tells store after sink sink NoMemory
-    no_memory asks =
-        let first = lists.asked.counts in
-        let second = asks.counts in
-        record {
-          done = λ e. absurd cc;
-          prefix = λ e. absurd cc;
-          unwritten = λ undone other. refl;
-          ends = tt;
-          store_fault = λ e. absurd cc;
-          write_fault = λ e. absurd cc;
-          store_steady = λ read other. absurd (other refl);
-          write_steady = λ e. refl;
-          complete = λ whole other. inr refl;
-          listings = λ e. asks.listings ∙ lists.listings;
-          once = inr (asks.listings ∙ lists.listings);
-          asked = pages_within asks;
-          kept = kept asks;
-          store_counts = omega (arith, first, second);
-          write_counts = omega arith;
-        }
+    no_memory asks = listed_by NoMemory sink asks (WorksTo.no_memory refl)
 
-    module _ {B : Type 0} (text : List ℕ)
-        (tells : (Wrote : List ℕ → Type 0) → Wrote text → Tells Wrote) (worked : B)
-        (asks : AsksFor {A = B} (length (names_in names)) listed after (Ok worked)) where
-      steady : after.faults ≡ store.faults
-      steady = asks.steady ∙ lists.asked.steady
-
-      -- the text was written, or not
-      pub ended : (status : Status) → PutsTo text sink sink_after status
-          → WorksOnAll Tells store after sink sink_after status
-      ended Done so =
-          let faults = steady in
-          let writes = so.steady in
-          record {
-            done = λ e. tells (Appends sink.taken sink_after.taken) so.wrote;
-            prefix = λ e. absurd cc;
-            unwritten = λ undone other. absurd (undone refl);
-            ends = tt;
-            store_fault = λ e. absurd cc;
-            write_fault = λ e. absurd cc;
-            store_steady = λ read other. steady;
-            write_steady = λ e. so.steady;
-            complete = λ whole other. inl refl;
-            listings = λ e. asks.listings ∙ lists.listings;
-            once = inr (asks.listings ∙ lists.listings);
-            asked = pages_within asks;
-            kept = kept asks;
-            store_counts = omega (arith, faults);
-            write_counts = omega (arith, writes);
-          }
-      ended WriteFault so =
-          let faults = steady in
-          record {
-            done = λ e. absurd cc;
-            prefix = λ e. tells (AppendsPrefix sink.taken sink_after.taken) so.wrote;
-            unwritten = λ undone other. absurd (other refl);
-            ends = tt;
-            store_fault = λ e. absurd cc;
-            write_fault = λ e. so.rose;
-            store_steady = λ read other. steady;
-            write_steady = λ e. absurd (e refl);
-            complete = λ whole other. absurd (other so.rose);
-            listings = λ e. asks.listings ∙ lists.listings;
-            once = inr (asks.listings ∙ lists.listings);
-            asked = pages_within asks;
-            kept = kept asks;
-            store_counts = omega (arith, faults);
-            write_counts = so.counts;
-          }
-      ended NoMemory so =
-          let faults = steady in
-          let writes : sink_after.faults ≡ sink.faults = ap (λ (s : SinkSeen). s.faults) so in
-          record {
-            done = λ e. absurd cc;
-            prefix = λ e. absurd cc;
-            unwritten = λ undone other. so;
-            ends = tt;
-            store_fault = λ e. absurd cc;
-            write_fault = λ e. absurd cc;
-            store_steady = λ read other. absurd (other refl);
-            write_steady = λ e. writes;
-            complete = λ whole other. inr refl;
-            listings = λ e. asks.listings ∙ lists.listings;
-            once = inr (asks.listings ∙ lists.listings);
-            asked = pages_within asks;
-            kept = kept asks;
-            store_counts = omega (arith, faults);
-            write_counts = omega (arith, writes);
-          }
-      ended Usage so = absurd so
-      ended (Refused fault) so = absurd so
-      ended StoreFault so = absurd so
-      ended KeyReadFault so = absurd so
-      ended (BadKey line fault) so = absurd so
-      ended OpenDialog so = absurd so
-      ended TooManyKeys so = absurd so
+    -- the text was written, or not
+    pub ended : {B : Type 0} (text : List ℕ)
+        → ((Wrote : List ℕ → Type 0) → Wrote text → Tells Wrote) → (worked : B)
+        → AsksFor {A = B} (length (names_in names)) listed after (Ok worked) → (status : Status)
+        → PutsTo text sink sink_after status → WorksOnAll Tells store after sink sink_after status
+    ended text tells worked asks status puts =
+        listed_by status sink_after asks
+        (WorksTo.answered status (asks.steady ∙ lists.asked.steady)
+        (asks.listings ∙ lists.listings)
+        (writes_as (λ Wrote. Wrote text) Tells tells sink sink_after status puts))

@@ -6,7 +6,7 @@ use Rattle.std.specs.Prelude.{All, IfOk}
 use Rattle.std.specs.List.{AllZip, AllByRecursion}
 use Rattle.std.specs.Map.{keys_of}
 use Rattle.std.specs.List.Sorted.{IsPermutation}
-use Rattle.std.proofs.lemmas.List.{take-append-drop, length-append}
+use Rattle.std.proofs.lemmas.List.{take-append-drop, length-append, map-append}
 use Rattle.std.proofs.lemmas.List.Elements.{recursion_from_All, All-from_recursion, All-append}
 use Rattle.std.proofs.lemmas.List.Elements.{All-weaker}
 use Rattle.wap_base.specs.Contents.{names_of}
@@ -23,32 +23,33 @@ use Rattle.wap_cli.specs.prepare.inside.Jobs.{IsRight}
 use Rattle.wap_cli.proofs.MemoryLemmas.Pages.{page_remembers}
 use Rattle.wap_cli.proofs.ResumeLemmas.Fetching.{page_later}
 
--- answers that all are there
-pub all_there : (jobs : List Job) (entries : List Entry) (answers : List (Result Entry NoMemory))
-    → map Ok entries ≡ answers
-    → AllZip (λ job answer. IfOk answer (IsRight job)) jobs answers → AllZip IsRight jobs entries
-all_there jobs entries answers is right =
-    by_lists jobs entries
-    (subst (λ (l : List (Result Entry NoMemory)).
-    AllZip (λ job answer. IfOk answer (IsRight job)) jobs l) (sym is) right)
+-- answers that all are there are right for their jobs
+pub all_there : {J A : Type 0} (Right : J → A → Type 0) (jobs : List J) (all : List A)
+    (answers : List (Result A NoMemory)) → map Ok all ≡ answers
+    → AllZip (λ job answer. IfOk answer (Right job)) jobs answers → AllZip Right jobs all
+all_there {J} {A} Right jobs all answers is right =
+    by_lists jobs all
+    (subst (λ (l : List (Result A NoMemory)). AllZip (λ job answer. IfOk answer (Right job)) jobs l)
+    (sym is) right)
   where
-    by_lists : (jobs : List Job) (entries : List Entry)
-        → AllZip (λ job (answer : Result Entry NoMemory). IfOk answer (IsRight job)) jobs
-        (map Ok entries) → AllZip IsRight jobs entries
+    by_lists : (jobs : List J) (all : List A)
+        → AllZip (λ job (answer : Result A NoMemory). IfOk answer (Right job)) jobs (map Ok all)
+        → AllZip Right jobs all
     by_lists [] [] right = right
-    by_lists [] (entry ∷ entries) right = absurd right
+    by_lists [] (one ∷ all) right = absurd right
     by_lists (job ∷ jobs) [] right = absurd right
-    by_lists (job ∷ jobs) (entry ∷ entries) right = (right.0, by_lists jobs entries right.1)
+    by_lists (job ∷ jobs) (one ∷ all) right = (right.0, by_lists jobs all right.1)
 
--- they have the names of the jobs
-pub same_names : (jobs : List Job) (entries : List Entry) → AllZip IsRight jobs entries
-    → keys_of entries ≡ keys_of jobs
-same_names [] [] right = refl
-same_names [] (entry ∷ entries) right = absurd right
-same_names (job ∷ jobs) [] right = absurd right
-same_names (job ∷ jobs) (entry ∷ entries) right =
-    ap₂ (λ (name : List ℕ) (names : List (List ℕ)). name ∷ names) right.0.name
-    (same_names jobs entries right.1)
+-- what is right for a job has its name
+pub same_names : {X : Type 0} (Right : Job → List ℕ × X → Type 0)
+    → ((job : Job) (one : List ℕ × X) → Right job one → one.0 ≡ job.0) → (jobs : List Job)
+    (all : List (List ℕ × X)) → AllZip Right jobs all → keys_of all ≡ keys_of jobs
+same_names Right named [] [] right = refl
+same_names Right named [] (one ∷ all) right = absurd right
+same_names Right named (job ∷ jobs) [] right = absurd right
+same_names Right named (job ∷ jobs) (one ∷ all) right =
+    ap₂ (λ (name : List ℕ) (names : List (List ℕ)). name ∷ names) (named job one right.0)
+    (same_names Right named jobs all right.1)
 
 some_is : {one other : PageFault} → Some one ≡ Some other → one ≡ other
 some_is is = cc
@@ -107,12 +108,6 @@ are_entries names_in store listed names entries after lists grew same right = re
 
 -- ---- entries that are judged in parts
 
-keys-append : (entries more : List Entry)
-    → keys_of (entries ++ more) ≡ keys_of entries ++ keys_of more
-keys-append [] more = refl
-keys-append (entry ∷ entries) more =
-    ap (λ (names : List (List ℕ)). entry.0 ∷ names) (keys-append entries more)
-
 -- names that are taken in two parts
 pub parts_together : (some left rest : List (List ℕ)) (k : ℕ) → some ≡ take k left
     → rest ≡ drop k left → length some + length rest ≡ length left
@@ -126,7 +121,7 @@ pub left_after : (entries more all : List Entry) (some left rest names : List (L
     → keys_of more ≡ some → all ≡ entries ++ more → keys_of all ++ rest ≡ names
 left_after entries more all some left rest names k so first last are together =
     ap (λ (l : List Entry). keys_of l ++ rest) together
-    ∙ ap (λ (l : List (List ℕ)). l ++ rest) (keys-append entries more)
+    ∙ ap (λ (l : List (List ℕ)). l ++ rest) (map-append (λ (entry : Entry). entry.0) entries more)
     ∙ append_assoc (keys_of entries) (keys_of more) rest
     ∙ ap (λ (l : List (List ℕ)). keys_of entries ++ l)
     (ap₂ (λ (l m : List (List ℕ)). l ++ m) (are ∙ first) last ∙ take-append-drop k left)

@@ -1,14 +1,13 @@
 -- Pages that a store answered for names, and that are judged.
 use Rattle.std.proofs.Common.{◌≡◌, ℕ, Bool, true, false, cond, List, [], ◌∷◌, map}
-use Rattle.std.proofs.Common.{Result, Ok, refl, sym, ap, ap₂, subst, ◌∙◌}
-use Rattle.std.specs.Prelude.{All, IfOk}
+use Rattle.std.proofs.Common.{refl, sym, ap, ap₂, subst, ◌∙◌}
+use Rattle.std.specs.Prelude.{All}
 use Rattle.std.specs.List.{AllZip, AllByRecursion}
 use Rattle.std.specs.Map.{keys_of}
 use Rattle.std.proofs.lemmas.List.Elements.{recursion_from_All, All-from_recursion}
 use Rattle.std.specs.List.Sorted.{IsStrictlySortedBy}
 use Rattle.wap_base.specs.Contents.{Contents}
 use Rattle.wap_base.specs.Texts.{byte_cmp, AreAscending}
-use Rattle.wap_base.specs.declared.fault.NoMemory.{NoMemory}
 use Rattle.wap_devices.specs.Stores.{Known, Agrees}
 use Rattle.wap_world.specs.site.Pages.{Pages, IsThere}
 use Rattle.wap_world.specs.declared.site.page.Page.{Page}
@@ -16,34 +15,8 @@ use Rattle.wap_world.specs.declared.site.page.Page.TheVariants as page
 use Rattle.wap_pages.specs.Judged.{page_where}
 use Rattle.wap_cli.specs.prepare.Fetching.{Job, IsAnswered}
 use Rattle.wap_cli.specs.prepared.Prepared.{ArePrepared}
+use Rattle.wap_cli.proofs.PrepareLemmas.Entries.{same_names}
 use Rattle.wap_cli.specs.replay.inside.Jobs.{IsJudged, is_there, present, judged_name, pages_named}
-
--- answers that all are there are right for their jobs
-pub all_there : {J A : Type 0} (Right : J → A → Type 0) (jobs : List J) (all : List A)
-    (answers : List (Result A NoMemory)) → map Ok all ≡ answers
-    → AllZip (λ job answer. IfOk answer (Right job)) jobs answers → AllZip Right jobs all
-all_there {J} {A} Right jobs all answers is right =
-    by_lists jobs all
-    (subst (λ (l : List (Result A NoMemory)). AllZip (λ job answer. IfOk answer (Right job)) jobs l)
-    (sym is) right)
-  where
-    by_lists : (jobs : List J) (all : List A)
-        → AllZip (λ job (answer : Result A NoMemory). IfOk answer (Right job)) jobs (map Ok all)
-        → AllZip Right jobs all
-    by_lists [] [] right = right
-    by_lists [] (one ∷ all) right = absurd right
-    by_lists (job ∷ jobs) [] right = absurd right
-    by_lists (job ∷ jobs) (one ∷ all) right = (right.0, by_lists jobs all right.1)
-
--- judged pages have the names of their jobs
-pub same_names : (jobs : List Job) (pages : Pages) → AllZip IsJudged jobs pages
-    → keys_of pages ≡ keys_of jobs
-same_names [] [] right = refl
-same_names [] (one ∷ pages) right = absurd right
-same_names (job ∷ jobs) [] right = absurd right
-same_names (job ∷ jobs) (one ∷ pages) right =
-    ap₂ (λ (name : List ℕ) (names : List (List ℕ)). name ∷ names) right.0.name
-    (same_names jobs pages right.1)
 
 module _ (known : Known) (contents : Contents) (agrees : Agrees known contents) where
   -- and are those of whatever contents the store may have
@@ -123,7 +96,9 @@ are_prepared jobs pages found names right same ascending is =
     subst ArePrepared (sym is) (record {
       ascending =
           kept_ascending pages
-          (subst AreAscending (sym (same_names jobs pages right ∙ same)) ascending);
+          (subst AreAscending
+          (sym (same_names IsJudged (λ job one right. right.name) jobs pages right ∙ same))
+          ascending);
       there =
           All-from_recursion (λ (one : List ℕ × Page). IsThere one.1) (present pages)
           (kept_there pages);

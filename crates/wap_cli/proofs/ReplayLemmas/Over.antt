@@ -10,49 +10,37 @@ use Rattle.wap_world.specs.Sessions.{Begun}
 use Rattle.wap_cli.specs.declared.status.Status.{Status}
 use Rattle.wap_cli.specs.declared.status.Status.TheVariants.{NoMemory}
 use Rattle.wap_cli.specs.replay.Outside.{Outside}
-use Rattle.wap_cli.specs.replay.Headline.{Replays, ReplaysSeen}
+use Rattle.wap_cli.specs.replay.Headline.{Tells, Ends, Replays, ReplaysSeen}
+use Rattle.wap_cli.proofs.PrepareLemmas.Ending.{works_as}
 use Rattle.wap_cli.proofs.ReplayLemmas.Ending.{wanting}
 
 -- ---- over other sites
 
 module _ (IsSite IsSiteToo : Site → Type 0) (same : (site : Site) → IsSiteToo site → IsSite site)
-  where
-    pub replays_too : (begun : Begun) (old new : Outside) (status : Status)
-        → Replays IsSite begun old new status → Replays IsSiteToo begun old new status
-    replays_too begun old new status so = record {
-      done = λ e site is. so.done e site (same site is);
-      prefix = λ e site is. so.prefix e site (same site is);
-      unwritten = so.unwritten;
-      keys = so.keys;
-      too_many = so.too_many;
-      prompt = so.prompt;
-      given = so.given;
-      all_read = so.all_read;
-      read_for_store = so.read_for_store;
-      read_for_sink = so.read_for_sink;
-      read_first = so.read_first;
-      unasked = so.unasked;
-      store_fault = so.store_fault;
-      read_fault = so.read_fault;
-      write_fault = so.write_fault;
-      store_steady = so.store_steady;
-      read_steady = so.read_steady;
-      write_steady = so.write_steady;
-      complete = so.complete;
-      command = so.command;
-      accepted = so.accepted;
-      closed = so.closed;
-      of_line = so.of_line;
-      listed = so.listed;
-      once = so.once;
-      asked = so.asked;
-      kept = so.kept;
-      store_counts = so.store_counts;
-      read_counts = so.read_counts;
-      write_counts = so.write_counts;
-      few = so.few;
-      end_once = so.end_once;
-    }
+    (begun : Begun) (old new : Outside) where
+  ends_too : (status : Status) → Ends IsSite begun old new status
+      → Ends IsSiteToo begun old new status
+  ends_too status (Ends.played one came end works) =
+      Ends.played one came end
+      (works_as (Tells IsSite begun old new) (Tells IsSiteToo begun old new)
+      (λ Wrote told site is. told site (same site is)) old.store new.store old.sink new.sink one
+      works)
+  ends_too status (Ends.bad_key line fault of_line came none) =
+      Ends.bad_key line fault of_line came none
+  ends_too status (Ends.too_many_keys came taken many gives none) =
+      Ends.too_many_keys came taken many gives none
+  ends_too status (Ends.read_fault rose prompt taken gives unrefused none) =
+      Ends.read_fault rose prompt taken gives unrefused none
+  ends_too status (Ends.no_memory steady none) = Ends.no_memory steady none
+
+  pub replays_too : (status : Status) → Replays IsSite begun old new status
+      → Replays IsSiteToo begun old new status
+  replays_too status so = record {
+    ends = ends_too status so.ends;
+    few = so.few;
+    end_once = so.end_once;
+    counts = so.counts;
+  }
 
 -- ---- where nothing was done
 

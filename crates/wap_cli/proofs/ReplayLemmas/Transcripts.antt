@@ -16,7 +16,7 @@ use Rattle.wap_world.specs.Sessions.{Begun, shown_by}
 use Rattle.wap_world.specs.scripting.UnitSites.{unit_pages, shelf_of}
 use Rattle.wap_context.specs.Browsers.{IsOver}
 use Rattle.wap_context.specs.Sites.{site_of, IfOver}
-use Rattle.wap_session.specs.handset.Feeding.{State, beginning, Leads, ShowsOn}
+use Rattle.wap_session.specs.Feeding.{State, beginning, Leads, ShowsOn}
 use Rattle.wap_cli.specs.replay.Texts.{alone}
 
 module _ (pages : Pages) (begun : Begun) (keys : List Key) (first last : State)

@@ -48,8 +48,8 @@ module _ (begun : Begun) (first others : List Key) (parts : ContextParts)
         subst (λ (site : Site). EndsAt begun site first parts
         → IsWhole parts (opened_at begun site first).world → GoOn site site)
         (sym (site_judged fragment_call contents pages are))
-        (λ ends whole. goes_on begun (unit_pages (judged contents)) first others parts ends whole none
-        (judged_have_cards contents distinct))
+        (λ ends whole. goes_on begun (unit_pages (judged contents)) first others parts ends whole
+        none (judged_have_cards contents distinct))
 
     -- and over another store
     pub sourced_go_on_over : (later : Contents) (name : List ℕ) → AgreeBut name contents later
@@ -68,5 +68,5 @@ module _ (begun : Begun) (first others : List Key) (parts : ContextParts)
         → GoOn site (unit_site later))
         (sym (site_judged fragment_call contents pages are))
         (λ ends whole unasked. goes_on_over (is_same_text name) (unit_pages (judged contents))
-        (unit_pages (judged later)) (agree_beside name contents later agree) begun first others parts
-        ends whole none (judged_have_cards contents distinct) unasked) ends whole unasked)
+        (unit_pages (judged later)) (agree_beside name contents later agree) begun first others
+        parts ends whole none (judged_have_cards contents distinct) unasked) ends whole unasked)

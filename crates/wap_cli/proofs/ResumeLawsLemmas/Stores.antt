@@ -35,7 +35,7 @@ use Rattle.wap_world.specs.inboxes.Inboxes.{Stepped}
 use Rattle.wap_world.specs.scripting.ScriptPages.{shelved}
 use Rattle.wap_world.specs.scripting.UnitSites.{Pages, units, shelf_of, unit_page, unit_pages}
 use Rattle.wap_site_laws.specs.unasked.Unasked.{is_asked, is_on, AgreeBeside}
-use Rattle.wap_site_laws.proofs.UnaskedLemmas.Inboxes.{unasked_with, ends_beside}
+use Rattle.wap_site_laws.proofs.UnaskedLemmas.Sites.{unasked as matter_not, ends_beside}
 use Rattle.wap_context.proofs.HostLemmas.Shelves.{under_is}
 use Rattle.wap_context.specs.Sites.{fragment_call, site_of}
 use Rattle.wap_context.specs.Saved.{with_last_in}
@@ -133,7 +133,7 @@ module _ (among : List ℕ → Bool) (one other : Pages) (agree : AgreeBeside am
       ∙ ap (world_over (shelf_of other)) back.0 ∙ over_both again beside ∙ back.1 in
       let same : played_in again one others ≡ played_in again other others =
       ap (λ (s : Stepped). s.step)
-      (unasked_with push_at fragment_call among one other agree others
+      (matter_not push_at fragment_call among one other agree others
       (record { world = again; pushes = [] }) beside
       (ap (is_asked among) (same_asked one others step.world begun.budget) ∙ split.1)) in
       goes_on begun one first others parts ends whole none cards

@@ -1,7 +1,6 @@
 -- How a command ends whose page of the current card is no deck, or isn't got.
-use Rattle.std.proofs.Common.{◌≡◌, ℕ, false, List, [], ◌∷◌, Ok, Err, refl, subst, ◌∙◌}
+use Rattle.std.proofs.Common.{◌≡◌, ℕ, false, List, [], ◌∷◌, Ok, Err, refl}
 use Rattle.std.specs.Prelude.{Result}
-use Rattle.wap_base.specs.Count.{Rose}
 use Rattle.wap_base.specs.declared.fault.RunErr.{RunErr}
 use Rattle.wap_base.specs.declared.fault.RunErr.TheVariants as run_error
 use Rattle.wap_devices.specs.Stores.{StoreSeen}
@@ -19,10 +18,10 @@ use Rattle.wap_context.specs.Saved.{asked_for, Revives}
 use Rattle.wap_cli.specs.declared.status.Status.{Status}
 use Rattle.wap_cli.specs.declared.status.Status.TheVariants.{Refused, StoreFault, NoMemory}
 use Rattle.wap_cli.proofs.BrowseLemmas.Forgetting.{fresh_over}
-use Rattle.wap_cli.specs.resume.Resuming.{LacksDeck, Unbegun}
-use Rattle.wap_cli.specs.resume.inside.Loading.{RefusesDeck}
+use Rattle.wap_cli.specs.resume.Resuming.{LacksDeck, Fails, Unbegun}
+use Rattle.wap_cli.specs.resume.inside.Loading.{IsCause, RefusesDeck}
 use Rattle.wap_cli.proofs.ResumeLemmas.Reviving.{lacks_missing, lacks_deck}
-use Rattle.wap_cli.proofs.ResumeLemmas.Going.{fetched_stays}
+use Rattle.wap_cli.proofs.ResumeLemmas.Going.{fails_as, fetched_stays}
 
 -- a cache that keeps nothing
 abbrev pub fresh : ℕ → Cache
@@ -51,43 +50,25 @@ module _ (parts : ContextParts) (store mid : StoreSeen) (cache : Cache) (capacit
   Ends status = Unbegun (LacksDeck mid.known parts) (fresh_over store capacity source sink)
       (fresh_over mid capacity source sink) status
 
+  -- where the store gave no deck
+  ends_by : (status : Status) → Stays (seen_over store (fresh capacity)) (seen_over mid cache)
+      → Fails (LacksDeck mid.known parts) store.faults mid.faults status → Ends status
+  ends_by status stays ends =
+      record { ends = ends; stays = forgets stays; unread = refl; unwritten = refl }
+
   -- the store failed
   pub fault_ends : Made (Err run_error.Store) → Ends StoreFault
-  fault_ends made = record {
-    ends = tt;
-    refused = λ fault is. absurd cc;
-    store_fault = λ is. made.failed refl;
-    steady = λ other some. absurd (other refl);
-    stays = forgets made.stays;
-    unread = refl;
-    unwritten = refl;
-  }
+  fault_ends made = ends_by StoreFault made.stays (Fails.store_fault (made.failed refl))
 
   -- memory ran out
-  pub wants_ends : (result : Result Revived RunErr) → Made result → Ends NoMemory
-  wants_ends result made = record {
-    ends = tt;
-    refused = λ fault is. absurd cc;
-    store_fault = λ is. absurd cc;
-    steady = λ other some. absurd (some refl);
-    stays = forgets made.stays;
-    unread = refl;
-    unwritten = refl;
-  }
+  pub wants_ends : Made (Err run_error.NoMemory) → Ends NoMemory
+  wants_ends made = ends_by NoMemory made.stays Fails.no_memory
 
   -- the page is missing
   pub missing_ends : Made (Ok what.Missing) → Ends (Refused page_fault.Missing)
-  missing_ends made = record {
-    ends = tt;
-    refused = λ fault is.
-        let same : page_fault.Missing ≡ fault = cc in
-        subst (LacksDeck mid.known parts) same (lacks_missing parts mid cache made.is);
-    store_fault = λ is. absurd cc;
-    steady = λ other some. made.asks.steady;
-    stays = forgets made.stays;
-    unread = refl;
-    unwritten = refl;
-  }
+  missing_ends made =
+      ends_by (Refused page_fault.Missing) made.stays
+      (Fails.refused page_fault.Missing (lacks_missing parts mid cache made.is) made.asks.steady)
 
   -- the page is no deck: it was fetched anew, and judged
   pub refused_ends : (name : List ℕ) (last : StoreSeen) (status : Status)
@@ -96,13 +77,10 @@ module _ (parts : ContextParts) (store mid : StoreSeen) (cache : Cache) (capacit
       → Unbegun (LacksDeck last.known parts) (fresh_over store capacity source sink)
       (fresh_over last capacity source sink) status
   refused_ends name last status made asked refuses = record {
-    ends = refuses.none.ends;
-    refused = λ fault is.
-        lacks_deck parts mid cache last.known refuses.fetched.known name fault made.is asked
-        (refuses.none.refused fault is);
-    store_fault = λ is.
-        subst (λ (count : ℕ). Rose count last.faults) made.asks.steady (refuses.none.failed is);
-    steady = λ other some. refuses.none.steady other some ∙ made.asks.steady;
+    ends = fails_as (IsCause last.known name) (LacksDeck last.known parts)
+        (λ why cause. lacks_deck parts mid cache last.known refuses.fetched.known name why made.is
+        asked cause)
+        store.faults mid.faults last.faults made.asks.steady status refuses.none;
     stays = Stays-then (seen_over store (fresh capacity)) (seen_over mid (fresh capacity))
         (seen_over last (fresh capacity)) (forgets made.stays)
         (fetched_stays mid last capacity source sink refuses.fetched);

@@ -12,13 +12,12 @@ use Rattle.wap_devices.specs.declared.store.StoreErr.{StoreErr}
 use Rattle.wap_devices.specs.declared.store.StoreErr.TheVariants as store_error
 use Rattle.wap_image.specs.Images.{Saved, IsImage}
 use Rattle.wap_image.specs.Rules.{MayBeSaved}
-use Rattle.wap_pages.specs.declared.fault.PageFault.{PageFault}
 use Rattle.wap_pages.specs.declared.fault.PageFault.TheVariants as page_fault
 use Rattle.wap_cli.specs.declared.status.Status.{Status}
 use Rattle.wap_cli.specs.declared.status.Status.TheVariants.{Refused, StoreFault, NoMemory}
 use Rattle.wap_cli.specs.Answers.{IsPageOf, page_of}
-use Rattle.wap_cli.specs.resume.Resuming.{Hinders}
-use Rattle.wap_cli.specs.resume.inside.Loading.{IsFetched, GivesNone, IsUnread, Loads, IsCause}
+use Rattle.wap_cli.specs.resume.Resuming.{Hinders, Fails}
+use Rattle.wap_cli.specs.resume.inside.Loading.{IsFetched, IsUnread, Loads, IsCause}
 use Rattle.wap_cli.specs.resume.inside.Loading.{IsDeckFault, RefusesDeck}
 
 -- ---- the answer
@@ -58,40 +57,6 @@ is_fetched name before after result fetches = record {
   counts = fetches.asked.counts;
 }
 
--- ---- nothing was got
-
-module _ (Cause : PageFault → Type 0) (before after : StoreSeen) where
-  -- memory ran out
-  pub gives_up : GivesNone Cause before after NoMemory
-  gives_up = record {
-    ends = tt;
-    refused = λ fault is. absurd cc;
-    failed = λ is. absurd cc;
-    steady = λ other same. absurd (same refl);
-  }
-
-  -- for a cause
-  pub gives_cause : (why : PageFault) → Cause why → after.faults ≡ before.faults
-      → GivesNone Cause before after (Refused why)
-  gives_cause why cause same = record {
-    ends = tt;
-    refused = λ fault is.
-        let so : why ≡ fault = cc in
-        subst Cause so cause;
-    failed = λ is. absurd cc;
-    steady = λ other some. same;
-  }
-
-  -- the store failed
-  pub gives_fault : (name : List ℕ) → Fetches name before after (Err store_error.Failed)
-      → GivesNone Cause before after StoreFault
-  gives_fault name fetches = record {
-    ends = tt;
-    refused = λ fault is. absurd cc;
-    failed = λ is. fetches.asked.failed refl;
-    steady = λ other some. absurd (other refl);
-  }
-
 -- ---- what was saved
 
 module _ (name : List ℕ) (before after : StoreSeen) where
@@ -105,25 +70,24 @@ module _ (name : List ℕ) (before after : StoreSeen) where
   was_missing fetches = found_page after.known name fetched.Missing fetches.found
 
   abbrev Hindered : Status → Type 0
-  Hindered status = GivesNone (Hinders after.known name) before after status
+  Hindered status = Fails (Hinders after.known name) before.faults after.faults status
 
   -- the bytes are no image
   pub unread_none : (bytes : List ℕ) (status : Status)
       → Fetches name before after (Ok (fetched.Found bytes)) → IsUnread bytes status
       → Hindered status
   unread_none bytes status fetches (inl is) =
-      subst Hindered (sym is) (gives_up (Hinders after.known name) before after)
+      subst Hindered (sym is) Fails.no_memory
   unread_none bytes status fetches (inr (why, is, refused)) =
       subst Hindered (sym is)
-      (gives_cause (Hinders after.known name) before after (page_fault.Image why)
+      (Fails.refused (page_fault.Image why)
       (Hinders.refused bytes why (was_found bytes fetches) refused) fetches.asked.steady)
 
   -- there is none
   pub missing_none : Fetches name before after (Ok fetched.Missing)
       → Hindered (Refused page_fault.Missing)
   missing_none fetches =
-      gives_cause (Hinders after.known name) before after page_fault.Missing
-      (Hinders.missing (was_missing fetches)) fetches.asked.steady
+      Fails.refused page_fault.Missing (Hinders.missing (was_missing fetches)) fetches.asked.steady
 
   -- nothing is loaded
   pub loads_none : (status : Status) → Hindered status → IsFetched before after
@@ -146,29 +110,28 @@ module _ (name : List ℕ) (before after : StoreSeen) where
   -- ---- the deck
 
   abbrev Undecked : Status → Type 0
-  Undecked status = GivesNone (IsCause after.known name) before after status
+  Undecked status = Fails (IsCause after.known name) before.faults after.faults status
 
   -- its bytes are those of no deck
   pub deck_none : (bytes : List ℕ) (status : Status)
       → Fetches name before after (Ok (fetched.Found bytes)) → IsDeckFault name bytes status
       → Undecked status
   deck_none bytes status fetches (inl is) =
-      subst Undecked (sym is) (gives_up (IsCause after.known name) before after)
+      subst Undecked (sym is) Fails.no_memory
   deck_none bytes status fetches (inr (inl (why, is, refused))) =
       subst Undecked (sym is)
-      (gives_cause (IsCause after.known name) before after why
+      (Fails.refused why
       (IsCause.refused bytes why (was_found bytes fetches) refused) fetches.asked.steady)
   deck_none bytes status fetches (inr (inr (is, accepted))) =
       subst Undecked (sym is)
-      (gives_cause (IsCause after.known name) before after page_fault.NotDeck
+      (Fails.refused page_fault.NotDeck
       (IsCause.accepted bytes (was_found bytes fetches) accepted) fetches.asked.steady)
 
   -- there is none any more
   pub deck_gone : Fetches name before after (Ok fetched.Missing)
       → Undecked (Refused page_fault.Missing)
   deck_gone fetches =
-      gives_cause (IsCause after.known name) before after page_fault.Missing
-      (IsCause.missing (was_missing fetches)) fetches.asked.steady
+      Fails.refused page_fault.Missing (IsCause.missing (was_missing fetches)) fetches.asked.steady
 
 -- ---- what a fetch comes to
 
@@ -199,13 +162,13 @@ module _ (name : List ℕ) (before after : StoreSeen) where
   pub loads_fault : Fetches name before after (Err store_error.Failed)
       → Loads name before after (Err StoreFault)
   loads_fault fetches = loads_none name before after StoreFault
-      (gives_fault (Hinders after.known name) before after name fetches)
+      (Fails.store_fault (fetches.asked.failed refl))
       (is_fetched name before after (Err store_error.Failed) fetches)
 
   pub loads_lost : Fetches name before after (Err store_error.NoMemory)
       → Loads name before after (Err NoMemory)
   loads_lost fetches = loads_none name before after NoMemory
-      (gives_up (Hinders after.known name) before after)
+      Fails.no_memory
       (is_fetched name before after (Err store_error.NoMemory) fetches)
 
   -- the page of the deck was fetched
@@ -230,13 +193,13 @@ module _ (name : List ℕ) (before after : StoreSeen) where
   pub refuses_fault : Fetches name before after (Err store_error.Failed)
       → RefusesDeck name before after StoreFault
   refuses_fault fetches = record {
-    none = gives_fault (IsCause after.known name) before after name fetches;
+    none = Fails.store_fault (fetches.asked.failed refl);
     fetched = is_fetched name before after (Err store_error.Failed) fetches;
   }
 
   pub refuses_lost : Fetches name before after (Err store_error.NoMemory)
       → RefusesDeck name before after NoMemory
   refuses_lost fetches = record {
-    none = gives_up (IsCause after.known name) before after;
+    none = Fails.no_memory;
     fetched = is_fetched name before after (Err store_error.NoMemory) fetches;
   }

@@ -1,5 +1,5 @@
 -- A command on what was saved, from its beginning to its end.
-use Rattle.std.proofs.Common.{◌≡◌, ℕ, List, [], Option, Some, None, Ok, refl, sym, subst}
+use Rattle.std.proofs.Common.{◌≡◌, ℕ, List, [], Option, Some, Ok, refl, subst}
 use Rattle.std.proofs.Common.{◌∙◌, inl, inr}
 use Rattle.std.specs.Option.{option_map}
 use Rattle.wap_base.specs.Count.{Rose}
@@ -22,14 +22,13 @@ use Rattle.wap_cli.specs.browse.Plays.{opened}
 use Rattle.wap_cli.specs.browse.Headline.{BrowsesSeen}
 use Rattle.wap_cli.proofs.MemoryLemmas.Pages.{hinders_remember}
 use Rattle.wap_cli.proofs.BrowseLemmas.Exits.{nothing_browses}
-use Rattle.wap_cli.proofs.BrowseLemmas.Summary.{browses_by}
 use Rattle.wap_cli.proofs.BrowseLemmas.Forgetting.{may_too, with_cache, forget_cache, fresh_over}
-use Rattle.wap_cli.proofs.BrowseLemmas.Forgetting.{outside_over}
+use Rattle.wap_cli.proofs.BrowseLemmas.Forgetting.{outside_over, over_fresh}
 use Rattle.wap_cli.specs.resume.Saving.{ImagesSeen, unshown}
 use Rattle.wap_cli.specs.Answers.{IsPageOf}
-use Rattle.wap_cli.specs.resume.Resuming.{resumed, HasDeck, LacksDeck, Hinders, Unbegun}
-use Rattle.wap_cli.specs.resume.Resuming.{asked_once, ResumesSeen}
-use Rattle.wap_cli.specs.resume.inside.Loading.{IsFetched, GivesNone, Loads, Continues}
+use Rattle.wap_cli.specs.resume.Resuming.{resumed, HasDeck, LacksDeck, Hinders, Fails, Unbegun}
+use Rattle.wap_cli.specs.resume.Resuming.{asked_once, Resumes, ResumesSeen}
+use Rattle.wap_cli.specs.resume.inside.Loading.{IsFetched, Loads, Continues}
 use Rattle.wap_cli.proofs.ResumeLemmas.Fetching.{page_later}
 
 -- ---- nothing was done
@@ -39,8 +38,7 @@ pub nothing_imaged : (begun : Begun) (old : Outside) → ImagesSeen begun old ol
 nothing_imaged begun old = record {
   dropped = [];
   end = NoMemory;
-  plays = browses_by (opened begun) (unshown [] old) (unshown [] old) NoMemory
-      (nothing_browses (opened begun) (unshown [] old));
+  plays = nothing_browses (opened begun) (unshown [] old);
   stops = λ undone. (refl, refl);
   parts = parts_of (world_of begun);
   ends_in = λ is. absurd cc;
@@ -52,23 +50,33 @@ nothing_imaged begun old = record {
 -- or anything was fetched
 pub unbegun_same : (Cause : PageFault → Type 0) (old : Outside)
     → Unbegun Cause old old NoMemory
-unbegun_same Cause old = record {
-  ends = tt;
-  refused = λ fault is. absurd cc;
-  store_fault = λ is. absurd cc;
-  steady = λ other some. absurd (some refl);
-  stays = Stays-same old.pages;
-  unread = refl;
-  unwritten = refl;
-}
+unbegun_same Cause old =
+    record { ends = Fails.no_memory; stays = Stays-same old.pages; unread = refl; unwritten = refl }
 
 pub nothing_resumed : (name : List ℕ) (old : Outside) → ResumesSeen name old old NoMemory
-nothing_resumed name old = record {
-  saved = None;
-  goes_on = tt;
-  stops = λ none. unbegun_same (Hinders old.pages.known name) old;
-  of_reason = λ fault is. absurd cc;
-}
+nothing_resumed name old =
+    Resumes.stops (unbegun_same (Hinders old.pages.known name) old) (λ fault is. absurd cc)
+
+-- ---- causes that nothing is begun
+
+-- what is refused has its cause
+cause_of : (Cause : PageFault → Type 0) (before after : ℕ) (status : Status)
+    → Fails Cause before after status → (fault : PageFault) → status ≡ Refused fault → Cause fault
+cause_of Cause before after status (Fails.refused found cause same) fault is =
+    let found_is : found ≡ fault = cc in
+    subst Cause found_is cause
+cause_of Cause before after status (Fails.store_fault rose) fault is = absurd cc
+cause_of Cause before after status Fails.no_memory fault is = absurd cc
+
+-- one cause is another, and a count is as it was before
+pub fails_as : (Cause Other : PageFault → Type 0) → ((why : PageFault) → Cause why → Other why)
+    → (before now after : ℕ) → now ≡ before → (status : Status) → Fails Cause now after status
+    → Fails Other before after status
+fails_as Cause Other turn before now after is status (Fails.refused why cause same) =
+    Fails.refused why (turn why cause) (same ∙ is)
+fails_as Cause Other turn before now after is status (Fails.store_fault rose) =
+    Fails.store_fault (subst (λ (count : ℕ). Rose count after) is rose)
+fails_as Cause Other turn before now after is status Fails.no_memory = Fails.no_memory
 
 -- ---- over the pages of a store
 
@@ -88,18 +96,11 @@ module _ (before after : StoreSeen) (capacity : ℕ) (source : SourceSeen) (sink
 
   -- it gave nothing
   pub unbegun_by : (Cause : PageFault → Type 0) (status : Status)
-      → GivesNone Cause before after status → IsFetched before after
+      → Fails Cause before.faults after.faults status → IsFetched before after
       → Unbegun Cause (fresh_over before capacity source sink)
       (fresh_over after capacity source sink) status
-  unbegun_by Cause status none fetched = record {
-    ends = none.ends;
-    refused = none.refused;
-    store_fault = none.failed;
-    steady = none.steady;
-    stays = fetched_stays fetched;
-    unread = refl;
-    unwritten = refl;
-  }
+  unbegun_by Cause status none fetched =
+      record { ends = none; stays = fetched_stays fetched; unread = refl; unwritten = refl }
 
 -- ---- all of it
 
@@ -117,15 +118,13 @@ module _ (name : List ℕ) (before mid after : StoreSeen) (capacity : ℕ)
   now = fresh_over mid capacity source sink
 
   -- nothing was loaded
-  pub resumes_none : GivesNone (Hinders mid.known name) before mid status
+  pub resumes_none : Fails (Hinders mid.known name) before.faults mid.faults status
       → IsFetched before mid → ResumesSeen name old now status
-  resumes_none none fetched = record {
-    saved = None;
-    goes_on = tt;
-    stops = λ is.
-        unbegun_by before mid capacity source sink (Hinders mid.known name) status none fetched;
-    of_reason = λ fault is. hinders_remember mid.known name fault (none.refused fault is);
-  }
+  resumes_none none fetched =
+      Resumes.stops
+      (unbegun_by before mid capacity source sink (Hinders mid.known name) status none fetched)
+      (λ fault is. hinders_remember mid.known name fault
+      (cause_of (Hinders mid.known name) before.faults mid.faults status none fault is))
 
   -- after the fetch the store is as it was, but that it was asked once more, and told the bytes
   fetched_is : (saved : Saved) (loads : Loads name before mid (Ok saved))
@@ -147,50 +146,35 @@ module _ (name : List ℕ) (before mid after : StoreSeen) (capacity : ℕ)
   resumes_on : (saved : Saved) → Loads name before mid (Ok saved)
       → ((pages : Contents) → Agrees after.known pages → HasDeck pages saved.0)
       → BrowsesSeen (resumed saved.0 saved.1) now new status → ResumesSeen name old new status
-  resumes_on saved loads deck plays = record {
-    saved = Some saved;
-    goes_on = record {
-      there = record {
-        bytes = loads.found.0;
-        page = page_still saved loads plays.stays.known;
-        image = loads.found.3;
-        deck = deck;
-      };
-      browses = subst (λ (o : Outside). BrowsesSeen (resumed saved.0 saved.1) o new status)
-          (fetched_is saved loads) plays;
+  resumes_on saved loads deck plays = Resumes.goes_on saved (record {
+    there = record {
+      bytes = loads.found.0;
+      page = page_still saved loads plays.stays.known;
+      image = loads.found.3;
+      deck = deck;
     };
-    stops = λ none. absurd cc;
-    of_reason = λ fault is. absurd (plays.accepted fault is);
-  }
+    browses = subst (λ (o : Outside). BrowsesSeen (resumed saved.0 saved.1) o new status)
+        (fetched_is saved loads) plays;
+  })
 
   -- its deck isn't there
-  hindered : (saved : Saved) → Loads name before mid (Ok saved)
-      → Unbegun (LacksDeck after.known saved.0) now new status → (fault : PageFault)
-      → status ≡ Refused fault → Hinders after.known name fault
-  hindered saved loads unbegun fault is =
-      Hinders.deckless loads.found.0 saved fault (page_still saved loads unbegun.stays.known)
-      loads.found.3 (unbegun.refused fault is)
-
   resumes_not : (saved : Saved) → Loads name before mid (Ok saved)
-      → Unbegun (LacksDeck after.known saved.0) now new status
-      → ResumesSeen name old new status
-  resumes_not saved loads unbegun = record {
-    saved = None;
-    goes_on = tt;
-    stops = λ is. record {
-      ends = unbegun.ends;
-      refused = hindered saved loads unbegun;
-      store_fault = λ is.
-          subst (λ (count : ℕ). Rose count after.faults) loads.steady (unbegun.store_fault is);
-      steady = λ other some. unbegun.steady other some ∙ loads.steady;
-      stays = Stays-then old.pages now.pages new.pages
-          (fetched_stays before mid capacity source sink loads.fetched) unbegun.stays;
-      unread = unbegun.unread;
-      unwritten = unbegun.unwritten;
-    };
-    of_reason = λ fault is.
-        hinders_remember after.known name fault (hindered saved loads unbegun fault is);
-  }
+      → Unbegun (LacksDeck after.known saved.0) now new status → ResumesSeen name old new status
+  resumes_not saved loads unbegun =
+      let ends = fails_as (LacksDeck after.known saved.0) (Hinders after.known name)
+      (λ why lacks. Hinders.deckless loads.found.0 saved why
+      (page_still saved loads unbegun.stays.known) loads.found.3 lacks)
+      before.faults mid.faults after.faults loads.steady status unbegun.ends in
+      Resumes.stops
+      (record {
+        ends = ends;
+        stays = Stays-then old.pages now.pages new.pages
+            (fetched_stays before mid capacity source sink loads.fetched) unbegun.stays;
+        unread = unbegun.unread;
+        unwritten = unbegun.unwritten;
+      })
+      (λ fault is. hinders_remember after.known name fault
+      (cause_of (Hinders after.known name) before.faults after.faults status ends fault is))
 
   pub resumes_by : (saved : Saved) → Loads name before mid (Ok saved)
       → Continues saved now new status → ResumesSeen name old new status
@@ -229,16 +213,7 @@ module _ {S : Type 0} (seen : S → StoreSeen) where
       (outside_over seen last source_after sink_after) status
       → ImagesSeen begun (fresh_over (seen store) capacity source sink)
       (fresh_over (seen back) capacity source_after sink_after) status
-  imaged_over begun first last store back capacity source source_after sink sink_after status of
-      none many is so =
-      let before : Outside = fresh_over (seen store) capacity source sink in
-      let after : Outside = outside_over seen last source_after sink_after in
-      let from : first ≡ record { store = store; kept = []; capacity = capacity } =
-      λ i. record { store = of i; kept = none i; capacity = many i } in
-      let new : ImagesSeen begun before after status =
-      subst (λ (cached : CachedPages S).
-      ImagesSeen begun (outside_over seen cached source sink) after status) from so in
-      subst (λ (s : S). ImagesSeen begun before (fresh_over (seen s) capacity source_after sink_after)
-      status) (sym is)
-      (forget_images begun before after status
-      (Some (record { names = []; capacity = capacity })) refl new)
+  imaged_over begun first last store back capacity source source_after sink sink_after status =
+      over_fresh seen (λ old new. ImagesSeen begun old new status)
+      (λ old new. forget_images begun old new status) first last store back capacity source
+      source_after sink sink_after

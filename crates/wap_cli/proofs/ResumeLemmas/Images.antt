@@ -1,11 +1,9 @@
--- What is written of an image, and what the keys come to that go on from where it was saved.
-use Rattle.std.proofs.Common.{◌≡◌, ◌≢◌, ◌≤◌, ℕ, true, false, List, [], Option, Some, None, Ok, Err}
-use Rattle.std.proofs.Common.{refl, sym, ap, subst, ◌∙◌, inl, inr, arith}
-use Rattle.std.specs.Prelude.{Result, Bool, is_none, not, ◌&&◌, if◌then◌else◌}
-use Rattle.wap_base.specs.Count.{Rose}
+-- What the keys come to that go on from where an image was saved.
+use Rattle.std.proofs.Common.{◌≡◌, ◌≢◌, ℕ, true, false, List, [], Option, Some, None, Ok, Err}
+use Rattle.std.proofs.Common.{refl, sym, ap, ap₂, subst, ◌∙◌}
+use Rattle.std.specs.Prelude.{Bool, is_none, not, ◌&&◌, if◌then◌else◌}
 use Rattle.wap_devices.specs.Sources.{MayGive}
 use Rattle.wap_devices.specs.Sinks.{SinkSeen}
-use Rattle.wap_devices.specs.Transfer.{Appends, AppendsPrefix}
 use Rattle.wap_base.specs.declared.key.Key.{Key}
 use Rattle.wap_keys.specs.Lines.{keys_of}
 use Rattle.wap_image.specs.declared.context_parts.parts.ContextParts.{ContextParts}
@@ -20,101 +18,26 @@ use Rattle.wap_world.specs.World.{World}
 use Rattle.wap_world.specs.Steps.{then_step}
 use Rattle.wap_world.specs.Sessions.{Begun, world_of}
 use Rattle.wap_world.specs.scripting.UnitSites.{Pages}
-use Rattle.wap_world.specs.scripting.Waiting.{Waits}
-use Rattle.wap_context.specs.Sites.{site_of}
+use Rattle.wap_world.specs.scripting.Waiting.{Waits, played_from}
+use Rattle.wap_context.specs.Sites.{fragment_call, site_of}
 use Rattle.wap_state.specs.Saved.{parts_of}
 use Rattle.wap_push.specs.declared.indication.Indication.{Indication}
 use Rattle.wap_push.specs.Pushes.{push_at}
-use Rattle.wap_world.specs.inboxes.Sessions.{played_with}
-use Rattle.wap_session.specs.handset.Holding.{played_with_from}
-use Rattle.wap_session.specs.handset.Feeding.{State, session_of, step_of}
-use Rattle.wap_session.specs.Feeding.{State as Session, context_at_rest}
+use Rattle.wap_world.specs.Sessions.{played}
+use Rattle.wap_session.specs.Feeding.{State, context_at_rest, step_of}
 use Rattle.wap_context.specs.Browsers.{Browser}
 use Rattle.wap_cli.specs.Memory.{is_of_memory}
-use Rattle.wap_cli.specs.Statuses.{IsOrWants}
 use Rattle.wap_cli.specs.saving.Saving.{image_of}
 use Rattle.wap_cli.specs.declared.status.Status.{Status}
-use Rattle.wap_cli.specs.declared.status.Status.TheVariants.{Done, Refused, WriteFault, NoMemory}
+use Rattle.wap_cli.specs.declared.status.Status.TheVariants.{Done, Refused}
 use Rattle.wap_cli.specs.browse.Outside.{Outside}
 use Rattle.wap_cli.specs.browse.Plays.{AreUnitPages, opened}
 use Rattle.wap_cli.specs.browse.Resting.{StandsAfter, Rests}
 use Rattle.wap_cli.specs.browse.Headline.{BrowsesSeen}
-use Rattle.wap_cli.specs.resume.Saving.{EndsBy, WritesImage, played_in, EndsIn, ImagesSeen}
+use Rattle.wap_cli.proofs.BrowseLemmas.Exits.{unrefused}
+use Rattle.wap_cli.proofs.Writing.{writes_unrefused}
+use Rattle.wap_cli.specs.resume.Saving.{WritesImage, played_in, EndsIn, ImagesSeen}
 use Rattle.wap_cli.specs.resume.Saving.{IsWhole, unshown}
-
--- ---- an image
-
--- memory ran out
-pub image_wants : (image : Result (List ℕ) SaveFault) (sink : SinkSeen)
-    → WritesImage image sink sink NoMemory
-image_wants (Ok bytes) sink = record {
-  ends = inr (inr refl);
-  done = λ is. absurd cc;
-  write_fault = λ is. absurd cc;
-  unwritten = λ undone other. refl;
-  failed = λ is. absurd cc;
-  steady = λ other. refl;
-  counts = omega arith;
-}
-image_wants (Err why) sink = record {
-  ends = inr refl;
-  done = λ is. absurd cc;
-  write_fault = λ is. absurd cc;
-  unwritten = λ undone other. refl;
-  failed = λ is. absurd cc;
-  steady = λ other. refl;
-  counts = omega arith;
-}
-
--- there is none
-pub image_lacks : (image : Result (List ℕ) SaveFault) (why : SaveFault) (sink : SinkSeen)
-    → image ≡ Err why → WritesImage image sink sink (Refused (Save why))
-image_lacks image why sink is =
-    subst (λ (one : Result (List ℕ) SaveFault). WritesImage one sink sink (Refused (Save why)))
-    (sym is)
-    (record {
-      ends = inl refl;
-      done = λ is. absurd cc;
-      write_fault = λ is. absurd cc;
-      unwritten = λ undone other. refl;
-      failed = λ is. absurd cc;
-      steady = λ other. refl;
-      counts = omega arith;
-    })
-
--- it was written whole
-pub image_done : (image : Result (List ℕ) SaveFault) (bytes : List ℕ) (before after : SinkSeen)
-    → image ≡ Ok bytes → Appends before.taken after.taken bytes
-    → after.faults ≡ before.faults → before.faults ≤ after.faults
-    → WritesImage image before after Done
-image_done image bytes before after is wrote same counts =
-    subst (λ (one : Result (List ℕ) SaveFault). WritesImage one before after Done) (sym is)
-    (record {
-      ends = inl refl;
-      done = λ done. (bytes, refl, wrote);
-      write_fault = λ is. absurd cc;
-      unwritten = λ undone other. absurd (undone refl);
-      failed = λ is. absurd cc;
-      steady = λ other. same;
-      counts = counts;
-    })
-
--- the sink failed
-pub image_fails : (image : Result (List ℕ) SaveFault) (bytes : List ℕ) (before after : SinkSeen)
-    → image ≡ Ok bytes → AppendsPrefix before.taken after.taken bytes
-    → Rose before.faults after.faults → before.faults ≤ after.faults
-    → WritesImage image before after WriteFault
-image_fails image bytes before after is wrote rose counts =
-    subst (λ (one : Result (List ℕ) SaveFault). WritesImage one before after WriteFault) (sym is)
-    (record {
-      ends = inr (inl refl);
-      done = λ is. absurd cc;
-      write_fault = λ fails. (bytes, refl, wrote);
-      unwritten = λ undone other. absurd (other refl);
-      failed = λ fails. rose;
-      steady = λ other. absurd (other refl);
-      counts = counts;
-    })
 
 -- ---- where keys end
 
@@ -123,11 +46,11 @@ pub step_closed : (pages : Pages) (others : List Key) (state : State) → state.
     → state.winners ≡ []
     → step_of pages others state ≡ played_in state.browser.world pages others
 step_closed pages others state is none =
-    ap (λ (waits : Option Waits). (played_with_from pages (record {
-      state = record { world = state.browser.world; waiting = waits };
-      pushes = state.winners;
+    ap (λ (waits : Option Waits). (played_from push_at fragment_call pages (record {
+      phone = record { world = state.browser.world; pushes = state.winners };
+      waiting = waits;
     }) others).step) is
-    ∙ ap (λ (pushes : List Indication). (played_with push_at (site_of pages) others
+    ∙ ap (λ (pushes : List Indication). (played push_at (site_of pages) others
     (record { world = state.browser.world; pushes = pushes })).step) none
 
 -- it stands where these keys lead, over any pages that may be seen
@@ -158,53 +81,42 @@ ends_in begun old new state rests bytes gives pages are =
 
 -- ---- the command
 
--- the context of a handset at rest is its browser
-pub context_there : (state : State) (session : Session) (context : Browser)
-    → state.waiting ≡ None → state.is_over ≡ false → Some session ≡ session_of state
-    → Some context ≡ context_at_rest session → context ≡ state.browser
-context_there state session context alone ready lent taken =
-    let now : Session =
-    record { browser = state.browser; waiting = state.waiting; is_over = false } in
-    let going : session_of state ≡ Some now =
-    ap (λ (over : Bool). if over then None else Some now) ready in
-    let rests : context_at_rest now ≡ Some state.browser =
-    ap (λ (waits : Option Waits). if (is_none waits && not false) then Some state.browser else None)
-    alone in
-    some_is (taken ∙ ap context_at_rest (session_is (lent ∙ going)) ∙ rests)
+-- the context of a session at rest is its browser
+pub context_there : (state : State) (context : Browser) → state.waiting ≡ None
+    → state.is_over ≡ false → Some context ≡ context_at_rest state → context ≡ state.browser
+context_there state context alone ready taken =
+    some_is (taken
+    ∙ ap₂ (λ (waits : Option Waits) (over : Bool).
+    if is_none waits && not over then Some state.browser else None) alone ready)
   where
     some_is : {one other : Browser} → Some one ≡ Some other → one ≡ other
     some_is is = cc
 
-    session_is : {one other : Session} → Some one ≡ Some other → one ≡ other
-    session_is is = cc
-
 -- no cause that there is no image is that memory ran out
-image_remembers : (parts : ContextParts) (budget : ℕ) (status : Status) (fault : PageFault)
-    → EndsBy (image_of parts budget) status → status ≡ Refused fault → is_of_memory fault ≡ false
-image_remembers parts budget status fault =
-    by (is_drawn parts.drawn) (are_short parts) (spelling parts budget)
+cause_remembers : (parts : ContextParts) (budget : ℕ) (why : SaveFault)
+    → image_of parts budget ≡ Err why → is_of_memory (Save why) ≡ false
+cause_remembers parts budget why = by (is_drawn parts.drawn) (are_short parts)
   where
-    same : {one other : PageFault} → Refused one ≡ Refused other → one ≡ other
-    same is = cc
+    by : (drawn short : Bool)
+        → (if drawn then (if short then Ok (spelling parts budget) else Err Card) else Err Drawn)
+        ≡ Err why → is_of_memory (Save why) ≡ false
+    by true true is = absurd cc
+    by true false is =
+        let same : Card ≡ why = cc in
+        subst (λ (one : SaveFault). is_of_memory (Save one) ≡ false) same refl
+    by false short is =
+        let same : Drawn ≡ why = cc in
+        subst (λ (one : SaveFault). is_of_memory (Save one) ≡ false) same refl
 
-    wanted : NoMemory ≢ Refused fault
-    wanted e = cc
-
-    by_cause : (why : SaveFault) → is_of_memory (Save why) ≡ false
-        → IsOrWants (Refused (Save why)) status → status ≡ Refused fault
-        → is_of_memory fault ≡ false
-    by_cause why so (inl is) e =
-        subst (λ (f : PageFault). is_of_memory f ≡ false) (same (sym is ∙ e)) so
-    by_cause why so (inr is) e = absurd (wanted (sym is ∙ e))
-
-    by : (drawn short : Bool) (bytes : List ℕ)
-        → EndsBy (if drawn then (if short then Ok bytes else Err Card) else Err Drawn) status
-        → status ≡ Refused fault → is_of_memory fault ≡ false
-    by true true bytes (inl is) e = absurd cc
-    by true true bytes (inr (inl is)) e = absurd cc
-    by true true bytes (inr (inr is)) e = absurd cc
-    by true false bytes ends e = by_cause Card refl ends e
-    by false short bytes ends e = by_cause Drawn refl ends e
+image_remembers : (parts : ContextParts) (budget : ℕ) (before after : SinkSeen) (status : Status)
+    → WritesImage (image_of parts budget) before after status → (fault : PageFault)
+    → status ≡ Refused fault → is_of_memory fault ≡ false
+image_remembers parts budget before after status (WritesImage.writes one bytes is puts) fault so =
+    absurd (writes_unrefused (λ Wrote. Wrote bytes) before after one puts fault so)
+image_remembers parts budget before after status (WritesImage.refused why is same) fault so =
+    let cause : Save why ≡ fault = cc in
+    subst (λ (f : PageFault). is_of_memory f ≡ false) cause (cause_remembers parts budget why is)
+image_remembers parts budget before after status (WritesImage.no_memory same) fault so = absurd cc
 
 -- the keys didn't end outside a dialog
 pub images_undone : (begun : Begun) (old new : Outside) (dropped : List ℕ) (status : Status)
@@ -219,7 +131,9 @@ images_undone begun old new dropped status undone plays same = record {
   parts = parts_of (world_of begun);
   ends_in = λ is. absurd (undone is);
   saves = λ is. absurd (undone is);
-  of_reason = λ fault is. absurd (plays.accepted fault is);
+  of_reason = λ fault is.
+      absurd
+      (unrefused (opened begun) (unshown [] old) (unshown dropped new) status plays fault is);
   whole = λ is. absurd (undone is);
 }
 
@@ -231,7 +145,7 @@ pub images_done : (begun : Begun) (old new : Outside) (dropped : List ℕ) (stat
     → WritesImage (image_of (parts_of context.world) begun.budget) old.sink new.sink status
     → (status ≡ Done → IsWhole (parts_of context.world) context.world)
     → ImagesSeen begun old new status
-images_done begun old new dropped state context end status done plays rests is writes whole =
+images_done begun old new dropped state context end status done plays rests is written whole =
     let after = unshown dropped new in
     record {
       dropped = dropped;
@@ -242,9 +156,9 @@ images_done begun old new dropped state context end status done plays rests is w
       parts = parts_of state.browser.world;
       ends_in = λ so. ends_in begun (unshown [] old) after state rests;
       saves = λ so. subst (λ (browser : Browser). WritesImage
-          (image_of (parts_of browser.world) begun.budget) old.sink new.sink status) is writes;
-      of_reason = λ fault.
-          image_remembers (parts_of context.world) begun.budget status fault writes.ends;
+          (image_of (parts_of browser.world) begun.budget) old.sink new.sink status) is written;
+      of_reason =
+          image_remembers (parts_of context.world) begun.budget old.sink new.sink status written;
       whole = λ so bytes gives pages are.
           subst (λ (w : World). IsWhole (parts_of state.browser.world) w)
           (stands_there begun (unshown [] old) after state rests bytes gives pages are).world

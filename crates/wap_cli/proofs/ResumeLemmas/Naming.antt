@@ -44,12 +44,6 @@ asked_last parts rest text card url is reads =
     ∙ ap (λ last. map (λ (one : Entry). (name_for one.url, false)) (option_to_list last))
     (last_pushed None (entries_of rest) entry)
 
--- none is where there is no entry
-pub asked_none : (parts : ContextParts) → parts.history ≡ [] → asked_for parts ≡ []
-asked_none parts is =
-    ap (λ (history : List (List ℕ × ℕ)). map (λ (one : Entry). (name_for one.url, false))
-    (option_to_list (last_or None (entries_of history)))) is
-
 -- a name that was made of the URL of a text is that of any URL that it reads as
 pub named_by : (text : List ℕ) (url : Url) (made : Result (List ℕ) NoMemory) → url_at text ≡ Ok url
     → IfOk made (λ name. name ≡ name_for url)

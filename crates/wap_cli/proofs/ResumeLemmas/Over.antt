@@ -1,7 +1,9 @@
 -- What was saved goes on over the pages of a store, of which none is kept at first.
-use Rattle.std.proofs.Common.{◌≡◌, ℕ, List, [], ◌∷◌, false, Some, Ok, refl, sym, subst, inl, inr}
+use Rattle.std.proofs.Common.{◌≡◌, ℕ, List, [], ◌∷◌, false, Some, Ok, Err, refl, sym, subst}
+use Rattle.std.proofs.Common.{inl, inr}
 use Rattle.std.specs.Prelude.{Result}
 use Rattle.wap_base.specs.declared.fault.RunErr.{RunErr}
+use Rattle.wap_base.specs.declared.fault.RunErr.TheVariants as run_error
 use Rattle.wap_devices.specs.Stores.{StoreSeen}
 use Rattle.wap_devices.proofs.Telling.{grew_nothing, agrees_before}
 use Rattle.wap_devices.specs.Sources.{SourceSeen}
@@ -17,10 +19,9 @@ use Rattle.wap_context.specs.Browsers.{Browser}
 use Rattle.wap_context.specs.declared.saved.Revived.{Revived}
 use Rattle.wap_context.specs.declared.saved.Revived.TheVariants as what
 use Rattle.wap_context.specs.Saved.{asked_for, Revives}
-use Rattle.wap_session.specs.Feeding.{going_on}
-use Rattle.wap_session.specs.handset.Feeding.{State, with_session}
+use Rattle.wap_session.specs.Feeding.{State, going_on}
 use Rattle.wap_cli.specs.declared.status.Status.{Status}
-use Rattle.wap_cli.specs.declared.status.Status.TheVariants.{Refused, NoMemory}
+use Rattle.wap_cli.specs.declared.status.Status.TheVariants.{Refused, StoreFault, NoMemory}
 use Rattle.wap_cli.specs.browse.Outside.{Outside}
 use Rattle.wap_cli.specs.browse.Plays.{Play}
 use Rattle.wap_cli.specs.browse.Headline.{BrowsesSeen}
@@ -30,7 +31,8 @@ use Rattle.wap_cli.specs.resume.Resuming.{resumed, LacksDeck}
 use Rattle.wap_cli.specs.resume.inside.Loading.{RefusesDeck, Continues}
 use Rattle.wap_cli.proofs.ResumeLemmas.Reviving.{browsed_by, has_deck}
 use Rattle.wap_cli.proofs.ResumeLemmas.Going.{unbegun_same}
-use Rattle.wap_cli.proofs.ResumeLemmas.Ending.{fresh, missing_ends, refused_ends}
+use Rattle.wap_cli.proofs.ResumeLemmas.Ending.{fresh, fault_ends, wants_ends, missing_ends}
+use Rattle.wap_cli.proofs.ResumeLemmas.Ending.{refused_ends}
 
 -- pages that may be seen over a store are those of a site
 site_seen : (store : StoreSeen) (cache : Cache) (pages : JudgedPages)
@@ -97,6 +99,23 @@ module _ {S : Type 0} (seen : S → StoreSeen) (saved : Saved) (first : CachedPa
       (inr (missing_ends saved.0 (seen store) (seen last.store) (cache_of last) capacity source sink
       (made_there last (Ok what.Missing) made)))
 
+  -- the store failed, or memory ran out
+  pub fault_over : (last : CachedPages S) (back : S) → back ≡ last.store
+      → Revives saved.0 (later first) (later last) (Err run_error.Store)
+      → Comes back source sink StoreFault
+  fault_over last back is made =
+      subst (λ (s : S). Comes s source sink StoreFault) (sym is)
+      (inr (fault_ends saved.0 (seen store) (seen last.store) (cache_of last) capacity source sink
+      (made_there last (Err run_error.Store) made)))
+
+  pub wants_over : (last : CachedPages S) (back : S) → back ≡ last.store
+      → Revives saved.0 (later first) (later last) (Err run_error.NoMemory)
+      → Comes back source sink NoMemory
+  wants_over last back is made =
+      subst (λ (s : S). Comes s source sink NoMemory) (sym is)
+      (inr (wants_ends saved.0 (seen store) (seen last.store) (cache_of last) capacity source sink
+      (made_there last (Err run_error.NoMemory) made)))
+
   -- it is no deck
   pub refused_over : (last : CachedPages S) (back new : S) (name : List ℕ) (status : Status)
       → back ≡ last.store → Revives saved.0 (later first) (later last) (Ok what.Refused)
@@ -108,16 +127,16 @@ module _ {S : Type 0} (seen : S → StoreSeen) (saved : Saved) (first : CachedPa
       (subst (λ (s : S). RefusesDeck name (seen s) (seen new) status) is refuses))
 
   -- the session goes on
-  pub context_over : (browser : Browser) (mid last : CachedPages S) (back : S) (handset : State)
+  pub context_over : (browser : Browser) (mid last : CachedPages S) (back : S) (session : State)
       (source_after : SourceSeen) (sink_after : SinkSeen) (status : Status) → back ≡ last.store
       → Revives saved.0 (later first) (later mid) (Ok (what.Context browser))
-      → handset ≡ with_session (going_on browser saved.1)
+      → session ≡ going_on browser saved.1
       → ((play : Play) (from : Moved)
-      → Browsed play [] from (record { pages = later mid; sink = sink }) handset
+      → Browsed play [] from (record { pages = later mid; sink = sink }) session
       → BrowsesSeen play (outside_of from source) (outside_over seen last source_after sink_after)
       status)
       → Comes back source_after sink_after status
-  context_over browser mid last back handset source_after sink_after status is made begun plays =
+  context_over browser mid last back session source_after sink_after status is made begun plays =
       let now : Moved = record { pages = later mid; sink = sink } in
       let there = made_there mid (Ok (what.Context browser)) made in
       let on : (pages : Seen) → Asks (asked_for saved.0) pages (later mid) → Stays pages (later mid)
@@ -135,7 +154,8 @@ module _ {S : Type 0} (seen : S → StoreSeen) (saved : Saved) (first : CachedPa
         λ contents agrees. has_deck saved.0 saved.1 (seen mid.store) (cache_of mid) browser there.is
             contents
             (agrees_before (seen mid.store).known (seen last.store).known (on (known_already mid)
-            (asks_already mid there.asks) (stays_already mid there.stays)).stays.known contents agrees),
+            (asks_already mid there.asks) (stays_already mid there.stays)).stays.known contents
+            agrees),
         forget_cache (resumed saved.0 saved.1) old
             (outside_over seen last source_after sink_after) status (Some (fresh capacity)) refl
             (on before there.asks there.stays),

@@ -13,7 +13,7 @@ use Rattle.wap_devices.specs.Transfer.{Appends}
 use Rattle.wap_devices.specs.Sinks.{SinkSeen}
 use Rattle.wap_devices.proofs.Transfers.{Appends-nil}
 use Rattle.wap_base.specs.declared.key.Key.{Key}
-use Rattle.wap_world.specs.inboxes.Sessions.{played_with}
+use Rattle.wap_world.specs.Sessions.{played}
 use Rattle.wap_image.specs.declared.context_parts.parts.ContextParts.{ContextParts}
 use Rattle.wap_world.specs.declared.site.page.Page.{Page}
 use Rattle.wap_world.specs.declared.site.page.Page.TheVariants as page
@@ -40,8 +40,7 @@ use Rattle.wap_context.specs.declared.saved.Revived.TheVariants.{Context, Missin
 use Rattle.wap_state.specs.Saved.{saved_world}
 use Rattle.wap_context.specs.Saved.{with_last_in, revived_on, asked_for}
 use Rattle.wap_context.specs.Saved.{IsRevived}
-use Rattle.wap_session.specs.Feeding.{going_on, left_open}
-use Rattle.wap_session.specs.handset.Feeding.{State, with_session, step_of}
+use Rattle.wap_session.specs.Feeding.{State, going_on, step_of, left_open}
 use Rattle.wap_cli.specs.browse.Handling.{bytes_of}
 use Rattle.wap_cli.specs.browse.Standing.{Moved, Stands, Browsed}
 use Rattle.wap_cli.proofs.BrowseLemmas.Optional.{if_some, some_fact}
@@ -149,7 +148,7 @@ made_by parts turns seen pages browser may are made =
 -- no keys play nothing
 none_whole : (pages : Pages) (world : World)
     → played_in world pages [] ≡ quiet [] (still world)
-unfolding played_with
+unfolding played
 none_whole pages world = refl
 
 -- the shelf of a site is that of its pages
@@ -203,10 +202,10 @@ pub browsed_by : (parts : ContextParts) (turns : ℕ) (old now : Moved) (browser
     → IsRevived parts now.pages (Context browser)
     → Asks (asked_for parts) old.pages now.pages → Stays old.pages now.pages
     → now.sink ≡ old.sink
-    → Browsed (resumed parts turns) [] old now (with_session (going_on browser turns))
+    → Browsed (resumed parts turns) [] old now (going_on browser turns)
 browsed_by parts turns old now browser are made asks stays unwritten = record {
   stands = λ judged may.
-      stands_by parts turns (unit_pages judged) old now (with_session (going_on browser turns))
+      stands_by parts turns (unit_pages judged) old now (going_on browser turns)
       (made.over judged may) refl refl
       ((made_by parts turns now.pages judged browser may (are judged may) made).0
       ∙ ap (λ (shelf : Shelf). world_over shelf (world_with parts turns))

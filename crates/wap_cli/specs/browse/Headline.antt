@@ -1,6 +1,6 @@
 -- What it comes to that keys are read and played: what is written, what is asked for, and how it
 -- ends. This project's own.
-use Rattle.std.specs.Prelude.{◌≡◌, ◌≢◌, ℕ, ◌+◌, ◌≤◌, Bool, List, [], ◌++◌, length}
+use Rattle.std.specs.Prelude.{◌≡◌, ◌≢◌, ℕ, ◌+◌, ◌≤◌, Bool, true, false, List, length}
 use Rattle.wap_base.specs.Count.{Rose}
 use Rattle.wap_devices.specs.Sources.{MayGive}
 use Rattle.wap_devices.specs.Transfer.{AppendsPrefix}
@@ -11,113 +11,99 @@ use Rattle.wap_keys.specs.declared.fault.KeyFault.TheVariants as key
 use Rattle.wap_keys.specs.declared.ending.Ending.{Ending}
 use Rattle.wap_keys.specs.declared.ending.Ending.TheVariants as ending
 use Rattle.wap_keys.specs.Lines.{keys_of, keys_at}
-use Rattle.wap_keys.specs.Read.{AreFirst, keys_among, rose, IsPrompt, IsAtLast, TakesAtMost}
-use Rattle.wap_keys.specs.Read.{EndsAtMostOnce}
-use Rattle.wap_pages.specs.declared.fault.PageFault.{PageFault}
+use Rattle.wap_keys.specs.Read.{IsAtLast, HasGiven}
 use Rattle.wap_world.specs.site.Asking.{Stays}
 use Rattle.wap_world.specs.Steps.{Step}
 use Rattle.wap_cli.specs.declared.status.Status.{Status}
-use Rattle.wap_cli.specs.declared.status.Status.TheVariants.{Usage, Refused, StoreFault}
-use Rattle.wap_cli.specs.declared.status.Status.TheVariants.{KeyReadFault, WriteFault, NoMemory}
-use Rattle.wap_cli.specs.declared.status.Status.TheVariants.{BadKey, TooManyKeys}
-use Rattle.wap_cli.specs.Statuses.{IsOrWants}
+use Rattle.wap_cli.specs.declared.status.Status.TheVariants.{Done, OpenDialog, BadKey}
+use Rattle.wap_cli.specs.declared.status.Status.TheVariants.{TooManyKeys, KeyReadFault}
+use Rattle.wap_cli.specs.declared.status.Status.TheVariants.{StoreFault, WriteFault, NoMemory}
 use Rattle.wap_cli.specs.browse.Outside.{Outside}
 use Rattle.wap_cli.specs.browse.Plays.{Play, AreUnitPages}
 use Rattle.wap_cli.specs.browse.Handling.{bytes_of, IsPlayed}
 use Rattle.wap_cli.specs.browse.Stopping.{StopsAtStore, StopsAtSink, StopsForMemory}
-use Rattle.wap_cli.specs.browse.Endings.{at_end, ended}
 
--- no count of faults rose
-pub record NothingFails (old new : Outside) : Type 0 where
-  pub store : ¬ Rose old.pages.faults new.pages.faults
-  pub source : ¬ Rose old.source.faults new.source.faults
-  pub sink : ¬ Rose old.sink.faults new.sink.faults
+-- ---- counts of faults that stay
 
--- what was written where keys come to this, and of these bytes of keys these keys were given
-pub record Shows (play : List Key → Step) (bytes : List ℕ) (given : List Key) (old new : Outside)
-    (status : Status) : Type 0 where
-  -- with any status no more than a prefix of the lines of all keys
-  pub prefix : AppendsPrefix old.sink.taken new.sink.taken
-      (bytes_of (play (keys_of bytes).keys))
-  -- the lines of the keys that were given, where the keys came to an end
-  pub played : (is_open : Bool) (ending : Ending) → status ≡ ended is_open ending
-      → IsPlayed play given old new
-  -- at their end it is Done outside a dialog, and OpenDialog in one
-  pub open_so : (is_open : Bool) → status ≡ at_end is_open
-      → (play given).is_open ≡ is_open
-  -- the lines of the first of these, whole keys only, but where the sink failed
-  pub store_fault : status ≡ StoreFault → StopsAtStore play given old new
-  pub write_fault : status ≡ WriteFault → StopsAtSink play given old new
-  pub no_memory : status ≡ NoMemory → StopsForMemory play given old new
-  -- where nothing failed, the status is that of the end of all keys, in a dialog or outside, or
-  -- memory ran out
-  pub complete : NothingFails old new → IsOrWants
-      (ended (play (keys_of bytes).keys).is_open (keys_of bytes).ending) status
+abbrev pub StoreStays : Outside → Outside → Type 0
+StoreStays old new = new.pages.faults ≡ old.pages.faults
 
--- what a source gave that may have these bytes, and how it ended by them
-pub record Reads {P : Type 0} (Are : P → Type 0) (play : P → List Key → Step) (bytes : List ℕ)
-    (old new : Outside) (status : Status) : Type 0 where
-  -- of the bytes these were taken, and these are left
-  pub taken : List ℕ
-  pub rest : List ℕ
-  pub split : bytes ≡ taken ++ rest
-  pub given_is : new.source.given ≡ old.source.given ++ taken
-  -- one after the other these keys were given, the first that the whole lines among them say
-  pub given : List Key
-  pub first : AreFirst given (keys_among (rose old.source.ends new.source.ends) taken)
-  -- with any status, when the last read began each key that was there was among these, and no line
-  -- that is no key line was there, were it only begun and too long already
-  pub prompt : IsPrompt old.source new.source taken given
-  -- where the store failed, or the sink, the last was handled before the next read began; or what
-  -- is done before the first was, and nothing was read
-  pub store_fault : status ≡ StoreFault → IsAtLast old.source new.source taken given
-  pub write_fault : status ≡ WriteFault → IsAtLast old.source new.source taken given
-  -- these statuses come only where the bytes end so: with Done and OpenDialog all were taken; a
-  -- line is no key line; there is one past the limit, and no more were taken; or more were to
-  -- come
-  pub done : (is_open : Bool) → status ≡ at_end is_open
-      → (rest ≡ []) × (keys_of bytes ≡ record { keys = given; ending = ending.End })
-  pub bad_key : (line : ℕ) (fault : KeyFault) → status ≡ BadKey line fault
-      → keys_of bytes ≡ record { keys = given; ending = ending.BadKey line fault }
-  pub too_many_keys : status ≡ TooManyKeys
-      → (length taken ≡ KEYS_LIMIT + 1)
-      × (keys_of bytes ≡ record { keys = given; ending = ending.TooManyKeys })
-  pub read_fault : status ≡ KeyReadFault
-      → keys_at ending.ReadFault taken ≡ record { keys = given; ending = ending.ReadFault }
-  -- and where nothing failed, they have to come, or memory ran out
-  pub complete : NothingFails old new
-      → (is_open : Bool) × IsOrWants (ended is_open (keys_of bytes).ending) status
-  -- what was written over these pages
-  pub shows : (pages : P) → Are pages → Shows (play pages) bytes given old new status
+abbrev pub SourceStays : Outside → Outside → Type 0
+SourceStays old new = new.source.faults ≡ old.source.faults
+
+abbrev pub SinkStays : Outside → Outside → Type 0
+SinkStays old new = new.sink.faults ≡ old.sink.faults
+
+-- ---- how it ends
+
+-- over these pages, where these bytes were taken and these keys were given
+module _ {P : Type 0} (Are : P → Type 0) (play : P → List Key → Step) (old new : Outside)
+    (taken : List ℕ) (given : List Key) where
+  -- all that were given were played to their end, and nothing failed but the source, maybe
+  pub record ArePlayed : Type 0 where
+    pub played : (pages : P) → Are pages → IsPlayed (play pages) given old new
+    pub store : StoreStays old new
+    pub sink : SinkStays old new
+
+  -- whatever the bytes of the source may be, these are all their keys, which end so; they were
+  -- played
+  pub record AreAll (by : Ending) : Type 0 where
+    pub all : (bytes : List ℕ) → MayGive old.source new.source bytes
+        → keys_of bytes ≡ record { keys = given; ending = by }
+    pub played : ArePlayed
+    pub source : SourceStays old new
+
+  -- the keys came to the end of all bytes, in a dialog or outside
+  pub record AtEnd (is_open : Bool) : Type 0 where
+    pub all : AreAll ending.End
+    pub whole : (bytes : List ℕ) → MayGive old.source new.source bytes → bytes ≡ taken
+    pub leaves : (pages : P) → Are pages → (play pages given).is_open ≡ is_open
+
+  -- with each status, and with no other
+  pub data Ends : Status → Type 0 where
+    done : AtEnd false → Ends Done
+    open_dialog : AtEnd true → Ends OpenDialog
+    -- a line is no key line; out of memory is no fault of a line
+    bad_key : (line : ℕ) (fault : KeyFault) → fault ≢ key.NoMemory
+        → AreAll (ending.BadKey line fault) → Ends (BadKey line fault)
+    -- there is one byte past the limit, and no more were taken
+    too_many_keys : length taken ≡ KEYS_LIMIT + 1 → AreAll ending.TooManyKeys → Ends TooManyKeys
+    -- the source failed, where more was to come
+    read_fault : Rose old.source.faults new.source.faults
+        → keys_at ending.ReadFault taken ≡ record { keys = given; ending = ending.ReadFault }
+        → ArePlayed → Ends KeyReadFault
+    -- the store failed, or the sink, as the last key was handled, before the next read began; or as
+    -- that was done which is done before the first, and nothing was read
+    store_fault : Rose old.pages.faults new.pages.faults → SourceStays old new → SinkStays old new
+        → IsAtLast old.source new.source taken given
+        → ((pages : P) → Are pages → StopsAtStore (play pages) given old new) → Ends StoreFault
+    write_fault : Rose old.sink.faults new.sink.faults → SourceStays old new → StoreStays old new
+        → IsAtLast old.source new.source taken given
+        → ((pages : P) → Are pages → StopsAtSink (play pages) given old new) → Ends WriteFault
+    -- memory ran out
+    no_memory : SourceStays old new → SinkStays old new
+        → ((pages : P) → Are pages → StopsForMemory (play pages) given old new) → Ends NoMemory
+
+-- ---- all of it
 
 -- keys that come to this over these pages are read and played, from the outside before to the
 -- outside after, and the status
 pub record Browses {P : Type 0} (Are : P → Type 0) (play : P → List Key → Step)
     (old new : Outside) (status : Status) : Type 0 where
-  -- what was read and written, for all bytes of keys that may be those of the source
-  pub reads : (bytes : List ℕ) → MayGive old.source new.source bytes
-      → Reads Are play bytes old new status
-  -- these statuses come only where a count of faults rose
-  pub store_fault : status ≡ StoreFault → Rose old.pages.faults new.pages.faults
-  pub read_fault : status ≡ KeyReadFault → Rose old.source.faults new.source.faults
-  pub write_fault : status ≡ WriteFault → Rose old.sink.faults new.sink.faults
-  -- and no fault is passed over
-  pub store_steady : status ≢ StoreFault → status ≢ NoMemory
-      → new.pages.faults ≡ old.pages.faults
-  pub read_steady : status ≢ KeyReadFault → new.source.faults ≡ old.source.faults
-  pub write_steady : status ≢ WriteFault → new.sink.faults ≡ old.sink.faults
-  -- these are statuses of other commands
-  pub command : status ≢ Usage
-  pub accepted : (fault : PageFault) → status ≢ Refused fault
-  -- out of memory is no fault of a line
-  pub of_line : (line : ℕ) → status ≢ BadKey line key.NoMemory
+  -- one after the other these keys were given, of bytes that were taken: no key waits for a read,
+  -- no more bytes are taken than one too many, and the source gives its end once at most
+  pub taken : List ℕ
+  pub given : List Key
+  pub reads : HasGiven old.source new.source taken given
+  pub ends : Ends Are play old new taken given status
+  -- with any status no more was written than a prefix of the lines of all keys, whatever the bytes
+  -- may be
+  pub prefix : (bytes : List ℕ) → MayGive old.source new.source bytes → (pages : P) → Are pages
+      → AppendsPrefix old.sink.taken new.sink.taken (bytes_of (play pages (keys_of bytes).keys))
   -- the pages stay, no names were listed, and no count fell
   pub stays : Stays old.pages new.pages
   pub read_counts : old.source.faults ≤ new.source.faults
   pub write_counts : old.sink.faults ≤ new.sink.faults
-  -- no more bytes of keys are taken than one too many, and the source gives its end once at most
-  pub few : TakesAtMost (KEYS_LIMIT + 1) old.source new.source
-  pub end_once : EndsAtMostOnce old.source new.source
 
 -- the same over any pages that those that are seen may be afterwards
 abbrev pub BrowsesSeen : Play → Outside → Outside → Status → Type 0

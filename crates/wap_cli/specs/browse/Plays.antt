@@ -6,10 +6,9 @@ use Rattle.wap_base.specs.declared.key.Key.TheVariants.{Push}
 use Rattle.wap_world.specs.site.Pages.{Pages as JudgedPages}
 use Rattle.wap_world.specs.site.Asking.{Seen, MayBe}
 use Rattle.wap_world.specs.Steps.{Step}
-use Rattle.wap_world.specs.Sessions.{Begun}
+use Rattle.wap_world.specs.Sessions.{Begun, session}
 use Rattle.wap_world.specs.scripting.UnitSites.{Pages, unit_pages}
 use Rattle.wap_push.specs.Pushes.{push_at}
-use Rattle.wap_world.specs.inboxes.Sessions.{session_with}
 use Rattle.wap_context.specs.Sites.{site_of}
 
 -- what each list of keys comes to over pages whose scripts are units
@@ -23,7 +22,7 @@ AreUnitPages seen pages =
 
 -- where a session with an inbox begins so: its URL is opened before they are played
 abbrev pub opened : Begun → Play
-opened begun pages keys = (session_with push_at (site_of pages) begun keys).step
+opened begun pages keys = (session push_at (site_of pages) begun keys).step
 
 -- a key is no push
 abbrev pub IsNoPush : Key → Type 0

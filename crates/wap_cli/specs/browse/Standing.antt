@@ -9,8 +9,7 @@ use Rattle.wap_world.specs.site.Asking.{Seen, MayBe, Stays, Asks}
 use Rattle.wap_world.specs.Steps.{Step, then_step}
 use Rattle.wap_world.specs.scripting.UnitSites.{Pages, shelf_of, unit_pages}
 use Rattle.wap_context.specs.Browsers.{IsOver}
-use Rattle.wap_session.specs.Feeding.{left_open}
-use Rattle.wap_session.specs.handset.Feeding.{State, step_of}
+use Rattle.wap_session.specs.Feeding.{State, step_of, left_open}
 use Rattle.wap_cli.specs.browse.Outside.{Outside}
 use Rattle.wap_cli.specs.browse.Plays.{Play, HaveNoPush}
 use Rattle.wap_cli.specs.browse.Handling.{bytes_of}
@@ -27,7 +26,7 @@ moved_of outside = record { pages = outside.pages; sink = outside.sink }
 abbrev pub outside_of : Moved → SourceSeen → Outside
 outside_of moved source = record { pages = moved.pages; source = source; sink = moved.sink }
 
--- over these pages: the handset and the outside stand where these keys lead
+-- over these pages: the session and the outside stand where these keys lead
 pub record Stands (pages : Pages) (play : List Key → Step) (given : List Key) (old now : Moved)
     (state : State) : Type 0 where
   pub over : IsOver (shelf_of pages) state.browser
@@ -39,7 +38,7 @@ pub record Stands (pages : Pages) (play : List Key → Step) (given : List Key) 
   -- and where none of these is a push, the inbox is as in the beginning
   pub unpushed : HaveNoPush given → state.winners ≡ []
 
--- so far nothing failed, and the handset stands where these keys lead
+-- so far nothing failed, and the session stands where these keys lead
 pub record Browsed (play : Play) (given : List Key) (old now : Moved) (state : State) : Type 0 where
   pub stands : (judged : JudgedPages) → MayBe now.pages judged
       → Stands (unit_pages judged) (play (unit_pages judged)) given old now state

@@ -2,28 +2,27 @@
 -- accepted, how many lines a session over it shows, and the sum that the session leaves. Its pages
 -- are those that its bytes are by their relations, and a source of a script means what its program
 -- means. This project's own.
-use Rattle.std.specs.Prelude.{◌≡◌, ◌≢◌, ◌⊎◌, ℕ, ◌≤◌, Bool, true, false, nat_eq, if◌then◌else◌}
+use Rattle.std.specs.Prelude.{ℕ, Bool, true, false, nat_eq, if◌then◌else◌}
 use Rattle.std.specs.Prelude.{List, [], ◌∷◌, ◌++◌, length, filter, replicate, drop, codes, decimal}
 use Rattle.std.specs.Prelude.{encode_utf8_all}
 use Rattle.std.specs.List.{starts_with}
 use Rattle.wap_base.specs.Contents.{names_of}
-use Rattle.wap_base.specs.Count.{Rose}
 use Rattle.wap_base.specs.Limits.{default_limits}
 use Rattle.wap_devices.specs.Sinks.{SinkSeen}
-use Rattle.wap_devices.specs.Transfer.{Appends, AppendsPrefix}
 use Rattle.wap_base.specs.declared.key.Key.{Key}
 use Rattle.wap_base.specs.declared.key.Key.TheVariants.{Do, Vars}
 use Rattle.wap_world.specs.Shelves.{Shelved, deck_page, script_page, text_page, refused_page}
 use Rattle.wap_world.specs.Shelves.{no_page}
 use Rattle.wap_make.specs.Folders.{folder, deck_count}
 use Rattle.wap_keys.specs.declared.words.numbers.TheConstants.{DEFAULT_SEED, DEFAULT_BUDGET}
+use Rattle.wap_push.specs.Pushes.{push_at}
 use Rattle.wap_world.specs.Sites.{Site}
 use Rattle.wap_world.specs.Sessions.{Begun, session, shown_by}
 use Rattle.wap_site_laws.specs.pages.SourcePages.{ArePages}
 use Rattle.wap_cli.specs.Browsing.{PagesAndCalls, source_site}
 use Rattle.wap_cli.specs.Calls.{ReadsCalls}
 use Rattle.wap_cli.specs.declared.status.Status.{Status}
-use Rattle.wap_cli.specs.declared.status.Status.TheVariants.{Done, WriteFault, NoMemory}
+use Rattle.wap_cli.specs.Writing.{Writes}
 
 -- ---- pages
 
@@ -68,7 +67,7 @@ made_keys n = replicate (deck_count n) onward
 
 -- the lines of the session with these keys over a site
 abbrev pub lines_of : Site → List Key → List (List ℕ)
-lines_of site keys = shown_by (session site made_begun keys)
+lines_of site keys = shown_by (session push_at site made_begun keys).step
 
 -- the lines over the folder, which has this site
 abbrev pub made_lines : ℕ → Site → List (List ℕ)
@@ -109,14 +108,5 @@ TellsMade n Wrote =
     (one : PagesAndCalls) → AreMade n one → Wrote (made_report n (source_site one))
 
 -- the sink, before and after, and how it ended
-pub record Makes (n : ℕ) (sink sink_after : SinkSeen) (status : Status) : Type 0 where
-  -- on Done the lines were written, and where the sink failed, a prefix of them
-  pub done : status ≡ Done → TellsMade n (Appends sink.taken sink_after.taken)
-  pub prefix : status ≡ WriteFault → TellsMade n (AppendsPrefix sink.taken sink_after.taken)
-  -- and else nothing
-  pub unwritten : status ≢ Done → status ≢ WriteFault → sink_after ≡ sink
-  pub ends : (status ≡ Done) ⊎ (status ≡ WriteFault) ⊎ (status ≡ NoMemory)
-  -- WriteFault comes only where the sink's count of faults rose, and no fault is passed over
-  pub write_fault : status ≡ WriteFault → Rose sink.faults sink_after.faults
-  pub write_steady : status ≢ WriteFault → sink_after.faults ≡ sink.faults
-  pub write_counts : sink.faults ≤ sink_after.faults
+abbrev pub Makes : ℕ → SinkSeen → SinkSeen → Status → Type 0
+Makes n sink sink_after status = Writes (TellsMade n) sink sink_after status

@@ -7,9 +7,8 @@ use Rattle.wap_pages.specs.Judged.{judged}
 use Rattle.wap_world.specs.Sites.{Site}
 use Rattle.wap_layout.specs.buffer.Written.{lines_bytes}
 use Rattle.wap_world.specs.Steps.{Step}
-use Rattle.wap_world.specs.Sessions.{Begun, shown_by}
+use Rattle.wap_world.specs.Sessions.{Begun, shown_by, session}
 use Rattle.wap_push.specs.Pushes.{push_at}
-use Rattle.wap_world.specs.inboxes.Sessions.{session_with}
 use Rattle.wap_world.specs.scripting.UnitSites.{unit_pages}
 use Rattle.wap_context.specs.Sites.{site_of}
 use Rattle.wap_cli.specs.Statuses.{number_of}
@@ -23,7 +22,7 @@ header number is_open =
 
 -- what a list comes to that is played over the site by a session of its own
 abbrev pub alone : Site → Begun → List Key → Step
-alone site begun keys = (session_with push_at site begun keys).step
+alone site begun keys = (session push_at site begun keys).step
 
 -- a numbered list: its header, and its transcript
 abbrev pub list_text : Site → Begun → ℕ × List Key → List ℕ

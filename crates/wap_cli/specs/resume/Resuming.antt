@@ -1,6 +1,6 @@
 -- The command that goes on with a saved context: in which world, what keys come to there, and why
 -- nothing is begun. This project's own.
-use Rattle.std.specs.Prelude.{◌≡◌, ◌≢◌, ⊤, ℕ, false, List, [], ◌∷◌, ◌++◌, Option, Some, None}
+use Rattle.std.specs.Prelude.{◌≡◌, ℕ, false, List, [], ◌∷◌, ◌++◌, Some, None}
 use Rattle.std.specs.Prelude.{IfSome}
 use Rattle.std.specs.Option.{option_and_then, option_map_or}
 use Rattle.wap_base.specs.Count.{raised, Rose}
@@ -28,9 +28,8 @@ use Rattle.wap_context.specs.Sites.{site_of}
 use Rattle.wap_cli.specs.Answers.{IsPageOf}
 use Rattle.wap_cli.specs.Memory.{is_of_memory}
 use Rattle.wap_cli.specs.declared.status.Status.{Status}
-use Rattle.wap_cli.specs.declared.status.Status.TheVariants.{Done, Usage, Refused, StoreFault}
-use Rattle.wap_cli.specs.declared.status.Status.TheVariants.{KeyReadFault, WriteFault, NoMemory}
-use Rattle.wap_cli.specs.declared.status.Status.TheVariants.{BadKey, OpenDialog, TooManyKeys}
+use Rattle.wap_cli.specs.declared.status.Status.TheVariants.{Refused, StoreFault}
+use Rattle.wap_cli.specs.declared.status.Status.TheVariants.{NoMemory}
 use Rattle.wap_cli.specs.browse.Outside.{Outside}
 use Rattle.wap_cli.specs.browse.Plays.{Play, AreUnitPages}
 use Rattle.wap_cli.specs.browse.Headline.{Browses}
@@ -113,27 +112,18 @@ pub data Hinders (known : Known) (name : List ℕ) : PageFault → Type 0 where
 
 -- ---- where nothing is begun
 
--- a command ends so that begins nothing
-abbrev pub EndsUnbegun : Status → Type 0
-EndsUnbegun Done = ⊥
-EndsUnbegun Usage = ⊥
-EndsUnbegun (Refused fault) = ⊤
-EndsUnbegun StoreFault = ⊤
-EndsUnbegun KeyReadFault = ⊥
-EndsUnbegun WriteFault = ⊥
-EndsUnbegun NoMemory = ⊤
-EndsUnbegun (BadKey line fault) = ⊥
-EndsUnbegun OpenDialog = ⊥
-EndsUnbegun TooManyKeys = ⊥
+-- a command ends that begins nothing, by the store's counts of faults: with each status, and with
+-- no other
+pub data Fails (Cause : PageFault → Type 0) (before after : ℕ) : Status → Type 0 where
+  -- for one of these causes
+  refused : (fault : PageFault) → Cause fault → after ≡ before
+      → Fails Cause before after (Refused fault)
+  store_fault : Rose before after → Fails Cause before after StoreFault
+  no_memory : Fails Cause before after NoMemory
 
--- nothing was begun, for one of these causes: no key was read, and nothing written
+-- nothing was begun: no key was read, and nothing written
 pub record Unbegun (Cause : PageFault → Type 0) (old new : Outside) (status : Status) : Type 0 where
-  pub ends : EndsUnbegun status
-  -- Refused has its cause
-  pub refused : (fault : PageFault) → status ≡ Refused fault → Cause fault
-  -- StoreFault comes only where the count of faults rose, and no fault is passed over
-  pub store_fault : status ≡ StoreFault → Rose old.pages.faults new.pages.faults
-  pub steady : status ≢ StoreFault → status ≢ NoMemory → new.pages.faults ≡ old.pages.faults
+  pub ends : Fails Cause old.pages.faults new.pages.faults status
   pub stays : Stays old.pages new.pages
   pub unread : new.source ≡ old.source
   pub unwritten : new.sink ≡ old.sink
@@ -157,17 +147,16 @@ pub record GoesOn {P : Type 0} (Are : P → Type 0) (site : P → Site) (name : 
   pub browses : Browses Are (λ pages. resumed_at saved.0 saved.1 (site pages))
       (asked_once name there.bytes old) new status
 
--- a session goes on over these pages, which have this site, with what was saved under a name: from
--- the outside before to the outside after, and the status
-pub record Resumes {P : Type 0} (Are : P → Type 0) (site : P → Site) (name : List ℕ)
+-- a session goes on over these pages, which have this site, with what was saved under a name, or
+-- nothing is begun: from the outside before to the outside after, and the status
+pub data Resumes {P : Type 0} (Are : P → Type 0) (site : P → Site) (name : List ℕ)
     (old new : Outside) (status : Status) : Type 0 where
-  -- with this it goes on, if it does
-  pub saved : Option Saved
-  pub goes_on : IfSome saved (GoesOn Are site name old new status)
-  -- else nothing is begun
-  pub stops : saved ≡ None → Unbegun (Hinders new.pages.known name) old new status
+  goes_on : (saved : Saved) → GoesOn Are site name old new status saved
+      → Resumes Are site name old new status
   -- out of memory is no reason to refuse
-  pub of_reason : (fault : PageFault) → status ≡ Refused fault → is_of_memory fault ≡ false
+  stops : Unbegun (Hinders new.pages.known name) old new status
+      → ((fault : PageFault) → status ≡ Refused fault → is_of_memory fault ≡ false)
+      → Resumes Are site name old new status
 
 -- the same over the pages that are seen
 abbrev pub ResumesSeen : List ℕ → Outside → Outside → Status → Type 0

@@ -1,13 +1,11 @@
 -- The command that saves a context where its keys end: what it writes, and how it ends. This
 -- project's own.
-use Rattle.std.specs.Prelude.{◌≡◌, ◌≢◌, ◌⊎◌, ℕ, ◌≤◌, false, List, [], ◌++◌, Result, Ok, Err}
-use Rattle.wap_base.specs.Count.{greatest_count, Rose}
+use Rattle.std.specs.Prelude.{◌≡◌, ◌≢◌, ℕ, false, List, [], ◌++◌, Result, Ok, Err}
+use Rattle.wap_base.specs.Count.{greatest_count}
 use Rattle.wap_devices.specs.Sinks.{SinkSeen}
 use Rattle.wap_devices.specs.Sources.{MayGive}
-use Rattle.wap_devices.specs.Transfer.{Appends, AppendsPrefix}
 use Rattle.wap_base.specs.declared.key.Key.{Key}
 use Rattle.wap_push.specs.Pushes.{push_at}
-use Rattle.wap_world.specs.inboxes.Sessions.{session_with, played_with}
 use Rattle.wap_keys.specs.Lines.{keys_of}
 use Rattle.wap_image.specs.declared.context_parts.fault.SaveFault.{SaveFault}
 use Rattle.wap_image.specs.declared.context_parts.parts.ContextParts.{ContextParts}
@@ -16,42 +14,30 @@ use Rattle.wap_pages.specs.declared.fault.PageFault.TheVariants.{Save}
 use Rattle.wap_world.specs.World.{World}
 use Rattle.wap_world.specs.Steps.{Step, then_step}
 use Rattle.wap_world.specs.Sites.{Site}
-use Rattle.wap_world.specs.Sessions.{Begun}
+use Rattle.wap_world.specs.Sessions.{Begun, unpushed, session, played}
 use Rattle.wap_world.specs.scripting.UnitSites.{Pages}
 use Rattle.wap_context.specs.Sites.{site_of}
 use Rattle.wap_state.specs.Saved.{parts_of, saved_world, IsAtRest}
 use Rattle.wap_cli.specs.Memory.{is_of_memory}
 use Rattle.wap_cli.specs.saving.Saving.{image_of}
 use Rattle.wap_cli.specs.declared.status.Status.{Status}
-use Rattle.wap_cli.specs.declared.status.Status.TheVariants.{Done, Refused, WriteFault, NoMemory}
-use Rattle.wap_cli.specs.Statuses.{IsOrWants}
+use Rattle.wap_cli.specs.declared.status.Status.TheVariants.{Done, Refused, NoMemory}
+use Rattle.wap_cli.specs.Writing.{PutsTo}
 use Rattle.wap_cli.specs.browse.Outside.{Outside}
 use Rattle.wap_cli.specs.browse.Plays.{Play, AreUnitPages, HaveNoPush}
 use Rattle.wap_cli.specs.browse.Headline.{Browses}
 
 -- ---- an image
 
--- a command ends so that writes this image, or has this cause that there is none
-abbrev pub EndsBy : Result (List ℕ) SaveFault → Status → Type 0
-EndsBy (Ok image) status = (status ≡ Done) ⊎ (status ≡ WriteFault) ⊎ (status ≡ NoMemory)
-EndsBy (Err why) status = IsOrWants (Refused (Save why)) status
-
--- it is written, if there is one: the sink before and after, and how that ended
-pub record WritesImage (image : Result (List ℕ) SaveFault) (before after : SinkSeen)
-    (status : Status) : Type 0 where
-  -- Refused comes exactly where there is none, for its cause
-  pub ends : EndsBy image status
-  -- on Done it was written whole, and where the sink failed a prefix of it
-  pub done : status ≡ Done
-      → (bytes : List ℕ) × (image ≡ Ok bytes) × Appends before.taken after.taken bytes
-  pub write_fault : status ≡ WriteFault
-      → (bytes : List ℕ) × (image ≡ Ok bytes) × AppendsPrefix before.taken after.taken bytes
-  -- and else nothing was
-  pub unwritten : status ≢ Done → status ≢ WriteFault → after ≡ before
-  -- WriteFault comes only where the count of faults rose, and no fault is passed over
-  pub failed : status ≡ WriteFault → Rose before.faults after.faults
-  pub steady : status ≢ WriteFault → after.faults ≡ before.faults
-  pub counts : before.faults ≤ after.faults
+-- a command ends that is to write this image, or has this cause that there is none: the sink before
+-- and after; with each status, and with no other
+pub data WritesImage (image : Result (List ℕ) SaveFault) (before after : SinkSeen) : Status → Type 0
+  where
+    writes : (status : Status) (bytes : List ℕ) → image ≡ Ok bytes
+        → PutsTo bytes before after status → WritesImage image before after status
+    refused : (why : SaveFault) → image ≡ Err why → after ≡ before
+        → WritesImage image before after (Refused (Save why))
+    no_memory : after ≡ before → WritesImage image before after NoMemory
 
 -- if the world is at rest, these are all of it but for the turns of a key
 abbrev pub IsWhole : ContextParts → World → Type 0
@@ -61,12 +47,12 @@ IsWhole parts world = IsAtRest world → saved_world parts ≡ record world { bu
 
 -- where a session with an inbox begins so: its URL is opened before they are played
 abbrev pub opened_at : Begun → Site → List Key → Step
-opened_at begun site keys = (session_with push_at site begun keys).step
+opened_at begun site keys = (session push_at site begun keys).step
 
 -- where it goes on in this world, with an empty inbox
 abbrev pub played_at : World → Site → List Key → Step
 played_at world site keys =
-    (played_with push_at site keys (record { world = world; pushes = [] })).step
+    (played push_at site keys (unpushed world)).step
 
 -- the same over pages
 abbrev pub played_in : World → Play

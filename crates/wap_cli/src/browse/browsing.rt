@@ -12,11 +12,11 @@ use crate::browse::playing::play;
 use crate::browse::reading::play_keys;
 use std::alloc::Global;
 use wap_devices::{Sink, Source};
-use wap_session::handset::{Handset, Key};
+use wap_session::{Key, Session};
 use wap_world::site::Pages;
 
 /// Opens the URL, and then plays key after key: in a dialog they answer it. The lines of each are
-/// written before the next is read. Gives the handset back as it is then.
+/// written before the next is read. Gives the session back as it is then.
 ///
 /// The status is `Done` where the keys end outside a dialog, and `OpenDialog` where they end in
 /// one. With `BadKey`, `TooManyKeys` and `KeyReadFault` the lines of the key lines before were
@@ -28,7 +28,7 @@ pub fn browse_session<P: Pages, I: Source, O: Sink>(
     pages: &mut P,
     keys: &mut I,
     out: &mut O,
-) -> (Status, Handset)
+) -> (Status, Session)
     requires limits { AreInRange begun.limits }
     ensures browses { BrowsesSeen (opened (begun_with begun))
         (record { pages = P.seen pages.old; source = I.seen keys.old; sink = O.seen out.old })
@@ -39,13 +39,13 @@ pub fn browse_session<P: Pages, I: Source, O: Sink>(
         (record { pages = P.seen pages.new; source = I.seen keys.new; sink = O.seen out.new })
         result.1 }
 {
-    let mut handset = Handset::new(alloc, begun.seed, begun.budget, begun.limits);
+    let mut session = Session::new(alloc, begun.seed, begun.budget, begun.limits);
     let first = Key::Open(begun.url);
-    if let Err(status) = play(alloc, &mut handset, &first, pages, out) {
-        return (status, handset);
+    if let Err(status) = play(alloc, &mut session, &first, pages, out) {
+        return (status, session);
     }
-    let status = play_keys(alloc, &mut handset, pages, keys, out);
-    (status, handset)
+    let status = play_keys(alloc, &mut session, pages, keys, out);
+    (status, session)
 }
 
 /// Opens the URL, and then plays key after key, and ends as `browse_session` does.

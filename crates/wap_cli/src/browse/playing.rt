@@ -8,24 +8,24 @@ use crate::Status;
 use std::alloc::Global;
 use wap_devices::{Failed, Sink, write_all};
 use wap_layout::buffer::Lines;
-use wap_session::handset::{Handset, Key, SessionFault};
+use wap_session::{Key, Session, SessionFault};
 use wap_world::site::Pages;
 
 /// Plays a key, and writes the lines that it shows; or answers how the session ends.
 pub(crate) fn play<P: Pages, O: Sink>(
     alloc: Global,
-    handset: &mut Handset,
+    session: &mut Session,
     key: &Key,
     pages: &mut P,
     out: &mut O,
 ) -> Result<(), Status>
-    requires { handset.old.is_over ≡ false }
+    requires { session.old.is_over ≡ false }
     ensures { Plays key.now
-        (record { pages = P.seen pages.old; state = handset.old; sink = O.seen out.old })
-        (record { pages = P.seen pages.new; state = handset.new; sink = O.seen out.new })
+        (record { pages = P.seen pages.old; state = session.old; sink = O.seen out.old })
+        (record { pages = P.seen pages.new; state = session.new; sink = O.seen out.new })
         result }
 {
-    let lines = match handset.feed(alloc, key, pages) {
+    let lines = match session.feed(alloc, key, pages) {
         Ok(lines) => lines,
         Err(SessionFault::Store) => return Err(Status::StoreFault),
         Err(SessionFault::NoMemory) => return Err(Status::NoMemory),
@@ -41,21 +41,21 @@ pub(crate) fn play<P: Pages, O: Sink>(
 /// line of that, which is made already.
 pub(crate) fn play_read<P: Pages, O: Sink>(
     alloc: Global,
-    handset: &mut Handset,
+    session: &mut Session,
     key: Key,
     ignored: &Lines,
     pages: &mut P,
     out: &mut O,
 ) -> Result<(), Status>
-    requires going { handset.old.is_over ≡ false }
+    requires going { session.old.is_over ≡ false }
     requires ignored { ignored.now ≡ refusal_line Ignored ∷ [] }
     ensures { Plays key
-        (record { pages = P.seen pages.old; state = handset.old; sink = O.seen out.old })
-        (record { pages = P.seen pages.new; state = handset.new; sink = O.seen out.new })
+        (record { pages = P.seen pages.old; state = session.old; sink = O.seen out.old })
+        (record { pages = P.seen pages.new; state = session.new; sink = O.seen out.new })
         result }
 {
-    if !handset.try_ignore(&key) {
-        return play(alloc, handset, &key, pages, out);
+    if !session.try_ignore(&key) {
+        return play(alloc, session, &key, pages, out);
     }
     match write_all(out, ignored.as_written()) {
         Ok(()) => Ok(()),

@@ -12,32 +12,32 @@ use std::alloc::Global;
 use wap_base::NoMemory;
 use wap_devices::{Sink, Source};
 use wap_keys::{Next, Reader};
-use wap_session::handset::{Handset, refusal_lines};
+use wap_session::{Session, refusal_lines};
 use wap_world::Refusal;
 use wap_world::site::Pages;
 
-/// Plays key after key of a source in a handset in which nothing failed: in a dialog they answer
+/// Plays key after key of a source in a session in which nothing failed: in a dialog they answer
 /// it. The lines of each are written before the next is read. Whatever led to here, keys come from
 /// there to what they come to.
 pub fn play_keys<P: Pages, I: Source, O: Sink>(
     alloc: Global,
-    handset: &mut Handset,
+    session: &mut Session,
     pages: &mut P,
     keys: &mut I,
     out: &mut O,
 ) -> Status
-    requires { handset.old.is_over ≡ false }
+    requires { session.old.is_over ≡ false }
     ensures browses { (play : Play) (from : Moved) → Browsed play [] from
-        (record { pages = P.seen pages.old; sink = O.seen out.old }) handset.old
+        (record { pages = P.seen pages.old; sink = O.seen out.old }) session.old
         → BrowsesSeen play (outside_of from (I.seen keys.old))
         (record { pages = P.seen pages.new; source = I.seen keys.new; sink = O.seen out.new })
         result }
     ensures rests { (play : Play) (from : Moved) → Browsed play [] from
-        (record { pages = P.seen pages.old; sink = O.seen out.old }) handset.old
+        (record { pages = P.seen pages.old; sink = O.seen out.old }) session.old
         → result ≡ Status.Done
         → Rests play (outside_of from (I.seen keys.old))
         (record { pages = P.seen pages.new; source = I.seen keys.new; sink = O.seen out.new })
-        handset.new }
+        session.new }
 {
     let mut reader = Reader::new(alloc);
     let Ok(ignored) = refusal_lines(alloc, Refusal::Ignored) else {
@@ -46,10 +46,10 @@ pub fn play_keys<P: Pages, I: Source, O: Sink>(
     loop {
         let key = match reader.next(alloc, keys) {
             Ok(Next::Key(key)) => key,
-            Ok(Next::Ended(ending)) => return status_of(handset.in_dialog(), ending),
+            Ok(Next::Ended(ending)) => return status_of(session.in_dialog(), ending),
             Err(NoMemory) => return Status::NoMemory,
         };
-        if let Err(status) = play_read(alloc, handset, key, &ignored, pages, out) {
+        if let Err(status) = play_read(alloc, session, key, &ignored, pages, out) {
             return status;
         }
     }

@@ -1,13 +1,15 @@
 //! Commands on a document.
-ghost use Rattle.std.specs.Prelude.{◌≡◌, ℕ, List, IfOk, OnOk, Ok, Err};
+ghost use Rattle.std.specs.Prelude.{◌≡◌, IfOk, OnOk, Ok, Err};
 ghost use Rattle.wap_base.specs.Outcome.{Meets};
 ghost use Rattle.wap_tokens.specs.declared.markup.document.Document.{Document};
 ghost use Rattle.wap_tokens.specs.markup.Documents.{IsDocument};
 ghost use Rattle.wap_tokens.specs.markup.Decks.{deck_of};
 ghost use Rattle.wap_tokens.specs.markup.Good.{IsGood};
 ghost use Rattle.wap_tokens.specs.markup.Normal.{IsNormal};
-ghost use Rattle.wap_cli.specs.inspect.Documents.{IsCanonical, deck_line, IsDeckOf, IsCheckLine};
-ghost use Rattle.wap_pages.specs.Refusals.{RefusesDocument, IsDeckRefused, RefusesCheck};
+ghost use Rattle.wap_keys.specs.declared.words.words.PageCommand.TheVariants as command;
+ghost use Rattle.wap_cli.specs.Answers.{Finds};
+ghost use Rattle.wap_cli.specs.inspect.Documents.{deck_line, IsDeckOf};
+ghost use Rattle.wap_pages.specs.Refusals.{IsDeckRefused, RefusesCheck};
 ghost use Rattle.wap_pages.specs.declared.fault.PageErr.TheVariants as error;
 ghost use Rattle.wap_pages.specs.declared.fault.PageFault.{PageFault};
 
@@ -21,11 +23,7 @@ use wap_wbxml::spelling::{documents_are_spellable, encode};
 
 /// The one spelling of a page that is a document.
 pub fn canonical(alloc: Global, bytes: &[u8]) -> Result<Bytes, PageErr>
-    ensures found { IfOk result (λ text. IsCanonical bytes.now text) }
-    ensures only { (text : List ℕ) → IsCanonical bytes.now text
-        → Meets error.NoMemory (λ text. text) result (Ok text) }
-    ensures refused { (fault : PageFault) → result ≡ Err (error.Refused fault)
-        → RefusesDocument bytes.now fault }
+    ensures { Finds command.Canon bytes.now result }
 {
     documents_are_spellable(bytes);
     let document = document_in(alloc, bytes)?;
@@ -60,11 +58,7 @@ fn good_deck_in(alloc: Global, bytes: &[u8]) -> Result<Deck, PageErr>
 
 /// The line of a page that is a document with a good deck.
 pub fn check_line(alloc: Global, bytes: &[u8]) -> Result<Bytes, PageErr>
-    ensures found { IfOk result (λ line. IsCheckLine bytes.now line) }
-    ensures only { (line : List ℕ) → IsCheckLine bytes.now line
-        → Meets error.NoMemory (λ line. line) result (Ok line) }
-    ensures refused { (fault : PageFault) → result ≡ Err (error.Refused fault)
-        → RefusesCheck bytes.now fault }
+    ensures { Finds command.Check bytes.now result }
 {
     let deck = good_deck_in(alloc, bytes)?;
     Ok(line_of(alloc, &deck)?)

@@ -1,10 +1,8 @@
 //! Commands on a compiled unit.
-ghost use Rattle.std.specs.Prelude.{◌≡◌, ◌<◌, ◌^◌, List, ℕ, length, IfOk, Ok, Err};
-ghost use Rattle.wap_base.specs.Outcome.{Meets};
-ghost use Rattle.wap_cli.specs.inspect.Units.{unit_line, IsVerifyLine};
-ghost use Rattle.wap_pages.specs.Refusals.{RefusesVerify};
-ghost use Rattle.wap_pages.specs.declared.fault.PageErr.TheVariants as error;
-ghost use Rattle.wap_pages.specs.declared.fault.PageFault.{PageFault};
+ghost use Rattle.std.specs.Prelude.{◌≡◌, ◌<◌, ◌^◌, length, IfOk};
+ghost use Rattle.wap_keys.specs.declared.words.words.PageCommand.TheVariants as command;
+ghost use Rattle.wap_cli.specs.Answers.{Finds};
+ghost use Rattle.wap_cli.specs.inspect.Units.{unit_line};
 
 use itoa::Buffer;
 use std::alloc::Global;
@@ -15,11 +13,7 @@ use wap_unit::Unit;
 /// The line of a page that is a unit which may be run.
 pub fn verify_line(alloc: Global, bytes: &[u8]) -> Result<Bytes, PageErr>
     requires { length bytes.now < 2 ^ 32 }
-    ensures found { IfOk result (λ line. IsVerifyLine bytes.now line) }
-    ensures only { (line : List ℕ) → IsVerifyLine bytes.now line
-        → Meets error.NoMemory (λ line. line) result (Ok line) }
-    ensures refused { (fault : PageFault) → result ≡ Err (error.Refused fault)
-        → RefusesVerify bytes.now fault }
+    ensures { Finds command.Verify bytes.now result }
 {
     let verified = verified_in(alloc, bytes)?;
     Ok(line_of(alloc, verified.unit())?)

@@ -6,7 +6,7 @@ ghost use Rattle.wap_cli.specs.prepare.Reports.{IsEntry, report};
 ghost use Rattle.wap_cli.specs.prepare.Fetching.{AsksFor};
 ghost use Rattle.wap_cli.specs.prepare.Preparing.{Prepares};
 ghost use Rattle.wap_cli.specs.prepare.inside.Jobs.{IsRight};
-ghost use Rattle.wap_cli.specs.prepare.Writing.{PutsTo};
+ghost use Rattle.wap_cli.specs.Writing.{PutsTo};
 
 use crate::Status;
 use crate::prepare::fetching::fetch_all;

@@ -22,7 +22,7 @@ use wap_base::{NoMemory, Rows, Text};
 use wap_devices::Gate;
 use wap_folder::{Work, run_jobs};
 use wap_layout::buffer::Lines;
-use wap_session::handset::{Handset, Key, SessionFault};
+use wap_session::{Key, Session, SessionFault};
 
 /// Appends the line before a list's transcript: the number of the list, and how its session ended.
 fn add_header(text: &mut Vec<u8>, number: usize, is_open: bool) -> Result<(), NoMemory>
@@ -55,7 +55,7 @@ struct Played {
 }
 
 /// Plays a list by a session of its own. No store stands below the pages that could fail, and the
-/// handset isn't over, so that memory is all that may be missing.
+/// session isn't over, so that memory is all that may be missing.
 fn play(
     alloc: Global,
     pages: &Prepared,
@@ -70,14 +70,14 @@ fn play(
 {
     let first = opening(alloc, &begun.url)?;
     let mut shared = pages.pages();
-    let mut handset = Handset::new(alloc, begun.seed, begun.budget, begun.limits);
-    let opened = match handset.feed(alloc, &first, &mut shared) {
+    let mut session = Session::new(alloc, begun.seed, begun.budget, begun.limits);
+    let opened = match session.feed(alloc, &first, &mut shared) {
         Ok(lines) => lines,
         Err(SessionFault::NoMemory) => return Err(NoMemory),
         Err(SessionFault::Store) => unreachable!(),
         Err(SessionFault::Ended) => unreachable!(),
     };
-    let played = match handset.play(alloc, keys, &mut shared) {
+    let played = match session.play(alloc, keys, &mut shared) {
         Ok(lines) => lines,
         Err(SessionFault::NoMemory) => return Err(NoMemory),
         Err(SessionFault::Store) => unreachable!(),
@@ -86,7 +86,7 @@ fn play(
     Ok(Played {
         opened,
         played,
-        is_open: handset.in_dialog(),
+        is_open: session.in_dialog(),
     })
 }
 

@@ -2,7 +2,7 @@
 ghost use Rattle.std.specs.Prelude.{◌<◌};
 ghost use Rattle.wap_base.specs.Limits.{AreInRange};
 ghost use Rattle.wap_cli.specs.prepare.Working.{WorksOnAll};
-ghost use Rattle.wap_cli.specs.prepare.Writing.{PutsTo};
+ghost use Rattle.wap_cli.specs.Writing.{PutsTo};
 ghost use Rattle.wap_world.specs.scripting.UnitSites.{unit_pages};
 ghost use Rattle.wap_context.specs.Sites.{site_of};
 ghost use Rattle.wap_cli.specs.replay.Texts.{replayed};

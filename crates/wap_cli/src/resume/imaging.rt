@@ -36,12 +36,9 @@ pub fn image<P: Pages, I: Source, O: Sink>(
     let mut dropped = Nowhere {
         taken: History::new(),
     };
-    let (status, handset) = browse_session(alloc, begun, pages, keys, &mut dropped);
+    let (status, session) = browse_session(alloc, begun, pages, keys, &mut dropped);
     let Status::Done = status else {
         return status;
-    };
-    let Some(session) = handset.session() else {
-        unreachable!();
     };
     let Some(context) = session.context() else {
         unreachable!();

@@ -16,7 +16,6 @@ use wap_context::{Context, ContextParts, Revived};
 use wap_devices::{Sink, Source, Store};
 use wap_pages::{Cached, PageFault};
 use wap_session::Session;
-use wap_session::handset::Handset;
 
 /// Goes on with what was saved, over the pages of a store, and gives the store back.
 fn go_on<S: Store, I: Source, O: Sink>(
@@ -54,8 +53,8 @@ fn go_on<S: Store, I: Source, O: Sink>(
     };
     match Context::revive(alloc, parts, &mut pages) {
         Ok(Revived::Context(context)) => {
-            let mut handset = Handset::of(alloc, Session::of(context, turns));
-            let status = play_keys(alloc, &mut handset, &mut pages, keys, out);
+            let mut session = Session::of(alloc, context, turns);
+            let status = play_keys(alloc, &mut session, &mut pages, keys, out);
             (status, pages.into_store())
         }
         Ok(Revived::Missing) => (Status::Refused(PageFault::Missing), pages.into_store()),

@@ -1,21 +1,19 @@
 -- Calls of libraries: functions that no library has, and results within the limit of Strings.
-use Rattle.std.proofs.Common.{◌≡◌, ◌∙◌, ◌≤◌, ℕ, List, [], ◌∷◌, Bool, true, false, Option, Some}
-use Rattle.std.proofs.Common.{None, zero, suc, length, refl, sym, ap, ap₂, subst, arith}
-use Rattle.std.specs.Prelude.{◌≢◌, slice_get, Ok, Err, if◌then◌else◌, nat_lt}
+use Rattle.std.proofs.Common.{◌≡◌, ◌∙◌, ℕ, List, Bool, true, false, Option, Some}
+use Rattle.std.proofs.Common.{None, refl, sym, ap, ap₂, subst}
+use Rattle.std.specs.Prelude.{◌≢◌, Ok, Err, if◌then◌else◌, nat_lt}
 use Rattle.std.proofs.lemmas.Bool.{ne_eqb}
 use Rattle.wap_base.specs.Utf8.{utf8_len}
 use Rattle.wap_value.specs.declared.value.Value.{Value}
 use Rattle.wap_value.specs.declared.value.Value.TheVariants.{Int, Bool as Boolean, Str, Invalid}
 use Rattle.wap_value.specs.declared.fault.ValueFault.TheVariants.{TooLong}
 use Rattle.wap_libs.specs.declared.outcome.LibOut.TheVariants as lib
-use Rattle.wap_libs.specs.Generator.{Generator}
 use Rattle.wap_unit.specs.Libraries.{lib_args}
 use Rattle.wap_libs.proofs.LawsLemmas.Tables.{handed}
 use Rattle.wap_libs.specs.Libraries.{function_at, row_of, IsPure}
-use Rattle.wap_libs.specs.Outcome.{outcome, generator_after, limited}
-use Rattle.wap_libs.specs.Row.{gives, of_none, applied, arguments}
+use Rattle.wap_libs.specs.Row.{arguments}
 use Rattle.wap_libs.specs.declared.function.Function.{Function}
-use Rattle.std.specs.Option.{option_map, option_map_or}
+use Rattle.std.specs.Option.{option_map}
 use Rattle.wap_execution.specs.declared.library.HostOut.{HostOut}
 use Rattle.wap_execution.specs.declared.library.HostOut.TheVariants as out
 use Rattle.wap_machine.specs.Hosts.{IsNoBudget}
@@ -28,12 +26,6 @@ use Rattle.wap_context.specs.host.Stages.{Sight}
 use Rattle.wap_context.specs.host.Serving.{Gave}
 
 -- ---- functions that aren't there
-
-past : {X : Type 0} (functions : List X) (number : ℕ) → length functions ≤ number
-    → slice_get functions number ≡ None
-past [] number is = refl
-past (one ∷ others) zero is = absurd (omega arith)
-past (one ∷ others) (suc number) is = past others number (omega arith)
 
 -- ---- results within the limit
 
@@ -68,21 +60,6 @@ within_gave row old new given kept_out gave is = record {
 }
 
 -- ---- a function that no library has
-
-none_by : (string : ℕ) (args : List Value) (g : Generator) (function : Option Function)
-    → function ≡ None
-    → (limited string (applied (option_map_or row_of function (gives (of_none Invalid))) args g).0
-    ≡ Ok (lib.Value Invalid))
-    × ((applied (option_map_or row_of function (gives (of_none Invalid))) args g).1 ≡ g)
-none_by string args g None is = (refl, refl)
-none_by string args g (Some function) is = absurd (cc)
-
-pub none_gives : (string library number : ℕ) (args : List Value) (g : Generator)
-    → function_at library number ≡ None
-    → (outcome string library number args g ≡ Ok (lib.Value Invalid))
-    × (generator_after library number args g ≡ g)
-none_gives string library number args g is =
-    none_by string args g (function_at library number) is
 
 -- ---- a function that needs no browser takes as many arguments as a call hands over
 

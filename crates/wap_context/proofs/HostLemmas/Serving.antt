@@ -1,15 +1,13 @@
 -- Calls that ask for a page, and calls that don't, as calls of a host.
-use Rattle.std.proofs.Common.{◌≡◌, ◌∙◌, ◌≤◌, ◌+◌, ℕ, Bool, true, false, List, [], ◌∷◌, ◌++◌}
-use Rattle.std.proofs.Common.{Option, Some, None, Ok, Err, refl, sym, ap, subst, arith}
+use Rattle.std.proofs.Common.{◌≡◌, ◌∙◌, ◌+◌, ℕ, Bool, true, false, List, [], ◌∷◌, ◌++◌}
+use Rattle.std.proofs.Common.{Option, Some, None, Ok, Err, refl, sym, ap, subst}
 use Rattle.std.proofs.Common.{append-nil}
 use Rattle.std.specs.Prelude.{if◌then◌else◌, Result, IfSome, IsErr, IsErrAnd}
 use Rattle.std.proofs.lemmas.Bool.{false≢true}
 use Rattle.std.proofs.Math.Path.{fun_ext}
 use Rattle.std.specs.Option.{option_map}
-use Rattle.std.proofs.Math.Nat.{le_refl, le_trans, le-min, min-le_left, min-le_right}
-use Rattle.wap_base.specs.Count.{raised, greatest_count, Rose}
 use Rattle.wap_base.specs.declared.fault.RunErr.{RunErr}
-use Rattle.wap_base.specs.declared.fault.RunErr.TheVariants.{Store, NoMemory}
+use Rattle.wap_base.specs.declared.fault.RunErr.TheVariants.{NoMemory}
 use Rattle.wap_url.specs.declared.url.Url.{Url}
 use Rattle.wap_url.specs.Printing.{name_for}
 use Rattle.wap_tokens.specs.declared.markup.deck.Deck.{Deck}
@@ -18,12 +16,12 @@ use Rattle.wap_execution.specs.declared.library.HostOut.TheVariants as out
 use Rattle.wap_value.specs.declared.value.Value.TheVariants.{Invalid}
 use Rattle.wap_world.specs.scripting.Browsing.{gives}
 use Rattle.wap_world.specs.scripting.Hosting.{within}
-use Rattle.wap_machine.specs.Hosts.{Gives, Fetches}
+use Rattle.wap_machine.specs.Hosts.{Gives}
 use Rattle.wap_world.specs.declared.site.page.Page.{Page}
 use Rattle.wap_world.specs.site.Pages.{Pages as JudgedPages, page_of, AreSitePages}
 use Rattle.wap_world.specs.site.Misses.{Cache, Asked as Question, is_miss, after_asking, after_all}
 use Rattle.wap_world.specs.site.Misses.{misses}
-use Rattle.wap_world.specs.site.Asking.{Seen, raised_by, RaisedWithin, Stays}
+use Rattle.wap_world.specs.site.Asking.{Seen, raised_by}
 use Rattle.wap_world.proofs.SiteLemmas.Asking.{Stays-same}
 use Rattle.wap_world.specs.Requests.{plain_get, request_line}
 use Rattle.wap_world.specs.Shelves.{Shelf}
@@ -31,9 +29,8 @@ use Rattle.wap_world.specs.World.{World}
 use Rattle.wap_world.specs.Steps.{Step}
 use Rattle.wap_world.specs.scripting.UnitSites.{Pages, shelf_of, unit_pages}
 use Rattle.wap_world.specs.scripting.Views.{Counted, View, counted_all, added}
-use Rattle.wap_context.specs.host.Stages.{Sight, counted_in, view_in, count_of}
+use Rattle.wap_context.specs.host.Stages.{Sight, counted_in, view_in}
 use Rattle.wap_context.specs.host.Serving.{begun, Gave, done_by, Serves, question, AsksFor}
-use Rattle.wap_context.specs.host.inside.Counting.{count_in}
 
 -- ---- views
 
@@ -110,17 +107,6 @@ pub gave_serves : (rule : View → HostOut × Step) (row : Step → HostOut × S
 gave_serves rule row old new out gave is seen =
     each_serves rule (λ shelf. row) old new out (λ shelf. gave) is seen
 
--- a call that ran out of memory before it asked
-pub lacks_memory : {A : Type 0} (rule : View → A × Step) (old new : Sight) (before after : Seen)
-    → Stays before after → Serves rule old new before after (Err NoMemory)
-lacks_memory rule old new before after stays = record {
-  told = tt;
-  steady = tt;
-  failed = λ failed. absurd (cc);
-  fetched = λ failed. absurd (cc);
-  stays = stays;
-}
-
 -- ---- what is counted where a page is asked for
 
 module _ (one : Question) where
@@ -141,41 +127,6 @@ module _ (one : Question) where
       ap (λ (c : Option Cache). counted_of c more) is
       ∙ ap (λ (n : ℕ). counted_of (Some (after_asking one cache)) n)
       (so ∙ one_more (is_miss one cache) fetches)
-
-  rose_one : (count : ℕ) → Rose (count_of count) (count_of (raised count))
-  rose_one count =
-      le-min
-      (le-min (le_trans (min-le_left (count_of count + 1) greatest_count) (fewer count))
-      (min-le_right (count_of count + 1) greatest_count))
-      (min-le_right (count_of count + 1) greatest_count)
-    where
-      fewer : (n : ℕ) → count_of n + 1 ≤ n + 1
-      fewer n = let least = min-le_left n greatest_count in omega arith
-
-  fetches_one : (is_one : Bool) (fetches more : ℕ)
-      → RaisedWithin ((if is_one then 1 else 0) + 0) fetches more
-      → Rose (count_of fetches) (count_of more)
-      × (count_of more ≤ count_of (raised_by (if is_one then 1 else 0) fetches))
-  fetches_one false fetches more within =
-      let some = within.some in let few = within.few in absurd (omega arith)
-  fetches_one true fetches more within =
-      let some = within.some in
-      let few = within.few in
-      let single : within.more ≡ 1 = omega arith in
-      let is : more ≡ raised fetches =
-      within.count ∙ ap (λ (n : ℕ). raised_by n fetches) single in (
-        subst (λ (n : ℕ). Rose (count_of fetches) (count_of n)) (sym is) (rose_one fetches),
-        subst (λ (n : ℕ). count_of n ≤ count_of (raised fetches)) (sym is)
-            (le_refl (count_of (raised fetches))),
-      )
-
-  fetches_by : (cache : Option Cache) (fetches more : ℕ)
-      → IfSome cache (λ c. RaisedWithin (misses all c) fetches more)
-      → Fetches (count_in (counted_of cache fetches)) (count_of more)
-      (count_in (counted_all all (counted_of cache fetches)))
-  fetches_by None fetches more within = tt
-  fetches_by (Some cache) fetches more within =
-      fetches_one (is_miss one cache) fetches more within
 
 -- ---- a call that asks for a page
 
@@ -239,29 +190,6 @@ module _ {A : Type 0} (url : Url) (rule : View → A × Step) (answer : Page →
     fetched = λ failed. absurd (cc);
     stays = asks.stays;
   }
-
-  -- the page wasn't to be had
-  pub failed_serves : (new : Sight) (before after : Seen) (err : RunErr)
-      → AsksFor url old new before after (Err err) → Serves rule old new before after (Err err)
-  failed_serves new before after err asks = record {
-    told = tt;
-    steady = tt;
-    failed = λ failed. (asks.failed (store failed)).rose;
-    fetched = λ failed judged may.
-        let counted = counted_in before in
-        let come = comes judged counted (asks.failed_site (store failed) judged may) in
-        subst (λ (a : List Question).
-        Fetches (count_in counted) (count_of after.fetches) (count_in (counted_all a counted)))
-        (sym come.asked) (fetches_by (question url) before.cache before.fetches after.fetches
-        (asks.failed (store failed)).fetches);
-    stays = asks.stays;
-  }
-    where
-      refused : (X : Type 0) → RunErr → Result X RunErr
-      refused X why = Err why
-
-      store : refused A err ≡ refused A Store → refused Page err ≡ refused Page Store
-      store is = cc
 
 -- memory ran out before anything was asked
 pub asks_nothing : (url : Url) (old new : Sight) (seen : Seen) (result : Result Page RunErr)

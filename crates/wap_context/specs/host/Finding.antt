@@ -35,12 +35,10 @@ found_in caller url unit function count depth working =
 
 -- the same in a page
 abbrev pub found_on : Url → Url → Page → List ℕ → (count depth working : ℕ) → Found Unit
-found_on caller url (page.Deck deck) function count depth working = Not fatal.UnitRefused
 found_on caller url (page.Script unit) function count depth working =
     found_in caller url unit function count depth working
-found_on caller url (page.Words text) function count depth working = Not fatal.UnitRefused
-found_on caller url page.Refused function count depth working = Not fatal.UnitRefused
 found_on caller url page.Missing function count depth working = Not fatal.NoUnit
+found_on caller url other function count depth working = Not fatal.UnitRefused
 
 -- what a page gives that is loaded as a text, within the limit of Strings
 abbrev pub loaded_text : ℕ → Url → Page → HostOut

@@ -63,18 +63,15 @@ HasDeck url deck shelf = deck_at shelf url ≡ Some deck
 -- the deck that a page is, or why none is gone back to
 abbrev pub deck_answer : Page → Result Deck Refusal
 deck_answer (page.Deck deck) = Ok deck
-deck_answer (page.Script unit) = Err refusals.Refused
-deck_answer (page.Words text) = Err refusals.Refused
-deck_answer page.Refused = Err refusals.Refused
 deck_answer page.Missing = Err refusals.Missing
+deck_answer other = Err refusals.Refused
 
 -- the same of a page that is asked for, or the script that it is
 abbrev pub page_answer : Page → Result (Result Deck Refusal) Unit
 page_answer (page.Deck deck) = Ok (Ok deck)
 page_answer (page.Script unit) = Err unit
-page_answer (page.Words text) = Ok (Err refusals.Refused)
-page_answer page.Refused = Ok (Err refusals.Refused)
 page_answer page.Missing = Ok (Err refusals.Missing)
+page_answer other = Ok (Err refusals.Refused)
 
 -- the shelf is the browser's, and has the deck that answers
 abbrev pub Answers : Url → Result Deck Refusal → Browser → Shelf → Type 0
@@ -96,15 +93,13 @@ pub record Asked (request : Request) (seen after : Seen) (before shown : List Li
 
 -- the task that is next
 abbrev pub next_in : Went → Option Next
-next_in Settled = None
 next_in (Leads task from) = Some (record { task = task; from = from })
-next_in (AsksUser dialog paused) = None
+next_in other = None
 
 -- the dialog that waits, with the script that asks
 abbrev pub waits_in : Went → Option Waits
-waits_in Settled = None
-waits_in (Leads task from) = None
 waits_in (AsksUser dialog paused) = Some (waits_of dialog paused)
+waits_in other = None
 
 -- a rule for the keys after a navigation: what was done without them
 pub record Goes (pages : Pages) (rule : List Key → Once) (seen now : Seen) (new : Browser)

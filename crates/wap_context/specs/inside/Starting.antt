@@ -22,13 +22,13 @@ use Rattle.wap_machine.specs.Standing.{CanEnter}
 use Rattle.wap_machine.specs.Stacks.{Stack}
 use Rattle.wap_machine.specs.Runs.{meant, KeepsLimits}
 use Rattle.wap_machine.specs.declared.machine.Outcome.{Outcome}
-use Rattle.wap_machine.specs.declared.machine.Outcome.TheVariants.{Done, Exited, Fatal as Died, Asks}
+use Rattle.wap_machine.specs.declared.machine.Outcome.TheVariants.{Fatal as Died, Asks}
 use Rattle.wap_cardrules.specs.declared.event.Event.TheVariants as event
 use Rattle.wap_cardrules.specs.declared.task.Task.{Task}
 use Rattle.wap_cardrules.specs.Values.{Pairs}
 use Rattle.wap_world.specs.site.Asking.{Seen, Stays, Asks as AsksFor}
 use Rattle.wap_world.specs.declared.timer.Timer.{Timer}
-use Rattle.wap_world.specs.declared.timer.Timer.TheVariants.{NotStarted, Running, Off, Expired}
+use Rattle.wap_world.specs.declared.timer.Timer.TheVariants.{Off, Expired}
 use Rattle.wap_world.specs.World.{World, Place}
 use Rattle.wap_world.specs.Steps.{Step, Once, still, behind, quiet, settled, after_step}
 use Rattle.wap_world.specs.Setting.{set_variables}
@@ -157,10 +157,8 @@ pub record RunsTo (machine : Stack) (first : List Line) (seen after : Seen) (old
 
 -- whether a timer ran out while the script waited
 abbrev pub is_expired : Timer → Bool
-is_expired NotStarted = false
-is_expired (Running time) = false
-is_expired Off = false
 is_expired Expired = true
+is_expired other = false
 
 -- no navigation is done
 abbrev pub rest_at : Timer → Option Place → World → Once
@@ -185,21 +183,18 @@ failed_at why place world =
 
 -- by what it came to
 abbrev pub end_at : Url → Outcome → Option Place → World → Once
-end_at base (Done v) place world = done_at base world.pending place world
-end_at base (Exited v) place world = done_at base world.pending place world
 end_at base (Died why) place world = failed_at why place world
 end_at base (Asks dialog machine) place world = settled (quiet [] (still world))
+end_at base other place world = done_at base world.pending place world
 
 -- the dialog that waits, with the script that asks
 abbrev pub waits_by : Url → Outcome → Option Waits
-waits_by base (Done v) = None
-waits_by base (Exited v) = None
-waits_by base (Died why) = None
 waits_by base (Asks dialog machine) = Some (waits_of dialog (record {
   limits = machine.limits;
   frames = machine.frames;
   base = base;
 }))
+waits_by base other = None
 
 -- a script isn't started
 abbrev pub not_started_at : Fatal → Option Place → World → Once

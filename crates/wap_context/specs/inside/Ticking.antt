@@ -4,7 +4,7 @@ use Rattle.std.specs.Prelude.{ℕ, ◌-◌, nat_lt, List, Option, Some, None, is
 use Rattle.wap_base.specs.declared.key.Key.{Key}
 use Rattle.wap_cardrules.specs.declared.event.Event.TheVariants as event
 use Rattle.wap_world.specs.declared.timer.Timer.{Timer}
-use Rattle.wap_world.specs.declared.timer.Timer.TheVariants.{NotStarted, Running, Off, Expired}
+use Rattle.wap_world.specs.declared.timer.Timer.TheVariants.{Running}
 use Rattle.wap_world.specs.World.{World, Place}
 use Rattle.wap_world.specs.Steps.{Scene, Step, still, quiet, followed}
 use Rattle.wap_world.specs.Timers.{end_timer}
@@ -17,10 +17,8 @@ use Rattle.wap_context.specs.Sites.{site_of}
 
 -- what remains of a timer that runs, and of that of a card
 abbrev pub left_of : Timer → Option ℕ
-left_of NotStarted = None
 left_of (Running time) = Some time
-left_of Off = None
-left_of Expired = None
+left_of other = None
 
 abbrev pub left_at : Option Place → Timer → Option ℕ
 left_at place timer = if is_some place then left_of timer else None

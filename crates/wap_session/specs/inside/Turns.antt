@@ -1,13 +1,22 @@
 -- A key within a session. This project's own.
-use Rattle.std.specs.Prelude.{List, ◌++◌, ◌≡◌, Bool, true, false, ℕ, Option, Some, None}
+use Rattle.std.specs.Prelude.{List, ◌∷◌, ◌++◌, ◌≡◌, Bool, true, false, ℕ, Option, Some, None}
 use Rattle.wap_base.specs.declared.fault.RunErr.{RunErr}
 use Rattle.wap_base.specs.declared.fault.RunErr.TheVariants as run
+use Rattle.wap_base.specs.declared.key.Key.{Key}
+use Rattle.wap_push.specs.declared.indication.Indication.{Indication}
+use Rattle.wap_push.specs.Pushes.{push_at}
+use Rattle.wap_world.specs.World.{World}
+use Rattle.wap_world.specs.Steps.{Step}
+use Rattle.wap_world.specs.inboxes.Inboxes.{pushes_after}
 use Rattle.wap_world.specs.scripting.Dialogs.{Reply as Meant, answers, ends_it, passes}
-use Rattle.wap_world.specs.scripting.Waiting.{Waits}
+use Rattle.wap_world.specs.scripting.UnitSites.{Pages}
+use Rattle.wap_world.specs.scripting.Waiting.{Waits, resumed_step}
+use Rattle.wap_world.specs.scripting.Feeding.{turned}
 use Rattle.wap_context.specs.declared.waiting.Step.{Step as Did}
 use Rattle.wap_context.specs.Acting.{lines_in, waiting_in}
 use Rattle.wap_context.specs.Browsers.{Browser}
 use Rattle.wap_context.specs.Pausing.{waits_of}
+use Rattle.wap_context.specs.Sites.{fragment_call}
 use Rattle.wap_session.specs.declared.fault.SessionFault.{SessionFault}
 use Rattle.wap_session.specs.declared.fault.SessionFault.TheVariants as session
 use Rattle.wap_session.specs.declared.replies.Reply.{Reply}
@@ -29,13 +38,31 @@ is_over Rest = false
 is_over (Asking asked) = false
 is_over Over = true
 
--- the session with this browser
-abbrev pub state_of : Browser → Standing → State
-state_of browser standing = record {
+-- the session with this browser and these winners
+abbrev pub state_of : Browser → Standing → List Indication → State
+state_of browser standing winners = record {
   browser = browser;
   waiting = waiting_of standing;
+  winners = winners;
   is_over = is_over standing;
 }
+
+-- ---- a key
+
+-- what it does in a dialog that waits
+abbrev pub resumed_rule : Waits → Key → Pages → List Key → World → Step
+resumed_rule waits one pages keys world =
+    resumed_step fragment_call pages waits (one ∷ keys) world
+
+-- what it does by what waits, after these pushes
+abbrev pub turn_rule : Option Waits → List Indication → Key → Pages → List Key → World → Step
+turn_rule waiting pushes one pages keys world = (turned push_at fragment_call pages waiting
+    (record { world = world; pushes = pushes }) one keys).step
+
+-- the pushes that were taken by then; in a dialog none is
+abbrev pub taken_by : Option Waits → List Indication → Key → List Indication
+taken_by None pushes one = pushes_after push_at pushes one
+taken_by (Some waits) pushes one = pushes
 
 -- ---- what a key did
 

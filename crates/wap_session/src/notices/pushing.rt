@@ -3,7 +3,7 @@ ghost use Rattle.std.specs.Prelude.{◌≡◌, ◌∷◌, ◌++◌, [], IfOk, On
 ghost use Rattle.wap_push.specs.Pushes.{push_at};
 ghost use Rattle.wap_push.specs.Inbox.{HaveWinners};
 ghost use Rattle.wap_world.specs.inboxes.Notices.{notice_lines};
-ghost use Rattle.wap_session.specs.notices.Taking.{push_lines, pushes_with};
+ghost use Rattle.wap_world.specs.inboxes.Inboxes.{push_lines, pushes_with};
 
 use crate::notices::lines::{no_push_line, notice_line, one_line};
 use std::alloc::Global;

@@ -4,8 +4,7 @@ use Rattle.std.proofs.Common.{Option, Some, None, refl, sym, ap, ◌∙◌, leb,
 use Rattle.std.proofs.Common.{inr}
 use Rattle.std.proofs.Math.Path.{fun_ext}
 use Rattle.std.proofs.lemmas.Bool.Decides.{eqb_tells}
-use Rattle.std.specs.Prelude.{Result, Ok, Err}
-use Rattle.std.specs.Prelude.{unwrap_or}
+use Rattle.std.specs.Prelude.{Result, Ok, Err, unwrap_or}
 use Rattle.std.specs.Option.{option_map, option_and_then}
 use Rattle.wap_base.specs.declared.limits.Limits.{Limits}
 use Rattle.wap_base.specs.declared.limits.TheConstants.{MOST_DEPTH}
@@ -23,8 +22,8 @@ use Rattle.wap_execution.specs.declared.library.HostOut.{HostOut}
 use Rattle.wap_execution.specs.declared.library.HostOut.TheVariants as out
 use Rattle.wap_execution.specs.Frames.{FunctionOf, Function, code_at, begun}
 use Rattle.wap_execution.specs.Effects.{Called, local, library, external}
-use Rattle.wap_execution.specs.Outcomes.{Outcome, value, exit, fatal, waits, stuck, Ended, Hosting}
-use Rattle.wap_execution.specs.Outcomes.{HostingOf, Setting, SettingOf}
+use Rattle.wap_execution.specs.Outcomes.{Outcome, fatal, waits, stuck, Ended, Hosting, HostingOf}
+use Rattle.wap_execution.specs.Outcomes.{Setting, SettingOf}
 use Rattle.wap_execution.specs.Running.{ended, returned_by, library_gave, entered, called, Calls}
 use Rattle.wap_execution.specs.Running.{began, goes, run_by, enter, resumed, finished}
 use Rattle.wap_execution.specs.laws.Settings.{uncounted}
@@ -34,8 +33,7 @@ use Rattle.wap_execution.proofs.LawsLemmas.ForgetLaws as forget_laws
 use Rattle.wap_execution.proofs.LawsLemmas.FrameLaws.{enters}
 use Rattle.wap_execution.proofs.LawsLemmas.RunLaws.{Any, any_keeps, called_follows, enter_follows}
 use Rattle.wap_world.specs.declared.refusal.Refusal.{Refusal}
-use Rattle.wap_world.specs.Shelves.{Shelf, Shelved, deck_page, script_page, text_page}
-use Rattle.wap_world.specs.Shelves.{refused_page, no_page}
+use Rattle.wap_world.specs.Shelves.{Shelf, Shelved, script_page}
 use Rattle.wap_world.specs.World.{place_now}
 use Rattle.wap_world.specs.Steps.{Step}
 use Rattle.wap_world.specs.Requests.{plain_get, test_of}
@@ -45,21 +43,16 @@ use Rattle.wap_world.specs.scripting.Units.{external_in}
 use Rattle.wap_world.specs.scripting.Additions.{with_test, with_request}
 use Rattle.wap_world.specs.scripting.Dialogs.{by_keys}
 use Rattle.wap_world.specs.scripting.Hosting.{callable, callable_if, found_under, found_at}
-use Rattle.wap_world.specs.scripting.Hosting.{external_call}
-use Rattle.wap_world.specs.scripting.Hosting.{library_call}
-use Rattle.wap_world.specs.scripting.ScriptPages.{PageOf, deck, script, words, refused, page_under}
-use Rattle.wap_world.specs.scripting.ScriptPages.{script_in}
-use Rattle.wap_world.specs.scripting.ScriptPages.{shelved, shelf_by, script_under, externals_by}
-use Rattle.wap_world.specs.scripting.ScriptPages.{keyed_by}
+use Rattle.wap_world.specs.scripting.Hosting.{external_call, library_call}
+use Rattle.wap_world.specs.scripting.ScriptPages.{PageOf, script, page_under, script_in, shelved}
+use Rattle.wap_world.specs.scripting.ScriptPages.{shelf_by, script_under, externals_by, keyed_by}
 use Rattle.wap_world.specs.scripting.UnitSites.{Pages, units, shelf_of, no_unit, unit_under}
-use Rattle.wap_world.specs.scripting.UnitSites.{externals_of}
-use Rattle.wap_world.specs.scripting.UnitSites.{keyed_host, ran_of, started_at, run_unit}
-use Rattle.wap_world.specs.scripting.UnitSites.{units_site}
+use Rattle.wap_world.specs.scripting.UnitSites.{externals_of, keyed_host, ran_of, started_at}
+use Rattle.wap_world.specs.scripting.UnitSites.{run_unit, units_site}
 use Rattle.wap_meaning.specs.Functions.{plain_ways, code_runs, unit_runs}
-use Rattle.wap_world.specs.scripting.Sources.{LanguageOf, Script, of_unit}
-use Rattle.wap_world.specs.scripting.Sources.{of_source, AllPages, both, script_external, meant}
-use Rattle.wap_world.specs.scripting.Sources.{run_script, site_of, Agrees, compiled_script}
-use Rattle.wap_world.specs.scripting.Sources.{compiled_page}
+use Rattle.wap_world.specs.scripting.Sources.{LanguageOf, Script, of_unit, of_source, AllPages}
+use Rattle.wap_world.specs.scripting.Sources.{both, script_external, meant, run_script, site_of}
+use Rattle.wap_world.specs.scripting.Sources.{Agrees, compiled_script, compiled_page}
 use Rattle.wap_world.specs.scripting.Sources.{compiled_pages}
 
 -- ---- frames that are forgotten
@@ -67,48 +60,34 @@ use Rattle.wap_world.specs.scripting.Sources.{compiled_pages}
 -- what is forgotten once is forgotten twice
 twice : {S : Type 0} (outcome : Outcome) (turns : ℕ) (s : S)
     → forgotten (forgotten_by outcome turns s) ≡ forgotten_by outcome turns s
-twice (value v) turns s = refl
-twice (exit v) turns s = refl
-twice (fatal why) turns s = refl
 twice (waits dialog frames) turns s = refl
-twice stuck turns s = refl
+twice outcome turns s = refl
 
 -- turns stay
 same_turns : {S : Type 0} (outcome : Outcome) (turns : ℕ) (s : S)
     → (forgotten_by outcome turns s).turns ≡ turns
-same_turns (value v) turns s = refl
-same_turns (exit v) turns s = refl
-same_turns (fatal why) turns s = refl
 same_turns (waits dialog frames) turns s = refl
-same_turns stuck turns s = refl
+same_turns outcome turns s = refl
 
 -- nothing follows a function that nobody called
 alone_by : {S : Type 0} (set : Setting S) (outcome : Outcome) (turns : ℕ) (s : S)
     → forgotten (returned_by [] (resumed set []) outcome turns s)
     ≡ forgotten (ended outcome turns s)
 unfolding resumed
-alone_by set (value v) turns s = refl
-alone_by set (exit v) turns s = refl
-alone_by set (fatal why) turns s = refl
 alone_by set (waits dialog inner) turns s = refl
-alone_by set stuck turns s = refl
+alone_by set outcome turns s = refl
 
 -- how a script ended doesn't hang on frames
 ended_same : (outcome : Outcome) (turns : ℕ) (s : Step)
     → ran_of (ended outcome turns s) ≡ ran_of (forgotten_by outcome turns s)
-ended_same (value v) turns s = refl
-ended_same (exit v) turns s = refl
-ended_same (fatal why) turns s = refl
 ended_same (waits dialog frames) turns s = refl
-ended_same stuck turns s = refl
+ended_same outcome turns s = refl
 
 -- a library's call has no frames
 library_same : (gave : HostOut) (turns : ℕ) (s : Step)
     → forgotten (library_gave gave turns s) ≡ library_gave gave turns s
-library_same (out.Value v) turns s = refl
-library_same (out.Exit v) turns s = refl
-library_same (out.Fatal why) turns s = refl
 library_same (out.Asks dialog) turns s = refl
+library_same gave turns s = refl
 
 module _ {P : Type 0} (language : LanguageOf P) (compiler : P → Unit)
     (agrees : (one : P) → Agrees language one (compiler one)) (pages : AllPages P) where
@@ -141,12 +120,8 @@ module _ {P : Type 0} (language : LanguageOf P) (compiler : P → Unit)
   shelved_same : (page : Option (PageOf (Script P)))
       → shelved units (option_map (compiled_page language compiler) page)
       ≡ shelved (both language) page
-  shelved_same None = refl
-  shelved_same (Some (deck one)) = refl
-  shelved_same (Some (script (of_unit one))) = refl
   shelved_same (Some (script (of_source one))) = ap script_page (agrees one).entrances
-  shelved_same (Some (words text)) = refl
-  shelved_same (Some refused) = refl
+  shelved_same page = refl
 
   -- both shelves are the same
   shelf_same : (name : List ℕ) → shelf_of others name ≡ shelf_by (both language) pages name
@@ -157,11 +132,8 @@ module _ {P : Type 0} (language : LanguageOf P) (compiler : P → Unit)
   unit_same_in : (page : Option (PageOf (Script P)))
       → unwrap_or (script_in (option_map (compiled_page language compiler) page)) no_unit
       ≡ code_of (unwrap_or (script_in page) (of_unit no_unit))
-  unit_same_in None = refl
-  unit_same_in (Some (deck one)) = refl
   unit_same_in (Some (script one)) = refl
-  unit_same_in (Some (words text)) = refl
-  unit_same_in (Some refused) = refl
+  unit_same_in page = refl
 
   -- and so is a name's
   unit_same : (name : List ℕ)
@@ -175,12 +147,8 @@ module _ {P : Type 0} (language : LanguageOf P) (compiler : P → Unit)
       → option_and_then (λ one. external_in one function)
       (script_in (option_map (compiled_page language compiler) page))
       ≡ option_and_then (λ one. script_external language one function) (script_in page)
-  externals_same_in None function = refl
-  externals_same_in (Some (deck one)) function = refl
-  externals_same_in (Some (script (of_unit one))) function = refl
   externals_same_in (Some (script (of_source one))) function = (agrees one).names function
-  externals_same_in (Some (words text)) function = refl
-  externals_same_in (Some refused) function = refl
+  externals_same_in page function = refl
 
   -- and so has a name
   externals_same : (name function : List ℕ)
@@ -215,22 +183,17 @@ module _ {P : Type 0} (language : LanguageOf P) (compiler : P → Unit)
       ≡ as_unit (callable (scripts name) base count depth working o)
   callable_same name base count depth working None = refl
   callable_same name base count depth working (Some one) =
-      elim (eqb one.arguments count) as (λ (b : Bool).
-      cond b (cond (leb depth working) (Not fatal_is.Depth)
-      (Callee (code_of (scripts name)) base one.index))
-      (Not fatal_is.Arguments)
-      ≡ as_unit (cond b
-      (cond (leb depth working) (Not fatal_is.Depth) (Callee (scripts name) base one.index))
-      (Not fatal_is.Arguments))) [
-        | true ↦
-            elim (leb depth working) as (λ (b : Bool).
-            cond b (Not fatal_is.Depth) (Callee (code_of (scripts name)) base one.index)
-            ≡ as_unit (cond b (Not fatal_is.Depth) (Callee (scripts name) base one.index))) [
-              | true ↦ refl
-              | false ↦ refl
-            ]
-        | false ↦ refl
-      ]
+      by (eqb one.arguments count) (leb depth working)
+    where
+      by : (b c : Bool)
+          → cond b (cond c (Not fatal_is.Depth) (Callee (code_of (scripts name)) base one.index))
+          (Not fatal_is.Arguments)
+          ≡ as_unit (cond b
+          (cond c (Not fatal_is.Depth) (Callee (scripts name) base one.index))
+          (Not fatal_is.Arguments))
+      by true true = refl
+      by true false = refl
+      by false c = refl
 
   -- the same, after the access pragmas
   if_same : (b : Bool) (one : Found Unit) (two : Found (Script P)) → one ≡ as_unit two
@@ -248,7 +211,6 @@ module _ {P : Type 0} (language : LanguageOf P) (compiler : P → Unit)
       → found_under shelf names in_place caller url function count working s page
       ≡ (let found = found_under shelf names scripts caller url function count working s page in
       (as_unit found.0, found.1))
-  under_same caller url function count working s (deck_page one) = refl
   under_same caller url function count working s (script_page one) =
       let test = test_of url (Some caller) one in
       ap (λ (f : Found Unit). (f, with_test test s))
@@ -259,9 +221,7 @@ module _ {P : Type 0} (language : LanguageOf P) (compiler : P → Unit)
       (names (name_for url) function))
       (callable_same (name_for url) (without_fragment url) count s.world.limits.depth working
       (names (name_for url) function)))
-  under_same caller url function count working s (text_page text) = refl
-  under_same caller url function count working s refused_page = refl
-  under_same caller url function count working s no_page = refl
+  under_same caller url function count working s page = refl
 
   -- a call by its target
   at_same : (caller : Url) (function : List ℕ) (count working : ℕ) (s : Step)
@@ -503,16 +463,6 @@ module _ {P : Type 0} (language : LanguageOf P) (compiler : P → Unit)
 
   -- ---- the site
 
-  -- a function that isn't there
-  none_first : (limits : Limits) (function : Function) → code_at function ≡ None
-      → (arguments : List Value) (turns : ℕ) (s : Step)
-      → forgotten (finished (uncounted limits one) (started_at function arguments None) turns s)
-      ≡ forgotten (enter (uncounted limits one) MOST_DEPTH function arguments turns s)
-  unfolding enter finished
-  none_first limits function found arguments turns s =
-      ap (λ (c : Option Code). forgotten (began (uncounted limits one) (MOST_DEPTH - 254)
-      (enter (uncounted limits one) 254) function c arguments turns s)) (sym found)
-
   -- a function with as many arguments as it takes
   many_first : (limits : Limits) (function : Function) (code : Code)
       → code_at function ≡ Some code → (arguments : List Value) (turns : ℕ) (s : Step)
@@ -528,36 +478,28 @@ module _ {P : Type 0} (language : LanguageOf P) (compiler : P → Unit)
       (omega arith) found many))
       ∙ alone_by (uncounted limits one) end.outcome end.turns end.state
 
-  -- a function with another number of arguments
-  other_first : (limits : Limits) (function : Function) (code : Code)
-      → code_at function ≡ Some code → (arguments : List Value) (turns : ℕ) (s : Step)
-      → eqb (length arguments) code.args ≡ false
-      → forgotten (finished (uncounted limits one)
-      (started_at function arguments (Some code)) turns s)
-      ≡ forgotten (enter (uncounted limits one) MOST_DEPTH function arguments turns s)
-  unfolding enter finished
-  other_first limits function code found arguments turns s is =
-      ap (λ (b : Bool). forgotten (finished (uncounted limits one)
-      (cond b (begun function code arguments ∷ []) []) turns s)) is
-      ∙ sym (ap (λ (c : Option Code). forgotten (began (uncounted limits one) (MOST_DEPTH - 254)
-      (enter (uncounted limits one) 254) function c arguments turns s)) found
-      ∙ ap (λ (b : Bool). forgotten (cond b
-      (run_by (uncounted limits one) (MOST_DEPTH - 254) (enter (uncounted limits one) 254)
-      (begun function code arguments) turns s) (ended stuck turns s))) is)
-
-  -- a function at its beginning
+  -- a function at its beginning, which may not be there, or take another number of arguments
   first_same : (limits : Limits) (function : Function) (code : Option Code)
-      → code_at function ≡ code
-      → (arguments : List Value) (turns : ℕ) (s : Step)
+      → code_at function ≡ code → (arguments : List Value) (turns : ℕ) (s : Step)
       → forgotten (finished (uncounted limits one) (started_at function arguments code) turns s)
       ≡ forgotten (enter (uncounted limits one) MOST_DEPTH function arguments turns s)
+  unfolding enter finished
+  first_same limits function None found arguments turns s =
+      ap (λ (c : Option Code). forgotten (began (uncounted limits one) (MOST_DEPTH - 254)
+      (enter (uncounted limits one) 254) function c arguments turns s)) (sym found)
   first_same limits function (Some code) found arguments turns s =
       elim (eqb_tells (length arguments) code.args) [
         | inl many ↦ many_first limits function code found arguments turns s many.0 many.1
-        | inr other ↦ other_first limits function code found arguments turns s other.0
+        | inr other ↦
+            ap (λ (b : Bool). forgotten (finished (uncounted limits one)
+            (cond b (begun function code arguments ∷ []) []) turns s)) other.0
+            ∙ sym (ap (λ (c : Option Code). forgotten (began (uncounted limits one)
+            (MOST_DEPTH - 254) (enter (uncounted limits one) 254) function c arguments turns s))
+            found
+            ∙ ap (λ (b : Bool). forgotten (cond b
+            (run_by (uncounted limits one) (MOST_DEPTH - 254) (enter (uncounted limits one) 254)
+            (begun function code arguments) turns s) (ended stuck turns s))) other.0)
       ]
-  first_same limits function None found arguments turns s =
-      none_first limits function found arguments turns s
 
   -- what a script comes to that is started
   run_same : (name : List ℕ) (base : Url) (referer : Option Url) (index : ℕ)

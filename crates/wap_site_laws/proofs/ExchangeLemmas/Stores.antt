@@ -10,11 +10,9 @@ use Rattle.wap_base.specs.declared.key.Key.{Key}
 use Rattle.wap_push.specs.declared.indication.Indication.{Indication}
 use Rattle.wap_push.specs.declared.fault.PushFault.{PushFault}
 use Rattle.wap_unit.specs.declared.unit.Unit.{Unit}
-use Rattle.wap_world.specs.World.{World}
 use Rattle.wap_world.specs.Sites.{Site, Call}
+use Rattle.wap_world.specs.inboxes.Inboxes.{Phone}
 use Rattle.wap_world.specs.Sessions.{played}
-use Rattle.wap_world.specs.inboxes.Inboxes.{Handset}
-use Rattle.wap_world.specs.inboxes.Sessions.{played_with}
 use Rattle.wap_world.specs.scripting.ScriptPages.{PageOf, page_under, shelved, shelf_by}
 use Rattle.wap_world.specs.scripting.UnitSites.{Pages, units, shelf_of, unit_page, unit_pages}
 use Rattle.wap_world.specs.scripting.UnitSites.{units_site}
@@ -24,7 +22,6 @@ use Rattle.wap_site_laws.specs.programs.Programs.{Accepted, programs, unit_of}
 use Rattle.wap_site_laws.proofs.ExchangeLemmas.Replacing.{replaces}
 use Rattle.wap_site_laws.proofs.ExchangeLemmas.Denying.{DifferWithin}
 use Rattle.wap_site_laws.proofs.ExchangeLemmas.Sources.{denied_sources}
-use Rattle.wap_site_laws.proofs.ExchangeLemmas.Inboxes.{denied_sources_with}
 use Rattle.wap_site_laws.proofs.ProgramsLemmas.Agreed.{unit_agrees}
 use Rattle.wap_site_laws.proofs.PagesLemmas.Judging.{pages_judged}
 use Rattle.wap_pages.specs.Judged.{page_of_bytes, judged}
@@ -94,24 +91,14 @@ module _ (among : List ℕ → Bool) (one other : Contents) (pages others : AllP
 
 -- ---- sessions
 
-pub denied_stores : (call : List ℕ → Option Call) (among : List ℕ → Bool) (one other : Contents)
-    (pages others : AllPages Accepted) → DifferInScripts among one other pages others
-    → (keys : List Key) (world : World)
-    → is_let_in among (played (site_of programs call pages) keys world).tests ≡ false
-    → played (site_of programs call pages) keys world
-    ≡ played (site_of programs call others) keys world
-denied_stores call among one other pages others differ keys world none =
-    denied_sources programs unit_of unit_agrees call among pages others
-    (compiled_differ among one other pages others differ) keys world none
-
-pub denied_stores_with : (call : List ℕ → Option Call) (among : List ℕ → Bool)
+pub denied_stores : (call : List ℕ → Option Call) (among : List ℕ → Bool)
     (one other : Contents) (pages others : AllPages Accepted)
     → DifferInScripts among one other pages others
-    → (read : List ℕ → Result Indication PushFault) (keys : List Key) (handset : Handset)
+    → (read : List ℕ → Result Indication PushFault) (keys : List Key) (phone : Phone)
     → is_let_in among
-    (played_with read (site_of programs call pages) keys handset).step.tests ≡ false
-    → played_with read (site_of programs call pages) keys handset
-    ≡ played_with read (site_of programs call others) keys handset
-denied_stores_with call among one other pages others differ read keys handset none =
-    denied_sources_with programs unit_of unit_agrees call among pages others
-    (compiled_differ among one other pages others differ) read keys handset none
+    (played read (site_of programs call pages) keys phone).step.tests ≡ false
+    → played read (site_of programs call pages) keys phone
+    ≡ played read (site_of programs call others) keys phone
+denied_stores call among one other pages others differ read keys phone none =
+    denied_sources programs unit_of unit_agrees call among pages others
+    (compiled_differ among one other pages others differ) read keys phone none

@@ -1,12 +1,9 @@
 -- Shelves that have no page under some names, and what worlds show over them that are on none.
-use Rattle.std.proofs.Common.{◌≡◌, ℕ, Bool, true, false, List, [], ◌∷◌, ◌++◌, cond}
-use Rattle.std.proofs.Common.{Option, Some, None, refl, sym, ap, ◌∙◌, nat_lt, length, drop}
+use Rattle.std.proofs.Common.{◌≡◌, ℕ, Bool, true, false, List, ◌∷◌, ◌++◌, cond, Option, Some, None}
+use Rattle.std.proofs.Common.{refl, sym, ap, ◌∙◌, nat_lt, length, drop}
 use Rattle.std.proofs.lemmas.Bool.{or_left, or_right}
 use Rattle.std.proofs.lemmas.List.Folds.{list_any-append}
-use Rattle.std.specs.Option.{option_map, option_and_then, option_map_or}
-use Rattle.wap_cardrules.specs.declared.event.Event.{Event}
-use Rattle.wap_cardrules.specs.Events.{binding}
-use Rattle.wap_cardrules.specs.Values.{Pairs}
+use Rattle.std.specs.Option.{option_and_then, option_map_or}
 use Rattle.wap_tokens.specs.declared.markup.deck.Deck.{Deck}
 use Rattle.wap_tokens.specs.markup.Cards.{cards_of}
 use Rattle.wap_world.specs.site.Misses.{Asked}
@@ -16,15 +13,9 @@ use Rattle.wap_world.specs.declared.history.Entry.{Entry}
 use Rattle.wap_world.specs.Shelves.{Shelf, Shelved, no_page}
 use Rattle.wap_world.specs.World.{World, Place, place_in, place_of, place_now, last_entry, deck_in}
 use Rattle.wap_world.specs.World.{deck_at}
-use Rattle.wap_world.specs.Steps.{Scene, Step, and_then}
 use Rattle.wap_world.specs.History.{pushed, entry_of, in_deck, back_at, all_but_last}
-use Rattle.wap_world.specs.Setting.{set_variables}
-use Rattle.wap_world.specs.Screens.{here, at_place, show, show_place}
-use Rattle.wap_world.specs.Entering.{leave_place, event_task}
-use Rattle.wap_world.specs.Tasks.{leave_and_set, url_now, base_now}
 use Rattle.wap_world.proofs.Entries.{last_pushed, earlier_url}
 use Rattle.wap_world.proofs.Places.{deck_there}
-use Rattle.wap_world.proofs.Walk.{Keeping, Kept, show_goes}
 use Rattle.wap_site_laws.specs.unasked.Unasked.{is_asked, is_on}
 
 module _ (among : List ℕ → Bool) where
@@ -51,19 +42,11 @@ module _ (among : List ℕ → Bool) where
       → Asks ((name, fresh) ∷ others)
   asks_it name fresh others is = or_left (among name) (is_asked among others) is
 
-  -- a step that asked for one of these names
-  abbrev pub Lost : Step → Type 0
-  Lost step = Asks step.asked
-
   -- ---- where a world is
 
   -- the world is on none of these names
   abbrev pub Clear : World → Type 0
   Clear w = is_on among w ≡ false
-
-  -- where it was, it is again
-  abbrev pub StaysClear : Keeping
-  StaysClear keys w left v = Clear w → Clear v
 
   -- by its last entry
   clear_by : (w : World) (e : Entry) → last_entry w ≡ Some e → among (name_for e.url) ≡ false
@@ -102,7 +85,7 @@ module _ (among : List ℕ → Bool) where
     bare_same name off = ap (λ (b : Bool). cond b no_page (shelf name)) (sym off)
 
     -- its decks are of other names
-    pub deck_off : (url : Url) (deck : Deck) → deck_at bare url ≡ Some deck
+    deck_off : (url : Url) (deck : Deck) → deck_at bare url ≡ Some deck
         → among (name_for url) ≡ false
     deck_off url deck has = by (among (name_for url)) has
       where
@@ -114,22 +97,6 @@ module _ (among : List ℕ → Bool) where
     pub place_off : (w : World) (place : Place) → place_now bare w ≡ Some place
         → among (name_for place.url) ≡ false
     place_off w place is = deck_off place.url place.deck (deck_there bare w place is)
-
-    -- no change of a world over this shelf leads to one of these names
-    pub clear_kept : Kept StaysClear bare
-    clear_kept = record {
-      none = λ k w clear. clear;
-      joins = λ k u l v m w f g clear. g (f clear);
-      vars = λ k w v clear. clear;
-      reset = λ k w clear. clear;
-      timer = λ k w t place is clear. clear;
-      settle = λ k w clear. clear;
-      pending = λ k w t clear. clear;
-      turn = λ k w n is clear. clear;
-      clear = λ k w clear. refl;
-      push = λ k w url deck has clear. pushed_clear w url _ (deck_off url deck has);
-      pop = λ k w e deck has clear. popped_clear w e deck (deck_off e.url deck has);
-    }
 
     -- ---- over both shelves
 
@@ -144,43 +111,3 @@ module _ (among : List ℕ → Bool) where
         by (Some e) off =
             ap (λ (p : Shelved). option_and_then (place_in e) (deck_in p))
             (bare_same (name_for e.url) off)
-
-    -- a rule for that card does the same
-    pub here_same : (rule : Place → World → Scene) (w : World) → Clear w
-        → here shelf rule w ≡ here bare rule w
-    here_same rule w clear = ap (λ (o : Option Place). at_place rule o w) (place_same w clear)
-
-    -- an event has the same task
-    pub task_same : (event : Event) (w : World) → Clear w
-        → event_task shelf event w ≡ event_task bare event w
-    task_same event w clear =
-        ap (option_and_then (λ (place : Place). binding w.vars place.deck place.card event))
-        (place_same w clear)
-
-    -- the card is left alike
-    pub left_same : (sets : Pairs) (w : World) → Clear w
-        → leave_and_set shelf sets w ≡ leave_and_set bare sets w
-    left_same sets w clear =
-        ap (λ (s : Scene). and_then s (set_variables sets)) (here_same leave_place w clear)
-
-    -- and stands under the same URL
-    pub url_same : (w : World) → Clear w → url_now shelf w ≡ url_now bare w
-    url_same w clear = ap (option_map (λ (place : Place). place.url)) (place_same w clear)
-
-    -- so what stands for that URL is the same
-    pub base_same : (w : World) (from : Option Url) → Clear w
-        → base_now shelf w from ≡ base_now bare w from
-    base_same w from clear = ap (λ (o : Option Url). option_map_or Some o from) (url_same w clear)
-
-    -- ---- what is shown
-
-    -- the same world and lines, on none of these names
-    abbrev pub SceneAlike : Scene → Scene → Type 0
-    SceneAlike a b = (a ≡ b) × Clear b.world
-
-    -- the current card is shown alike
-    pub show_alike : (w : World) → Clear w → SceneAlike (show shelf w) (show bare w)
-    show_alike w clear = (
-      here_same show_place w clear,
-      show_goes StaysClear bare clear_kept w [] clear,
-    )

@@ -1,12 +1,12 @@
 -- Sites of pages that agree beside some names: both are as the site without the pages of these.
 use Rattle.std.proofs.Math.Path.{fun_ext}
-use Rattle.std.proofs.Common.{◌≡◌, ◌⊎◌, inl, inr, ℕ, Bool, true, false, List, cond}
-use Rattle.std.proofs.Common.{Option, None, refl, sym, ap, ◌∙◌, subst}
-use Rattle.std.specs.Prelude.{unwrap_or}
+use Rattle.std.proofs.Common.{◌≡◌, inl, inr, ℕ, Bool, true, false, List, cond, Option, None, refl}
+use Rattle.std.proofs.Common.{sym, ap, ◌∙◌, subst}
+use Rattle.std.specs.Prelude.{unwrap_or, Result}
 use Rattle.std.specs.Option.{option_and_then}
 use Rattle.wap_unit.specs.declared.unit.Unit.{Unit as CodeUnit}
 use Rattle.wap_base.specs.declared.key.Key.{Key}
-use Rattle.wap_world.specs.Shelves.{Shelf, no_page}
+use Rattle.wap_world.specs.Shelves.{no_page}
 use Rattle.wap_world.specs.World.{World}
 use Rattle.wap_world.specs.Steps.{Step}
 use Rattle.wap_world.specs.Sites.{External, Call, Site}
@@ -15,23 +15,22 @@ use Rattle.wap_world.specs.Sessions.{played}
 use Rattle.wap_world.specs.scripting.Units.{external_in}
 use Rattle.wap_world.specs.scripting.ScriptPages.{script_in, shelved}
 use Rattle.wap_world.specs.scripting.UnitSites.{Pages, units, shelf_of, no_unit, unit_under}
-use Rattle.wap_world.specs.scripting.UnitSites.{externals_of}
-use Rattle.wap_world.specs.scripting.UnitSites.{units_site}
-use Rattle.wap_site_laws.specs.unasked.Unasked.{is_asked, AgreeBeside, UnaskedMatterNot}
-use Rattle.wap_site_laws.proofs.UnaskedLemmas.Beside.{Lost, Clear, bare}
-use Rattle.wap_site_laws.proofs.UnaskedLemmas.Hosts.{run_with, runs_alike}
-use Rattle.wap_site_laws.proofs.UnaskedLemmas.Rules.{StepAlike, react_alike, played_alike}
+use Rattle.wap_world.specs.scripting.UnitSites.{externals_of, units_site}
+use Rattle.wap_site_laws.specs.unasked.Unasked.{is_asked, AgreeBeside, UnaskedMatterNot, EndsBeside}
+use Rattle.wap_push.specs.declared.indication.Indication.{Indication}
+use Rattle.wap_push.specs.declared.fault.PushFault.{PushFault}
+use Rattle.wap_world.specs.inboxes.Inboxes.{Phone, Stepped}
+use Rattle.wap_world.proofs.Alike.{AlikeBy, StepAlike, unless_lost}
+use Rattle.wap_world.proofs.Walk.{SitesAlike, react_alike}
+use Rattle.wap_world.proofs.Plays.{plays_same}
+use Rattle.wap_site_laws.proofs.UnaskedLemmas.Beside.{Clear, bare, bare_same, place_same, place_off}
+use Rattle.wap_site_laws.proofs.UnaskedLemmas.Rules.{On, Asking, Outside, asking_stays}
+use Rattle.wap_site_laws.proofs.UnaskedLemmas.Rules.{outside_or_asking, clear_kept}
+use Rattle.wap_site_laws.proofs.UnaskedLemmas.Rules.{clear_in_scripts}
+use Rattle.wap_world.proofs.Hosts.Calls.{Pair}
+use Rattle.wap_world.proofs.Hosts.Runs.{parts_with, parts_of, site_with, sites_alike}
 
 module _ (among : List ℕ → Bool) (call : List ℕ → Option Call) where
-  -- the site of a shelf and scripts
-  abbrev site_with : Shelf → (List ℕ → List ℕ → Option External) → (List ℕ → CodeUnit) → Site
-  site_with shelf names codes = record {
-    shelf = shelf;
-    external = names;
-    run = run_with shelf names codes;
-    call = call;
-  }
-
   -- external functions of other names alone
   abbrev names_beside : Pages → List ℕ → List ℕ → Option External
   names_beside pages name function = cond (among name) None (externals_of pages name function)
@@ -43,7 +42,8 @@ module _ (among : List ℕ → Bool) (call : List ℕ → Option Call) where
   -- the site without the pages of these names
   abbrev pub site_beside : Pages → Site
   site_beside pages =
-      site_with (bare among (shelf_of pages)) (names_beside pages) (codes_beside pages)
+      site_with call
+      (parts_with (bare among (shelf_of pages)) (names_beside pages) (codes_beside pages))
 
   module _ (pages : Pages) where
     -- which are those of other names
@@ -57,31 +57,52 @@ module _ (among : List ℕ → Bool) (call : List ℕ → Option Call) where
         → unit_under pages name ≡ codes_beside pages name
     codes_same name off = ap (λ (b : Bool). cond b no_unit (unit_under pages name)) (sym off)
 
-    -- a key, over the site and over that without these pages
-    pub reacts_beside : (one : Key) (keys : List Key) (w : World) → Clear among w
-        → StepAlike among (react (units_site call pages) one keys w)
-        (react (site_beside pages) one keys w)
+    -- hosts of both see the same of what is on none of these names
+    abbrev pair : Pair (λ s. Clear among s.world)
+    pair =
+        let shelf = shelf_of pages in record {
+          one = parts_of pages;
+          other = parts_with (bare among shelf) (names_beside pages) (codes_beside pages);
+          Lost = Asking among;
+          Fine = Outside among;
+          Runs = Outside among;
+          losing = asking_stays among;
+          now = λ s clear. place_same among shelf s.world clear;
+          here = λ s clear. place_same among shelf s.world clear;
+          asks = outside_or_asking among;
+          pages = bare_same among shelf;
+          lets_in = λ name caller off. inl off;
+          names = names_same;
+          codes = codes_same;
+        }
+
+    -- so both sites are alike
+    alike : SitesAlike (On among) (On among) (Asking among) (Outside among) (Outside among)
+        (units_site call pages) (site_beside pages)
     unfolding units_site
+    alike =
+        let shelf = shelf_of pages in
+        sites_alike (On among) (clear_in_scripts among) pair call (clear_kept among shelf)
+        (λ k w place clear is.
+        place_off among shelf w place (sym (place_same among shelf w clear) ∙ is))
+
+    -- a key
+    reacts_beside : (one : Key) (keys : List Key) (w : World) → Clear among w
+        → StepAlike (On among) (Asking among) (react (units_site call pages) one keys w)
+        (react (site_beside pages) one keys w)
     reacts_beside =
-        react_alike among (shelf_of pages) call (externals_of pages) (names_beside pages)
-        (run_with (shelf_of pages) (externals_of pages) (unit_under pages))
-        (run_with (bare among (shelf_of pages)) (names_beside pages) (codes_beside pages))
-        names_same
-        (runs_alike among (shelf_of pages) (externals_of pages) (names_beside pages)
-        (unit_under pages) (codes_beside pages) names_same codes_same)
+        react_alike (On among) (On among) (Asking among) (Outside among) (Outside among)
+        (units_site call pages) (site_beside pages) alike
 
     -- keys
-    pub plays_beside : (keys : List Key) (w : World) → Clear among w
-        → StepAlike among (played (units_site call pages) keys w)
-        (played (site_beside pages) keys w)
-    unfolding units_site
+    pub plays_beside : (read : List ℕ → Result Indication PushFault) (keys : List Key)
+        (phone : Phone) → Clear among phone.world
+        → AlikeBy (On among) (Asking among) (λ (one : Stepped). one.step)
+        (played read (units_site call pages) keys phone)
+        (played read (site_beside pages) keys phone)
     plays_beside =
-        played_alike among (shelf_of pages) call (externals_of pages) (names_beside pages)
-        (run_with (shelf_of pages) (externals_of pages) (unit_under pages))
-        (run_with (bare among (shelf_of pages)) (names_beside pages) (codes_beside pages))
-        names_same
-        (runs_alike among (shelf_of pages) (externals_of pages) (names_beside pages)
-        (unit_under pages) (codes_beside pages) names_same codes_same)
+        plays_same (On among) (Asking among) (asking_stays among) (units_site call pages)
+        (site_beside pages) reacts_beside (λ one keys w clear. clear)
 
   -- ---- pages that agree
 
@@ -117,40 +138,46 @@ module _ (among : List ℕ → Bool) (call : List ℕ → Option Call) where
         by name false about = ap (λ page. unwrap_or (script_in page) no_unit) (agree name about)
 
     -- without the pages of these names both are the same site
-    pub sites_are : site_beside one ≡ site_beside other
-    sites_are = λ i. site_with (shelves_are i) (names_are i) (codes_are i)
+    sites_are : site_beside one ≡ site_beside other
+    sites_are = λ i. site_with call (parts_with (shelves_are i) (names_are i) (codes_are i))
 
 -- ---- two steps that are as a third
 
-module _ {S : Type 0} (among : List ℕ → Bool) (step : S → Step) (a b c : S) where
+module _ {S : Type 0} (among : List ℕ → Bool) (step : S → Step) (a b c : S)
+    (none : is_asked among (step a).asked ≡ false)
+    (one : AlikeBy (On among) (Asking among) step a c) where
   -- what asked for none of these names isn't lost
-  not_lost : {T : Type 0} → is_asked among (step a).asked ≡ false → Lost among (step a) → T
-  not_lost none lost = absurd (cc)
+  not_lost : (a ≡ c) × Clear among (step a).world
+  not_lost =
+      unless_lost (On among) (Asking among) step a c (λ lost. cc (none, lost)) one
 
-  -- the first two are the same
-  pub meet : is_asked among (step a).asked ≡ false
-      → ((a ≡ c) × Clear among (step c).world) ⊎ (Lost among (step a) × Lost among (step c))
-      → ((b ≡ c) × Clear among (step c).world) ⊎ (Lost among (step b) × Lost among (step c))
-      → a ≡ b
-  meet none (inl one) (inl two) = one.0 ∙ sym two.0
-  meet none (inl one) (inr lost) =
-      not_lost none (subst (λ (s : S). Lost among (step s)) (sym one.0) lost.1)
-  meet none (inr lost) other = not_lost none lost.0
+  -- it ends on none of them
+  ends_clear : Clear among (step a).world
+  ends_clear = not_lost.1
 
-  -- and ends on none of them
-  pub ends_clear : is_asked among (step a).asked ≡ false
-      → ((a ≡ c) × Clear among (step c).world) ⊎ (Lost among (step a) × Lost among (step c))
-      → Clear among (step a).world
-  ends_clear none (inl one) = subst (λ (s : S). Clear among (step s).world) (sym one.0) one.1
-  ends_clear none (inr lost) = not_lost none lost.0
+  -- and the first two are the same
+  meet : AlikeBy (On among) (Asking among) step b c → a ≡ b
+  meet (inl two) = not_lost.0 ∙ sym two.0
+  meet (inr lost) =
+      let none' : is_asked among (step c).asked ≡ false =
+      subst (λ (s : S). is_asked among (step s).asked ≡ false) not_lost.0 none in
+      absurd (let asks = lost.1 in cc (none', asks))
 
 -- over all pages
 pub unasked : UnaskedMatterNot
-unasked call among one other agree keys w clear none =
-    let here = site_beside among call one in
-    meet among (λ (s : Step). s) (played (units_site call one) keys w)
-    (played (units_site call other) keys w) (played here keys w) none
-    (plays_beside among call one keys w clear)
-    (subst (λ (s : Site). StepAlike among (played (units_site call other) keys w)
-    (played s keys w)) (sym (sites_are among call one other agree))
-    (plays_beside among call other keys w clear))
+unasked read call among one other agree keys phone clear none =
+    let there = played read (units_site call other) keys phone in
+    meet among (λ (s : Stepped). s.step) (played read (units_site call one) keys phone)
+    there (played read (site_beside among call one) keys phone) none
+    (plays_beside among call one read keys phone clear)
+    (subst (λ (s : Site). AlikeBy (On among) (Asking among) (λ (s : Stepped). s.step) there
+    (played read s keys phone)) (sym (sites_are among call one other agree))
+    (plays_beside among call other read keys phone clear))
+
+-- where none of these names was asked for, the session ends on none of them
+pub ends_beside : EndsBeside
+ends_beside read call among pages keys phone clear none =
+    let end = played read (units_site call pages) keys phone in
+    ends_clear among (λ (s : Stepped). s.step) end end
+    (played read (site_beside among call pages) keys phone) none
+    (plays_beside among call pages read keys phone clear)

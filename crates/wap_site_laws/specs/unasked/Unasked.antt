@@ -10,8 +10,8 @@ use Rattle.wap_url.specs.Printing.{name_for}
 use Rattle.wap_world.specs.World.{World, last_entry}
 use Rattle.wap_world.specs.Sites.{Call}
 use Rattle.wap_world.specs.Sessions.{played}
-use Rattle.wap_world.specs.inboxes.Inboxes.{Handset}
-use Rattle.wap_world.specs.inboxes.Sessions.{played_with}
+use Rattle.wap_world.specs.inboxes.Inboxes.{Phone}
+use Rattle.wap_world.specs.Sessions.{played}
 use Rattle.wap_world.specs.scripting.ScriptPages.{page_under}
 use Rattle.wap_world.specs.scripting.UnitSites.{Pages, units_site}
 
@@ -29,30 +29,21 @@ AgreeBeside among one other =
     (name : List ℕ) → among name ≡ false → page_under name one ≡ page_under name other
 
 -- where a session begins on none of these names and asks for none of them, other pages under these
--- names would have done the same
+-- names would have done the same, however what is pushed is read
 abbrev pub UnaskedMatterNot : Type 0
 UnaskedMatterNot =
-    (call : List ℕ → Option Call) (among : List ℕ → Bool) (one other : Pages)
-    → AgreeBeside among one other → (keys : List Key) (world : World)
-    → is_on among world ≡ false
-    → is_asked among (played (units_site call one) keys world).asked ≡ false
-    → played (units_site call one) keys world ≡ played (units_site call other) keys world
-
--- and with an inbox, however what is pushed is read
-abbrev pub UnaskedMatterNotWith : Type 0
-UnaskedMatterNotWith =
     (read : List ℕ → Result Indication PushFault) (call : List ℕ → Option Call)
     (among : List ℕ → Bool) (one other : Pages) → AgreeBeside among one other
-    → (keys : List Key) (handset : Handset) → is_on among handset.world ≡ false
-    → is_asked among (played_with read (units_site call one) keys handset).step.asked ≡ false
-    → played_with read (units_site call one) keys handset
-    ≡ played_with read (units_site call other) keys handset
+    → (keys : List Key) (phone : Phone) → is_on among phone.world ≡ false
+    → is_asked among (played read (units_site call one) keys phone).step.asked ≡ false
+    → played read (units_site call one) keys phone
+    ≡ played read (units_site call other) keys phone
 
 -- nor does it end on one of these names then
 abbrev pub EndsBeside : Type 0
 EndsBeside =
     (read : List ℕ → Result Indication PushFault) (call : List ℕ → Option Call)
-    (among : List ℕ → Bool) (pages : Pages) (keys : List Key) (handset : Handset)
-    → is_on among handset.world ≡ false
-    → is_asked among (played_with read (units_site call pages) keys handset).step.asked ≡ false
-    → is_on among (played_with read (units_site call pages) keys handset).step.world ≡ false
+    (among : List ℕ → Bool) (pages : Pages) (keys : List Key) (phone : Phone)
+    → is_on among phone.world ≡ false
+    → is_asked among (played read (units_site call pages) keys phone).step.asked ≡ false
+    → is_on among (played read (units_site call pages) keys phone).step.world ≡ false

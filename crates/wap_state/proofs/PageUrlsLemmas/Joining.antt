@@ -1,14 +1,13 @@
 -- A reference that is joined to the URL of a page comes to that of a page.
-use Rattle.std.proofs.Common.{◌≡◌, ◌⊎◌, inl, inr, ℕ, zero, suc, ◌-◌, ◌≤◌, Bool, true, false, ◌&&◌, ◌||◌, ◌==◌, cond}
+use Rattle.std.proofs.Common.{◌≡◌, ◌⊎◌, inl, inr, ℕ, zero, suc, ◌-◌, ◌≤◌, Bool, true, false, ◌&&◌, ◌==◌, cond}
 use Rattle.std.proofs.Common.{List, [], ◌∷◌, ◌++◌, length, map, take, fold, refl, ap, sym, ◌∙◌, subst}
 use Rattle.std.proofs.Common.{Some, None, Option, IfSome, IsSome, option_map, decimal, arith}
-use Rattle.std.specs.Prelude.{is_some, is_none, if◌then◌else◌, codes}
+use Rattle.std.specs.Prelude.{is_some, is_none, codes}
 use Rattle.std.specs.Option.{option_map_or}
-use Rattle.std.specs.List.{list_all, slice_split, onto_first, join_with_byte}
+use Rattle.std.specs.List.{list_all, onto_first}
 use Rattle.std.specs.Char.{to_ascii_lowercase}
 use Rattle.std.proofs.lemmas.Bool.{and_parts, and_from, cases_Bool, cond-true, cond-false}
 use Rattle.std.proofs.lemmas.List.Folds.{list_all-append}
-use Rattle.std.proofs.lemmas.List.Splits.{slice_split-cons_yes, slice_split-cons_no}
 use Rattle.wap_base.specs.Cuts.{begins_with}
 use Rattle.wap_base.proofs.Splits.{HasFirst, HasFirst-split}
 use Rattle.wap_url.specs.declared.url.Url.{Url}
@@ -16,7 +15,7 @@ use Rattle.wap_url.specs.Characters.{is_slash, is_allowed, is_scheme, is_host}
 use Rattle.wap_url.specs.Segments.{segments, path_of, all_but_last}
 use Rattle.wap_url.specs.inside.Segments.{folder_of}
 use Rattle.wap_url.specs.UrlParts.{may_be_scheme, may_be_host, may_be_port, may_be_path, is_port}
-use Rattle.wap_url.specs.Printing.{IsNormal, parts_for, printed}
+use Rattle.wap_url.specs.Printing.{IsNormal}
 use Rattle.wap_url.specs.Joining.{is_here, is_above, is_dot_segment, kept_with, end_of, without_dots}
 use Rattle.wap_url.specs.Joining.{resolved, resolved_path, lead_segments, merged_path, target, rooted}
 use Rattle.wap_url.specs.Joining.{joined}
@@ -132,9 +131,6 @@ slash_first : (path : List ℕ) → begins_with is_slash path ≡ true
 slash_first [] slash = absurd (let e = slash in cc)
 slash_first (c ∷ cs) slash =
     (cs, ap (λ d. d ∷ cs) (Rattle.std.proofs.lemmas.Bool.eqb-true c 47 slash))
-
-root_of : (path rest : List ℕ) → path ≡ 47 ∷ rest → begins_with is_slash path ≡ true
-root_of path rest is = ap (begins_with is_slash) is
 
 rooted_slash : (path : List ℕ) → begins_with is_slash (rooted true (47 ∷ path)) ≡ true
 rooted_slash path =

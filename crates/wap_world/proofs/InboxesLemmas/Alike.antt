@@ -1,31 +1,27 @@
 -- Pushes that have the same winners: an inbox shows the same of them.
-use Rattle.std.proofs.Common.{◌≡◌, ℕ, zero, suc, Bool, true, false, List, [], ◌∷◌, ◌++◌, ◌&&◌, map}
-use Rattle.std.proofs.Common.{cond, Option, Some, None, Ok, Err, refl, ap, sym, subst, ◌∙◌, length}
+use Rattle.std.proofs.Common.{◌≡◌, ℕ, Bool, true, false, List, [], ◌∷◌, ◌++◌, ◌&&◌, map, cond}
+use Rattle.std.proofs.Common.{Option, Some, None, refl, ap, sym, subst, ◌∙◌, inl, inr}
 use Rattle.std.specs.Prelude.{Result, find}
 use Rattle.std.specs.List.{AllByRecursion}
-use Rattle.std.specs.Option.{option_and_then}
 use Rattle.std.specs.List.Sorted.{IsStrictlySortedBy}
 use Rattle.std.specs.declared.cmp.Ordering.TheVariants.{Less}
 use Rattle.std.specs.Cmp.Lexicographic.{bytes_decides, nat_list_cmp_total}
 use Rattle.std.proofs.lemmas.Cmp.{tied_itself}
 use Rattle.wap_base.specs.Texts.{text_cmp}
 use Rattle.wap_base.specs.declared.key.Key.{Key}
-use Rattle.wap_base.specs.declared.key.Key.TheVariants as key
 use Rattle.wap_push.specs.declared.indication.Indication.{Indication}
 use Rattle.wap_push.specs.declared.fault.PushFault.{PushFault}
-use Rattle.wap_push.specs.Inbox.{is_of, alerts, later, winner_of, inbox_of, entry_at}
-use Rattle.wap_push.specs.Inbox.{HaveWinners}
+use Rattle.wap_push.specs.Inbox.{is_of, alerts, later, winner_of, inbox_of, HaveWinners}
 use Rattle.wap_push.proofs.Latest.{after, winner_here, winner_elsewhere}
 use Rattle.wap_push.proofs.Winner.{own_first, other_first}
 use Rattle.wap_world.specs.Sites.{Site}
 use Rattle.wap_world.specs.World.{World}
-use Rattle.wap_world.specs.Steps.{Step, then_step}
-use Rattle.wap_world.specs.Keys.{renewed}
 use Rattle.wap_world.specs.inboxes.Winners.{winners_of, Alike}
-use Rattle.wap_world.specs.inboxes.Notices.{notice_line, notice_lines, entry_lines}
-use Rattle.wap_world.specs.inboxes.Inboxes.{telling, take_push, follow}
-use Rattle.wap_world.specs.inboxes.Inboxes.{react_with}
-use Rattle.wap_world.specs.inboxes.Sessions.{played_with_in, played_with, StepAlike}
+use Rattle.wap_world.specs.inboxes.Notices.{notice_line, notice_lines}
+use Rattle.wap_world.specs.inboxes.Inboxes.{Stepped}
+use Rattle.wap_world.specs.Sessions.{played, StepAlike}
+use Rattle.wap_world.proofs.Alike.{Anything, Never, never_lost}
+use Rattle.wap_world.proofs.Plays.{ShownAlike, WithAlike, plays_alike as plays}
 use Rattle.wap_world.proofs.InboxesLemmas.Winning.{calculated, exactly}
 use Rattle.wap_world.proofs.InboxesLemmas.Alerts.{passes, latest_passes}
 
@@ -108,81 +104,27 @@ pub winners_win : (pushes winners : List Indication) → HaveWinners pushes winn
 winners_win pushes winners have =
     record { ordered = have.ordered; each = own_at winners have.ordered }
 
--- so the winners of pushes are pushes with the same winners
-pub winners_alike : (pushes : List Indication) → Alike pushes (winners_of pushes)
-winners_alike pushes =
-    (exactly (winners_of pushes) (winners_of pushes)).0
-    (winners_win pushes (winners_of pushes) (calculated pushes))
-
 -- ---- what keys come to
 
-module _ (read : List ℕ → Result Indication PushFault) (site : Site) where
-  -- what was pushed, by whether it is an indication
-  take_alike : (keys : List Key) (world : World) (a b : List Indication) → Alike a b
-      → (found : Result Indication PushFault)
-      → StepAlike (take_push keys (record { world = world; pushes = a }) found)
-      (take_push keys (record { world = world; pushes = b }) found)
-  take_alike keys world a b alike (Ok pushed) = record {
-    step = ap (telling keys (renewed world)) (notice_alike a b alike pushed);
-    pushes = more_alike a b alike pushed;
-  }
-  take_alike keys world a b alike (Err why) = record { step = refl; pushes = alike }
+-- they are shown alike, also after more
+alike_shown : ShownAlike Alike
+alike_shown = record {
+  notices = λ p q more alike. notice_alike p q alike more;
+  entries = λ p q alike. ap inbox_of alike;
+  more = λ p q more alike. more_alike p q alike more;
+}
 
-  -- a key
-  react_alike : (one : Key) (keys : List Key) (world : World) (a b : List Indication) → Alike a b
-      → StepAlike (react_with read site one keys (record { world = world; pushes = a }))
-      (react_with read site one keys (record { world = world; pushes = b }))
-  react_alike (key.Push bytes) keys world a b alike =
-      take_alike keys world a b alike (read bytes)
-  react_alike key.Inbox keys world a b alike = record {
-    step =
-        ap (λ (winners : List Indication).
-        telling keys (renewed world) (entry_lines 1 (inbox_of winners))) alike;
-    pushes = alike;
-  }
-  react_alike (key.Follow n) keys world a b alike = record {
-    step =
-        ap (λ (winners : List Indication). follow site keys (renewed world)
-        (option_and_then (λ entry. entry.href) (entry_at (inbox_of winners) n))) alike;
-    pushes = alike;
-  }
-  react_alike (key.Open url) keys world a b alike = record { step = refl; pushes = alike }
-  react_alike (key.Do name) keys world a b alike = record { step = refl; pushes = alike }
-  react_alike (key.Pick n) keys world a b alike = record { step = refl; pushes = alike }
-  react_alike (key.Enter n text) keys world a b alike = record { step = refl; pushes = alike }
-  react_alike (key.Choose n m) keys world a b alike = record { step = refl; pushes = alike }
-  react_alike key.Back keys world a b alike = record { step = refl; pushes = alike }
-  react_alike (key.Tick n) keys world a b alike = record { step = refl; pushes = alike }
-  react_alike key.Ok keys world a b alike = record { step = refl; pushes = alike }
-  react_alike key.Cancel keys world a b alike = record { step = refl; pushes = alike }
-  react_alike (key.Answer text) keys world a b alike = record { step = refl; pushes = alike }
-  react_alike key.Stop keys world a b alike = record { step = refl; pushes = alike }
-  react_alike key.Vars keys world a b alike = record { step = refl; pushes = alike }
-
-  -- keys, so many at most
-  plays_alike_in : (count : ℕ) (keys : List Key) (world : World) (a b : List Indication) → Alike a b
-      → StepAlike (played_with_in read count site keys (record { world = world; pushes = a }))
-      (played_with_in read count site keys (record { world = world; pushes = b }))
-  plays_alike_in count [] world a b alike = record { step = refl; pushes = alike }
-  plays_alike_in zero (one ∷ keys) world a b alike = record { step = refl; pushes = alike }
-  plays_alike_in (suc count) (one ∷ keys) world a b alike =
-      let first = react_alike one keys world a b alike in
-      let own = react_with read site one keys (record { world = world; pushes = a }) in
-      let other = react_with read site one keys (record { world = world; pushes = b }) in
-      let next =
-      plays_alike_in count own.step.keys own.step.world own.pushes other.pushes first.pushes in
-      record {
-        step = ap (then_step own.step) next.step
-            ∙ ap (λ (s : Step). then_step s (played_with_in read count site s.keys
-            (record { world = s.world; pushes = other.pushes })).step) first.step;
-        pushes = next.pushes
-            ∙ ap (λ (s : Step). winners_of (played_with_in read count site s.keys
-            (record { world = s.world; pushes = other.pushes })).pushes) first.step;
-      }
-
-  -- all of them
-  pub plays_alike : (keys : List Key) (world : World) (a b : List Indication) → Alike a b
-      → StepAlike (played_with read site keys (record { world = world; pushes = a }))
-      (played_with read site keys (record { world = world; pushes = b }))
-  unfolding played_with
-  plays_alike keys world a b alike = plays_alike_in (length keys) keys world a b alike
+-- so keys come to the same
+pub plays_alike : (read : List ℕ → Result Indication PushFault) (site : Site) (keys : List Key)
+    (world : World) (a b : List Indication) → Alike a b
+    → StepAlike (played read site keys (record { world = world; pushes = a }))
+    (played read site keys (record { world = world; pushes = b }))
+plays_alike read site keys world a b alike =
+    by (played read site keys (record { world = world; pushes = a }))
+    (played read site keys (record { world = world; pushes = b }))
+    (plays Anything Never never_lost site site (λ one k w i. inl (refl, tt)) (λ one k w i. tt)
+    Alike alike_shown read keys world a b alike tt)
+  where
+    by : (one other : Stepped) → WithAlike Anything Never Alike one other → StepAlike one other
+    by one other (inl is) = record { step = is.0; pushes = is.1 }
+    by one other (inr lost) = absurd lost.0

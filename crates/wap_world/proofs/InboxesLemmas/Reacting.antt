@@ -11,64 +11,63 @@ use Rattle.wap_world.specs.World.{World}
 use Rattle.wap_world.specs.Steps.{quiet}
 use Rattle.wap_world.specs.Keys.{ignored, renewed, react}
 use Rattle.wap_world.specs.inboxes.Notices.{no_push_line, notice_lines}
-use Rattle.wap_world.specs.inboxes.Inboxes.{Handset, taking_none, telling, take_push}
-use Rattle.wap_world.specs.inboxes.Inboxes.{url_at, follow, is_of_inbox, react_with}
+use Rattle.wap_world.specs.inboxes.Inboxes.{Phone, taking_none, telling, push_lines, pushes_with}
+use Rattle.wap_world.specs.inboxes.Inboxes.{url_at, is_of_inbox, opening, play_pressed}
+use Rattle.wap_world.specs.inboxes.Inboxes.{react_with}
+use Rattle.wap_world.specs.Sessions.{unpushed}
 
 module _ (read : List ℕ → Result Indication PushFault) (site : Site) where
   -- a key that is none of an inbox
-  pub reacts_alike : (one : Key) (keys : List Key) (handset : Handset) → is_of_inbox one ≡ false
-      → react_with read site one keys handset
-      ≡ taking_none handset (react site one keys handset.world)
-  reacts_alike (key.Open url) keys handset is = refl
-  reacts_alike (key.Do name) keys handset is = refl
-  reacts_alike (key.Pick n) keys handset is = refl
-  reacts_alike (key.Enter n text) keys handset is = refl
-  reacts_alike (key.Choose n m) keys handset is = refl
-  reacts_alike key.Back keys handset is = refl
-  reacts_alike (key.Tick n) keys handset is = refl
-  reacts_alike key.Ok keys handset is = refl
-  reacts_alike key.Cancel keys handset is = refl
-  reacts_alike (key.Answer text) keys handset is = refl
-  reacts_alike key.Stop keys handset is = refl
-  reacts_alike key.Vars keys handset is = refl
-  reacts_alike (key.Push bytes) keys handset is = absurd (cc is)
-  reacts_alike key.Inbox keys handset is = absurd (cc is)
-  reacts_alike (key.Follow n) keys handset is = absurd (cc is)
+  pub reacts_alike : (one : Key) (keys : List Key) (phone : Phone) → is_of_inbox one ≡ false
+      → react_with read site one keys phone ≡ taking_none phone (react site one keys phone.world)
+  unfolding react
+  reacts_alike (key.Push bytes) keys phone is = absurd (cc is)
+  reacts_alike key.Inbox keys phone is = absurd (cc is)
+  reacts_alike (key.Follow n) keys phone is = absurd (cc is)
+  reacts_alike one keys phone is = refl
 
   -- an indication that is pushed
-  pub push_taken : (keys : List Key) (handset : Handset) (bytes : List ℕ) (pushed : Indication)
+  pub push_taken : (keys : List Key) (phone : Phone) (bytes : List ℕ) (pushed : Indication)
       → read bytes ≡ Ok pushed
-      → react_with read site (key.Push bytes) keys handset ≡ record {
-        step = telling keys (renewed handset.world) (notice_lines handset.pushes pushed);
-        pushes = handset.pushes ++ pushed ∷ [];
+      → react_with read site (key.Push bytes) keys phone ≡ record {
+        step = telling keys (renewed phone.world) (notice_lines phone.pushes pushed);
+        pushes = phone.pushes ++ pushed ∷ [];
       }
-  push_taken keys handset bytes pushed is = ap (take_push keys handset) is
+  push_taken keys phone bytes pushed is =
+      ap (λ (found : Result Indication PushFault). record {
+        step = telling keys (renewed phone.world) (push_lines phone.pushes found);
+        pushes = pushes_with phone.pushes found;
+      }) is
 
   -- bytes that are none
-  pub push_refused : (keys : List Key) (handset : Handset) (bytes : List ℕ) (why : PushFault)
+  pub push_refused : (keys : List Key) (phone : Phone) (bytes : List ℕ) (why : PushFault)
       → read bytes ≡ Err why
-      → react_with read site (key.Push bytes) keys handset
-      ≡ taking_none handset (telling keys (renewed handset.world) (no_push_line why ∷ []))
-  push_refused keys handset bytes why is = ap (take_push keys handset) is
+      → react_with read site (key.Push bytes) keys phone
+      ≡ taking_none phone (telling keys (renewed phone.world) (no_push_line why ∷ []))
+  push_refused keys phone bytes why is =
+      ap (λ (found : Result Indication PushFault). record {
+        step = telling keys (renewed phone.world) (push_lines phone.pushes found);
+        pushes = pushes_with phone.pushes found;
+      }) is
 
   -- an entry that has a URL
-  pub entry_opened : (keys : List Key) (handset : Handset) (n : ℕ) (url : List ℕ)
-      → url_at handset.pushes n ≡ Some url
-      → react_with read site (key.Follow n) keys handset
-      ≡ taking_none handset (react site (key.Open url) keys handset.world)
+  pub entry_opened : (keys : List Key) (phone : Phone) (n : ℕ) (url : List ℕ)
+      → url_at phone.pushes n ≡ Some url
+      → react_with read site (key.Follow n) keys phone
+      ≡ taking_none phone (react site (key.Open url) keys phone.world)
   unfolding react
-  entry_opened keys handset n url is =
+  entry_opened keys phone n url is =
       ap (λ (found : Option (List ℕ)).
-      taking_none handset (follow site keys (renewed handset.world) found)) is
+      taking_none phone (play_pressed site keys (renewed phone.world) (opening found))) is
 
   -- and one that has none, or isn't there
-  pub entry_ignored : (keys : List Key) (handset : Handset) (n : ℕ)
-      → url_at handset.pushes n ≡ None
-      → react_with read site (key.Follow n) keys handset
-      ≡ taking_none handset (quiet keys (ignored (renewed handset.world)))
-  entry_ignored keys handset n is =
+  pub entry_ignored : (keys : List Key) (phone : Phone) (n : ℕ)
+      → url_at phone.pushes n ≡ None
+      → react_with read site (key.Follow n) keys phone
+      ≡ taking_none phone (quiet keys (ignored (renewed phone.world)))
+  entry_ignored keys phone n is =
       ap (λ (found : Option (List ℕ)).
-      taking_none handset (follow site keys (renewed handset.world) found)) is
+      taking_none phone (play_pressed site keys (renewed phone.world) (opening found))) is
 
   -- no entry has a number in an empty inbox
   none_at : (n : ℕ) → url_at [] n ≡ None
@@ -76,9 +75,7 @@ module _ (read : List ℕ → Result Indication PushFault) (site : Site) where
   none_at (suc n) = refl
 
   pub none_followed : (keys : List Key) (world : World) (n : ℕ)
-      → let handset : Handset = record { world = world; pushes = [] } in
-      react_with read site (key.Follow n) keys handset
-      ≡ taking_none handset (react site (key.Follow n) keys world)
+      → react_with read site (key.Follow n) keys (unpushed world)
+      ≡ taking_none (unpushed world) (react site (key.Follow n) keys world)
   unfolding react
-  none_followed keys world n =
-      entry_ignored keys (record { world = world; pushes = [] }) n (none_at n)
+  none_followed keys world n = entry_ignored keys (unpushed world) n (none_at n)

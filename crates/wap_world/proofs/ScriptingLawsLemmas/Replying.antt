@@ -1,9 +1,6 @@
 -- Keys in a dialog.
-use Rattle.std.proofs.Common.{◌≡◌, ℕ, Bool, true, false, List, [], ◌∷◌, Option, Some, None, cond}
-use Rattle.std.proofs.Common.{ltb}
-use Rattle.std.proofs.Common.{refl, sym, ap, ◌∙◌, ◌-◌}
+use Rattle.std.proofs.Common.{◌≡◌, ℕ, List, [], ◌∷◌, Option, Some, refl, sym, ap, ◌∙◌}
 use Rattle.wap_base.specs.declared.key.Key.{Key}
-use Rattle.wap_base.specs.declared.key.Key.TheVariants as key
 use Rattle.wap_value.specs.declared.value.Value.{Value}
 use Rattle.wap_execution.specs.declared.fatal.Fatal.TheVariants.{Stopped}
 use Rattle.wap_execution.specs.declared.library.HostOut.{HostOut}
@@ -11,72 +8,45 @@ use Rattle.wap_execution.specs.Outcomes.{Ended}
 use Rattle.wap_execution.specs.Running.{resumed}
 use Rattle.wap_execution.specs.laws.Settings.{uncounted}
 use Rattle.wap_execution.specs.laws.Keyed.{gone_on}
-use Rattle.wap_world.specs.declared.timer.Timer.{Timer}
-use Rattle.wap_world.specs.declared.timer.Timer.TheVariants.{NotStarted, Running, Off, Expired}
 use Rattle.wap_world.specs.Shelves.{Shelf}
-use Rattle.wap_world.specs.World.{World, Place, place_now}
+use Rattle.wap_world.specs.World.{World}
 use Rattle.wap_world.specs.Steps.{Step, Once, then_step, quiet, still}
-use Rattle.wap_world.specs.Timers.{store_under}
-use Rattle.wap_world.specs.Screens.{at_place}
 use Rattle.wap_world.specs.Sites.{Call, failed}
 use Rattle.wap_world.specs.Starting.{ended_script}
 use Rattle.wap_world.specs.Tasks.{onward, act}
-use Rattle.wap_world.specs.scripting.Dialogs.{Reply, answers, ends_it, passes, reply_to, run_out}
-use Rattle.wap_world.specs.scripting.Dialogs.{tick_waiting}
-use Rattle.wap_world.specs.scripting.Dialogs.{meanwhile, after_reply, answered_by}
+use Rattle.wap_world.specs.scripting.Dialogs.{Reply, answers, ends_it, passes, reply_to, meanwhile}
+use Rattle.wap_world.specs.scripting.Dialogs.{after_reply, answered_by}
 use Rattle.wap_world.specs.scripting.UnitSites.{Pages, shelf_of, host_of, keyed_host, ran_of}
 use Rattle.wap_world.specs.scripting.UnitSites.{units_site}
 use Rattle.wap_world.specs.scripting.Waiting.{Waits, inside, resumed_step}
-use Rattle.wap_world.specs.scripting.Feeding.{Means, turned}
-use Rattle.wap_world.proofs.Joining.{once_before, joined_nothing}
+use Rattle.wap_world.specs.scripting.Feeding.{Means}
+use Rattle.wap_world.proofs.Joining.{once_before, joined_nothing, onward_after}
 use Rattle.wap_world.specs.scripting.Halves.{half_of, once_of}
-use Rattle.wap_world.proofs.ScriptingLawsLemmas.Runs.{keys_fatal, answered_front, gone_alike}
-use Rattle.wap_world.proofs.ScriptingLawsLemmas.Runs.{ran_front, resumes}
-use Rattle.wap_world.proofs.Joining.{onward_after}
+use Rattle.wap_world.proofs.Hosts.Kin.{Kinship, staying}
+use Rattle.wap_world.proofs.Hosts.Dialogs.{Dwells, meanwhile_holds}
+use Rattle.wap_world.proofs.ScriptingLawsLemmas.Runs.{no_turn_holds, keys_fatal, answered_front}
+use Rattle.wap_world.proofs.ScriptingLawsLemmas.Runs.{gone_alike, ran_front, resumes}
 
 -- ---- meanwhile no turn is taken
 
--- a timer that runs out takes no turn
-out_turns : (place : Option Place) (w : World) → (at_place run_out place w).world.turns ≡ w.turns
-out_turns None w = refl
-out_turns (Some place) w = stored _ (record w { timer = Expired })
-  where
-    stored : (name : Option (List ℕ)) (v : World) → (store_under name 0 v).world.turns ≡ v.turns
-    stored None v = refl
-    stored (Some name) v = refl
+-- no turn is in the world
+abbrev no_turn : Kinship
+no_turn = staying (λ s. s.world.turns ≡ 0) no_turn_holds
 
--- nor does time that passes
-tick_turns : (shelf : Shelf) (n : ℕ) (timer : Timer) (w : World)
-    → (tick_waiting shelf n timer w).world.turns ≡ w.turns
-tick_turns shelf n NotStarted w = refl
-tick_turns shelf n (Running time) w =
-    elim (ltb n time) as (λ (b : Bool).
-    (cond b (still (record w { timer = Running (time - n) }))
-    (at_place run_out (place_now shelf w) w)).world.turns ≡ w.turns) [
-      | true ↦ refl
-      | false ↦ out_turns (place_now shelf w) w
-    ]
-tick_turns shelf n Off w = refl
-tick_turns shelf n Expired w = refl
+no_turn_dwells : Dwells no_turn
+no_turn_dwells = record {
+  keys = λ s. refl;
+  moves = λ keys s. refl;
+  takes = λ one keys s none. none;
+  counts = λ time left s is none. none;
+  expires = λ time s is none. none;
+}
 
--- nor does any key that is no answer
-meanwhile_turns : (shelf : Shelf) (one : Key) (w : World)
-    → (meanwhile shelf one w).world.turns ≡ w.turns
-meanwhile_turns shelf (key.Open url) w = refl
-meanwhile_turns shelf (key.Do name) w = refl
-meanwhile_turns shelf (key.Pick n) w = refl
-meanwhile_turns shelf (key.Enter n text) w = refl
-meanwhile_turns shelf (key.Choose n m) w = refl
-meanwhile_turns shelf key.Back w = refl
-meanwhile_turns shelf (key.Tick n) w = tick_turns shelf n w.timer w
-meanwhile_turns shelf key.Ok w = refl
-meanwhile_turns shelf key.Cancel w = refl
-meanwhile_turns shelf (key.Answer text) w = refl
-meanwhile_turns shelf key.Stop w = refl
-meanwhile_turns shelf key.Vars w = refl
-meanwhile_turns shelf (key.Push bytes) w = refl
-meanwhile_turns shelf key.Inbox w = refl
-meanwhile_turns shelf (key.Follow n) w = refl
+-- nor is one after a key that is no answer
+meanwhile_turns : (shelf : Shelf) (one : Key) (w : World) → w.turns ≡ 0
+    → (meanwhile shelf one w).world.turns ≡ 0
+meanwhile_turns shelf one w none =
+    meanwhile_holds no_turn no_turn_dwells shelf shelf (λ u so. refl) one (quiet [] (still w)) none
 
 module _ (call : List ℕ → Option Call) (pages : Pages) (one : Waits) (w : World) where
   -- the shelf of the pages
@@ -100,7 +70,7 @@ module _ (call : List ℕ → Option Call) (pages : Pages) (one : Waits) (w : Wo
 
   -- a key in a dialog, by its reply
   turned_is : (one_key : Key) (keys : List Key)
-      → turned call pages (Some one) w one_key keys
+      → resumed_step call pages one (one_key ∷ keys) w
       ≡ replied (reply_to one.dialog one_key) one_key keys
   unfolding resumed_step
   turned_is one_key keys = refl
@@ -108,14 +78,14 @@ module _ (call : List ℕ → Option Call) (pages : Pages) (one : Waits) (w : Wo
   -- by the reply that it is
   by_reply : (one_key : Key) (reply : Reply) → reply_to one.dialog one_key ≡ reply
       → (keys : List Key)
-      → turned call pages (Some one) w one_key keys ≡ replied reply one_key keys
+      → resumed_step call pages one (one_key ∷ keys) w ≡ replied reply one_key keys
   by_reply one_key reply is keys =
       turned_is one_key keys ∙ ap (λ (r : Reply). replied r one_key keys) is
 
   -- an answer: the machine goes on without keys, and what it comes to is what the definition says
   pub answer_means : (one_key : Key) (v : Value) → reply_to one.dialog one_key ≡ answers v
       → (keys : List Key)
-      → turned call pages (Some one) w one_key keys
+      → resumed_step call pages one (one_key ∷ keys) w
       ≡ onward (act (units_site call pages)) (once_of pages (half_of one.limits shelf one.base
       (resumed (uncounted one.limits (host_of pages)) one.frames v w.turns
       (quiet [] (still (inside w))))) keys)
@@ -126,7 +96,7 @@ module _ (call : List ℕ → Option Call) (pages : Pages) (one : Waits) (w : Wo
 
   -- the script is stopped
   pub stop_means : (one_key : Key) → reply_to one.dialog one_key ≡ ends_it → (keys : List Key)
-      → turned call pages (Some one) w one_key keys
+      → resumed_step call pages one (one_key ∷ keys) w
       ≡ onward (act (units_site call pages))
       (once_before keys (ended_script shelf one.base (record {
         end = failed Stopped;
@@ -144,7 +114,7 @@ module _ (call : List ℕ → Option Call) (pages : Pages) (one : Waits) (w : Wo
       Means call pages (record {
         step = quiet [] (record scene { world = record scene.world { turns = w.turns } });
         waiting = Some one;
-      }) (turned call pages (Some one) w one_key)
+      }) (λ keys. resumed_step call pages one (one_key ∷ keys) w)
   unfolding resumed_step
   stay_means one_key is keys =
       let scene = meanwhile shelf one_key (inside w) in
@@ -161,4 +131,5 @@ module _ (call : List ℕ → Option Call) (pages : Pages) (one : Waits) (w : Wo
       ∙ onward_after (act (units_site call pages)) p (ended (go got))
       ∙ ap (λ (v : World). then_step p
       (on (ended (go (answered_by shelf one.dialog keys (quiet keys (still v)))))))
-      (ap (λ (t : ℕ). record scene.world { turns = t }) (meanwhile_turns shelf one_key (inside w)))
+      (ap (λ (t : ℕ). record scene.world { turns = t })
+      (meanwhile_turns shelf one_key (inside w) refl))

@@ -1,6 +1,6 @@
 -- Scripts without further keys, and what these then do.
-use Rattle.std.proofs.Common.{◌≡◌, inl, inr, ℕ, false, List, [], ◌∷◌, ◌++◌}
-use Rattle.std.proofs.Common.{Option, Some, None, refl, sym, ap, ◌∙◌, append_assoc}
+use Rattle.std.proofs.Common.{◌≡◌, inl, inr, ℕ, List, [], ◌∷◌, ◌++◌, Option, Some, None, refl, sym}
+use Rattle.std.proofs.Common.{ap, ◌∙◌, append_assoc}
 use Rattle.wap_base.specs.declared.limits.Limits.{Limits}
 use Rattle.wap_base.specs.declared.key.Key.{Key}
 use Rattle.wap_url.specs.declared.url.Url.{Url}
@@ -11,158 +11,70 @@ use Rattle.wap_execution.specs.declared.fatal.Fatal.{Fatal}
 use Rattle.wap_execution.specs.declared.library.HostOut.{HostOut}
 use Rattle.wap_execution.specs.declared.library.HostOut.TheVariants as out
 use Rattle.wap_execution.specs.Frames.{Frame}
-use Rattle.wap_execution.specs.Outcomes.{Outcome, value, exit, fatal, waits, stuck, Ended, Hosting}
+use Rattle.wap_execution.specs.Outcomes.{Outcome, fatal, waits, Ended}
 use Rattle.wap_execution.specs.Running.{ended, resumed, finished}
 use Rattle.wap_execution.specs.laws.Settings.{uncounted}
-use Rattle.wap_execution.specs.laws.Keyed.{answered_in, gone_on, unrolled}
-use Rattle.wap_execution.specs.laws.Simulation.{Stays, Both, AreAlike, ComeToSame}
+use Rattle.wap_execution.specs.laws.Keyed.{gone_on, unrolled}
+use Rattle.std.specs.Prelude.{⊤}
+use Rattle.wap_execution.specs.laws.Simulation.{AreAlike, ComeToSame}
 use Rattle.wap_execution.proofs.LawsLemmas.KeyedLaws as keyed_laws
 use Rattle.wap_execution.proofs.LawsLemmas.SimLaws as sim_laws
 use Rattle.wap_world.specs.declared.timer.Timer.{Timer}
-use Rattle.wap_world.specs.declared.timer.Timer.TheVariants.{NotStarted, Running, Off, Expired}
+use Rattle.wap_world.specs.declared.timer.Timer.TheVariants.{Expired}
 use Rattle.wap_world.specs.Shelves.{Shelf}
-use Rattle.wap_world.specs.World.{World, place_now}
+use Rattle.wap_world.specs.World.{World}
 use Rattle.wap_world.specs.Steps.{Scene, Step, Once, then_step, after_step, still, quiet, settled}
 use Rattle.wap_world.specs.Sites.{End, done, failed, unanswered}
 use Rattle.wap_world.specs.Starting.{script_line, in_world, or_show, rest, end_done, ended_script}
-use Rattle.wap_world.specs.scripting.Additions.{with_scene}
-use Rattle.wap_world.specs.scripting.Dialogs.{Reply, answers, ends_it, passes, reply_to, meanwhile}
-use Rattle.wap_world.specs.scripting.Dialogs.{after_reply, answered_by, by_keys}
-use Rattle.wap_world.specs.scripting.UnitSites.{Pages, shelf_of, externals_of, unit_under, host_of}
-use Rattle.wap_world.specs.scripting.UnitSites.{keyed_host}
-use Rattle.wap_world.specs.scripting.UnitSites.{end_of, ran_of}
+use Rattle.wap_world.specs.scripting.Dialogs.{answered_by, by_keys}
+use Rattle.wap_world.specs.scripting.UnitSites.{Pages, shelf_of, host_of, keyed_host, end_of}
+use Rattle.wap_world.specs.scripting.UnitSites.{ran_of}
+use Rattle.wap_world.specs.scripting.Views.{NoStep}
 use Rattle.wap_world.specs.scripting.Waiting.{inside}
 use Rattle.wap_world.specs.scripting.Halves.{half_by, half_of, once_of, GoesOnWithKeys}
-use Rattle.wap_world.proofs.Joining.{before, once_before, or_true, after_assoc}
-use Rattle.wap_world.proofs.Joining.{joined_assoc, joined_nothing}
-use Rattle.wap_world.proofs.ScriptingLawsLemmas.Plain.{fronted, rekeyed, IsPlain, external_plain}
-use Rattle.wap_world.proofs.ScriptingLawsLemmas.Plain.{library_plain}
+use Rattle.wap_world.proofs.Joining.{before, once_before, or_true, after_assoc, joined_nothing}
+use Rattle.wap_world.proofs.Hosts.Kin.{Kinship, Kin, Holds, after, turns_changed}
+use Rattle.wap_world.proofs.Hosts.Calls.{itself}
+use Rattle.wap_world.proofs.Hosts.Dialogs.{answered_given, after_dwells}
+use Rattle.wap_world.proofs.Hosts.Runs.{parts_of, moved_alike, hosts_alike}
 
--- no step is lost
-abbrev Never : Step → Type 0
-Never s = ⊥
+-- the same answer, with a step before it
+abbrev pub fronted : {A : Type 0} → Step → A × Step → A × Step
+fronted p gave = (gave.0, then_step p gave.1)
 
--- so what is lost stays so
-never : (host : Hosting Step) → Stays host Never
-never host = record {
-  external = λ s caller url name count working no. absurd no;
-  library = λ s base referer number index arguments no. absurd no;
+-- no turn is in the world, whatever a library changes
+pub no_turn_holds : Holds (λ s. s.world.turns ≡ 0)
+no_turn_holds = record {
+  more = λ lines asked tests s none. none;
+  changes = λ change s none. turns_changed change s.world ∙ none;
 }
 
--- ---- other keys, which nobody reads
-
-module _ (pages : Pages) (keys : List Key) where
-  pub record OtherKeys (s t : Step) : Type 0 where
-    pub is : t ≡ before keys s
-    pub turns : s.world.turns ≡ 0
-    pub closed : s.is_open ≡ false
-
-  -- a plain row before both keys
-  both_keys : {A : Type 0} (f : Step → A × Step) → IsPlain f → (s t : Step) → OtherKeys s t
-      → Both OtherKeys Never Never (f s) (f t)
-  both_keys f plain s t other =
-      let same : f t ≡ rekeyed keys (f s) = ap f other.is ∙ plain.unread keys s in
-      inl (
-        sym (ap (λ g. g.0) same),
-        record {
-          is = ap (λ g. g.1) same;
-          turns = plain.turns s ∙ other.turns;
-          closed = plain.shut s ∙ other.closed;
-        },
-      )
-
-  -- the host doesn't read keys
-  keys_alike : AreAlike OtherKeys Never Never (host_of pages) (host_of pages)
-  keys_alike = record {
-    external = λ s t caller url name count working other.
-        both_keys (λ u. (host_of pages).external u caller url name count working)
-        (external_plain (shelf_of pages) (externals_of pages) (unit_under pages) caller name count
-        working url) s t other;
-    library = λ s t base referer number index arguments other.
-        both_keys (λ u. (host_of pages).library u base referer number index arguments)
-        (library_plain (shelf_of pages) (place_now (shelf_of pages)) base referer number index
-        arguments) s t other;
-    stays = never (host_of pages);
-    stays' = never (host_of pages);
-  }
-
--- ---- what stands before
-
--- a scene behind a step
-scene_front : (p : Step) (scene : Scene) (s : Step)
-    → with_scene scene (then_step p s) ≡ then_step p (with_scene scene s)
-scene_front p scene s = joined_assoc p s (quiet s.keys scene)
-
--- a reply behind a step
-reply_front : (shelf : Shelf) (p : Step) (reply : Reply) (key : Key) (keys : List Key) (s : Step)
-    (later : Step → HostOut × Step) → ((t : Step) → later (then_step p t) ≡ fronted p (later t))
-    → after_reply shelf reply key keys (then_step p s) later
-    ≡ fronted p (after_reply shelf reply key keys s later)
-reply_front shelf p (answers v) key keys s later same = refl
-reply_front shelf p ends_it key keys s later same = refl
-reply_front shelf p passes key keys s later same =
-    ap later (scene_front p (meanwhile shelf key s.world) (before keys s))
-    ∙ same (with_scene (meanwhile shelf key s.world) (before keys s))
+-- before other keys, which nobody reads, and with no turn in the world
+abbrev pub with_keys : List Key → Kinship
+with_keys keys = record {
+  moved = before keys;
+  So = λ s. s.world.turns ≡ 0;
+  moves = record {
+    world = λ s. refl;
+    more = λ lines asked tests s. refl;
+    places = λ w s. refl;
+  };
+  holds = no_turn_holds;
+}
 
 -- keys in a dialog behind a step
 pub answered_front : (shelf : Shelf) (p : Step) (dialog : Dialog) (keys : List Key) (s : Step)
     → answered_by shelf dialog keys (then_step p s) ≡ fronted p (answered_by shelf dialog keys s)
-answered_front shelf p dialog [] s = refl
-answered_front shelf p dialog (key ∷ keys) s =
-    reply_front shelf p (reply_to dialog key) key keys s (answered_by shelf dialog keys)
-    (λ t. answered_front shelf p dialog keys t)
+answered_front shelf p dialog keys s =
+    let given = answered_given (after p) (after_dwells p) shelf shelf (λ u so. refl) dialog keys s
+    (then_step p s) (record { is = refl; so = tt }) in
+    λ i. (sym given.0 i, given.1.is i)
 
--- an answer behind a step
-in_front : (shelf : Shelf) (p : Step) (gave : HostOut) (s : Step)
-    → answered_in (by_keys shelf) gave (then_step p s)
-    ≡ fronted p (answered_in (by_keys shelf) gave s)
-in_front shelf p (out.Value v) s = refl
-in_front shelf p (out.Exit v) s = refl
-in_front shelf p (out.Fatal why) s = refl
-in_front shelf p (out.Asks dialog) s = answered_front shelf p dialog s.keys s
-
-module _ (pages : Pages) (p : Step) where
-  pub record IsBehind (s t : Step) : Type 0 where
-    pub is : t ≡ then_step p s
-
-  -- the same answer behind a step
-  given : {A : Type 0} (a b : A × Step) → b ≡ fronted p a → Both IsBehind Never Never a b
-  given a b is = inl (sym (ap (λ g. g.0) is), record { is = ap (λ g. g.1) is })
-
-  -- a call of a library, whose dialogs are answered
-  abbrev asked : Step → Url → Option Url → ℕ → ℕ → List Value → HostOut × Step
-  asked s base referer number index arguments =
-      (keyed_host pages).library s base referer number index arguments
-
-  -- it doesn't see what stands before
-  library_front : (base : Url) (referer : Option Url) (number index : ℕ) (arguments : List Value)
-      (s : Step)
-      → asked (then_step p s) base referer number index arguments
-      ≡ fronted p (asked s base referer number index arguments)
-  library_front base referer number index arguments s =
-      let gave = (host_of pages).library s base referer number index arguments in
-      ap (λ (g : HostOut × Step). answered_in (by_keys (shelf_of pages)) g.0 g.1)
-      ((library_plain (shelf_of pages) (place_now (shelf_of pages)) base referer number index
-      arguments).behind p s)
-      ∙ in_front (shelf_of pages) p gave.0 gave.1
-
-  -- nor does any call
-  front_alike : AreAlike IsBehind Never Never (keyed_host pages) (keyed_host pages)
-  front_alike = record {
-    external = λ s t caller url name count working r.
-        given ((keyed_host pages).external s caller url name count working)
-        ((keyed_host pages).external t caller url name count working)
-        (ap (λ u. (keyed_host pages).external u caller url name count working) r.is
-        ∙ (external_plain (shelf_of pages) (externals_of pages) (unit_under pages) caller name count
-        working url).behind p s);
-    library = λ s t base referer number index arguments r.
-        given (asked s base referer number index arguments)
-        (asked t base referer number index arguments)
-        (ap (λ u. asked u base referer number index arguments) r.is
-        ∙ library_front base referer number index arguments s);
-    stays = never (keyed_host pages);
-    stays' = never (keyed_host pages);
-  }
+-- no call sees what stands before
+front_alike : (pages : Pages) (p : Step)
+    → AreAlike (Kin (after p)) NoStep NoStep (keyed_host pages) (keyed_host pages)
+front_alike pages p =
+    hosts_alike (after p) (itself (λ s. ⊤) (parts_of pages)) (after_dwells p)
 
 -- ---- how scripts end: other keys
 
@@ -175,10 +87,8 @@ keys_or_show shelf some other (Some task) w = refl
 -- the end without a navigation, before other keys
 keys_rest : (shelf : Shelf) (some other : List Key) (timer : Timer) (w : World)
     → rest shelf other timer w ≡ once_before other (rest shelf some timer w)
-keys_rest shelf some other NotStarted w = refl
-keys_rest shelf some other (Running time) w = refl
-keys_rest shelf some other Off w = refl
 keys_rest shelf some other Expired w = keys_or_show shelf some other _ _
+keys_rest shelf some other timer w = refl
 
 -- the end of a script that is done, before other keys
 keys_done : (shelf : Shelf) (base : Url) (pending : Option Task) (other : List Key) (step : Step)
@@ -189,7 +99,7 @@ keys_done shelf base None other step =
 keys_done shelf base (Some task) other step = refl
 
 -- of one that gave a value
-pub keys_value : (shelf : Shelf) (base : Url) (turns : ℕ) (other : List Key) (step : Step)
+keys_value : (shelf : Shelf) (base : Url) (turns : ℕ) (other : List Key) (step : Step)
     → ended_script shelf base (record { end = done; turns = turns; step = before other step })
     ≡ once_before other (ended_script shelf base
     (record { end = done; turns = turns; step = step }))
@@ -219,7 +129,7 @@ front_done p shelf base None step =
 front_done p shelf base (Some task) step = refl
 
 -- any end behind a step
-pub front_ended : (p : Step) (shelf : Shelf) (base : Url) (end : End) (turns : ℕ) (step : Step)
+front_ended : (p : Step) (shelf : Shelf) (base : Url) (end : End) (turns : ℕ) (step : Step)
     → ended_script shelf base (record { end = end; turns = turns; step = then_step p step })
     ≡ after_step p
     (ended_script shelf base (record { end = end; turns = turns; step = step }))
@@ -246,7 +156,7 @@ module _ (pages : Pages) (base : Url) (limits : Limits) where
 
   -- the second end is the first behind a step
   abbrev Alike : Step → Ended Step → Ended Step → Type 0
-  Alike p end end' = ComeToSame (IsBehind pages p) Never Never end end'
+  Alike p end end' = ComeToSame (Kin (after p)) NoStep NoStep end end'
 
   -- frames that go on behind a step
   pub gone_alike : (p : Step) (frames : List Frame) (gave : HostOut) (turns : ℕ) (s : Step)
@@ -254,14 +164,11 @@ module _ (pages : Pages) (base : Url) (limits : Limits) where
       (gone_on (uncounted limits (keyed_host pages)) (λ end. end) frames gave turns s)
       (gone_on (uncounted limits (keyed_host pages)) (λ end. end) frames gave turns (then_step p s))
   gone_alike p frames (out.Value v) turns s =
-      (sim_laws.agrees (IsBehind pages p) Never Never limits (keyed_host pages) (keyed_host pages)
-      (front_alike pages p)).resuming frames v turns s (then_step p s) (record { is = refl })
-  gone_alike p frames (out.Exit v) turns s =
-      inl (record { outcome = refl; turns = refl; state = record { is = refl } })
-  gone_alike p frames (out.Fatal why) turns s =
-      inl (record { outcome = refl; turns = refl; state = record { is = refl } })
-  gone_alike p frames (out.Asks dialog) turns s =
-      inl (record { outcome = refl; turns = refl; state = record { is = refl } })
+      (sim_laws.agrees (Kin (after p)) NoStep NoStep limits (keyed_host pages) (keyed_host pages)
+      (front_alike pages p)).resuming frames v turns s (then_step p s)
+      (record { is = refl; so = tt })
+  gone_alike p frames gave turns s =
+      inl (record { outcome = refl; turns = refl; state = record { is = refl; so = tt } })
 
   -- what they come to
   pub ran_front : (p : Step) (end end' : Ended Step) → Alike p end end'
@@ -318,23 +225,21 @@ module _ (pages : Pages) (base : Url) (limits : Limits) where
       → step.world.turns ≡ 0
       → unrolls (ended outcome turns (before keys step))
       ≡ once_of pages (half_by limits shelf base outcome turns step) keys
-  goes_on_by (value v) turns step keys none = keys_value shelf base turns keys step
-  goes_on_by (exit v) turns step keys none = keys_value shelf base turns keys step
   goes_on_by (fatal why) turns step keys none = keys_fatal shelf base why turns keys step
   goes_on_by (waits dialog frames) turns step keys none =
       waiting_goes_on dialog frames turns step keys none
-  goes_on_by stuck turns step keys none = keys_value shelf base turns keys step
+  goes_on_by outcome turns step keys none = keys_value shelf base turns keys step
 
   -- the run without keys tells what the run with keys comes to
   goes_on : (keys : List Key) (end end' : Ended Step)
-      → ComeToSame (OtherKeys pages keys) Never Never end end'
+      → ComeToSame (Kin (with_keys keys)) NoStep NoStep end end'
       → unrolls end' ≡ once_of pages (half_of limits shelf base end) keys
   goes_on keys end end' (inr lost) = absurd (lost.0)
   goes_on keys end end' (inl kin) =
       ap (λ (o : Outcome). unrolls (ended o end'.turns end'.state)) (sym kin.outcome)
       ∙ ap (λ (t : ℕ). unrolls (ended end.outcome t end'.state)) (sym kin.turns)
       ∙ ap (λ (s : Step). unrolls (ended end.outcome end.turns s)) kin.state.is
-      ∙ goes_on_by end.outcome end.turns end.state keys kin.state.turns
+      ∙ goes_on_by end.outcome end.turns end.state keys kin.state.so
 
   -- what a run without keys comes to with them
   abbrev with : Ended Step → Once
@@ -352,9 +257,9 @@ module _ (pages : Pages) (base : Url) (limits : Limits) where
       (quiet keys scene))
       ∙ goes_on keys (finished (uncounted limits (host_of pages)) frames turns (quiet [] scene))
       (finished (uncounted limits (host_of pages)) frames turns (quiet keys scene))
-      ((sim_laws.agrees (OtherKeys pages keys) Never Never limits (host_of pages) (host_of pages)
-      (keys_alike pages keys)).finishing frames turns (quiet [] scene) (quiet keys scene)
-      (record { is = refl; turns = none; closed = refl }))
+      ((sim_laws.agrees (Kin (with_keys keys)) NoStep NoStep limits (host_of pages) (host_of pages)
+      (moved_alike (with_keys keys) (parts_of pages))).finishing frames turns (quiet [] scene)
+      (quiet keys scene) (record { is = refl; so = none }))
 
   -- the same of an answer
   pub resumes : (frames : List Frame) (v : Value) (turns : ℕ) (world : World) (keys : List Key)
@@ -369,9 +274,9 @@ module _ (pages : Pages) (base : Url) (limits : Limits) where
       ∙ goes_on keys
       (resumed (uncounted limits (host_of pages)) frames v turns (quiet [] (still world)))
       (resumed (uncounted limits (host_of pages)) frames v turns (quiet keys (still world)))
-      ((sim_laws.agrees (OtherKeys pages keys) Never Never limits (host_of pages) (host_of pages)
-      (keys_alike pages keys)).resuming frames v turns (quiet [] (still world))
-      (quiet keys (still world)) (record { is = refl; turns = none; closed = refl }))
+      ((sim_laws.agrees (Kin (with_keys keys)) NoStep NoStep limits (host_of pages) (host_of pages)
+      (moved_alike (with_keys keys) (parts_of pages))).resuming frames v turns
+      (quiet [] (still world)) (quiet keys (still world)) (record { is = refl; so = none }))
 
 -- over all pages
 pub goes_on_with_keys : (pages : Pages) (base : Url) (limits : Limits)

@@ -1,24 +1,21 @@
--- Tasks are followed, and keys are played, to their end: what counts them never cuts them off.
-use Rattle.std.proofs.Common.{◌≡◌, ℕ, zero, suc, ◌+◌, ◌-◌, ◌<◌, ◌≤◌, List, [], ◌∷◌}
-use Rattle.std.proofs.Common.{length, Option, Some, None, refl, sym, ap, ◌∙◌, arith}
+-- Tasks are followed to their end: what counts them never cuts them off.
+use Rattle.std.proofs.Common.{◌≡◌, ℕ, zero, suc, ◌+◌, ◌-◌, ◌<◌, ◌≤◌, List}
+use Rattle.std.proofs.Common.{Option, Some, None, refl, sym, ap, ◌∙◌, arith}
 use Rattle.std.specs.Prelude.{IfSome}
 use Rattle.wap_url.specs.declared.url.Url.{Url}
 use Rattle.wap_base.specs.declared.key.Key.{Key}
 use Rattle.wap_cardrules.specs.declared.task.Task.{Task}
 use Rattle.wap_cardrules.specs.declared.task.Task.TheVariants as task
-use Rattle.wap_cardrules.specs.declared.task.Go.{Go}
 use Rattle.wap_world.specs.site.Pages.{Pages}
 use Rattle.wap_world.specs.Sites.{Site}
 use Rattle.wap_world.specs.Decks.{decks_site}
 use Rattle.wap_world.specs.World.{World}
-use Rattle.wap_world.specs.Steps.{Step, Once, Next, still, quiet, followed, then_step}
+use Rattle.wap_world.specs.Steps.{Step, Once, Next, then_step}
 use Rattle.wap_world.specs.Tasks.{go, prev, base_now, with_turn, open_url, task_by, task_once}
 use Rattle.wap_world.specs.Tasks.{go_on, onward, act_in, act, visit}
 use Rattle.wap_world.specs.Keys.{react}
-use Rattle.wap_world.specs.Sessions.{played_in, played}
-use Rattle.wap_world.proofs.Walk.{go_moves, prev_moves}
-use Rattle.wap_world.proofs.Laws.{KeepsTurns, turns_kept, keys_fall, leaves_keys}
-use Rattle.wap_world.specs.session_laws.Scripts.{GivesNoTurns, MakesNoKeys}
+use Rattle.wap_world.proofs.Laws.{go_falls, prev_falls, leaves_keys}
+use Rattle.wap_world.specs.session_laws.Scripts.{GivesNoTurns}
 
 -- ---- turns
 
@@ -31,11 +28,6 @@ any_next None Fact fact = tt
 any_next (Some x) Fact fact = fact
 
 module _ (site : Site) (falls : GivesNoTurns site) where
-  go_falls : (keys : List Key) (base : Option Url) (one : Go) (world : World)
-      → (go site keys base one world).step.world.turns ≤ world.turns
-  go_falls keys base one world =
-      go_moves KeepsTurns site (turns_kept site.shelf) falls keys base one world
-
   turn_spent : (keys : List Key) (world : World) (turns : ℕ) (next : World → Once)
       → world.turns ≡ turns → ((w : World) → (next w).step.world.turns ≤ w.turns)
       → Spends world (with_turn site.shelf keys world turns next)
@@ -49,10 +41,10 @@ module _ (site : Site) (falls : GivesNoTurns site) where
       → Spends world (task_by site keys world from one)
   by_spends keys world from (task.Go one) =
       turn_spent keys world world.turns (λ w. go site keys (base_now site.shelf w from) one w) refl
-      (λ w. go_falls keys (base_now site.shelf w from) one w)
+      (λ w. go_falls site falls keys (base_now site.shelf w from) one w)
   by_spends keys world from (task.Prev sets) =
       turn_spent keys world world.turns (prev site.shelf keys sets) refl
-      (λ w. prev_moves KeepsTurns site.shelf (turns_kept site.shelf) keys sets w)
+      (prev_falls site falls keys sets)
   by_spends keys world from (task.Refresh sets) = tt
 
   pub task_spends : (keys : List Key) (world : World) (next : Next)
@@ -140,54 +132,10 @@ pub visit_goes_on : (site : Site) (keys : List Key) (world : World) (text : List
 unfolding visit
 visit_goes_on site keys world text = refl
 
--- ---- keys, one after the other
+-- ---- keys
 
 -- a key leaves the keys after it, where no script is started
 pub keys_left : (pages : Pages) (one : Key) (keys : List Key) (world : World)
     → (react (decks_site pages) one keys world).keys ≡ keys
 keys_left pages one keys world =
     ap (λ (step : Step). step.keys) (leaves_keys pages one keys world)
-
-pub plays_none : (site : Site) (world : World) → played site [] world ≡ quiet [] (still world)
-unfolding played
-plays_none site world = refl
-
-module _ (site : Site) (falls : MakesNoKeys site) where
-  -- how many keys may be played makes no difference where there are enough
-  pub plays_enough : (n m : ℕ) (keys : List Key) (world : World) → length keys ≤ n → length keys ≤ m
-      → played_in n site keys world ≡ played_in m site keys world
-  plays_enough zero zero keys world few other = refl
-  plays_enough zero (suc m) [] world few other = refl
-  plays_enough zero (suc m) (one ∷ keys) world few other = absurd (omega (few, arith))
-  plays_enough (suc n) zero [] world few other = refl
-  plays_enough (suc n) zero (one ∷ keys) world few other = absurd (omega (other, arith))
-  plays_enough (suc n) (suc m) [] world few other = refl
-  plays_enough (suc n) (suc m) (one ∷ keys) world few other =
-      let step = react site one keys world in
-      let fewer = keys_fall site falls one keys world in
-      ap (then_step step)
-      (plays_enough n m step.keys step.world (omega (few, fewer, arith)) (omega (other, fewer, arith)))
-
-  -- a key, and then those that it leaves
-  pub plays_first : (one : Key) (keys : List Key) (world : World)
-      → played site (one ∷ keys) world ≡ followed (react site one keys world) (played site)
-  unfolding played
-  plays_first one keys world =
-      let step = react site one keys world in
-      ap (then_step step)
-      (plays_enough (length keys) (length step.keys) step.keys step.world
-      (keys_fall site falls one keys world) (omega arith))
-
-  plays_to_end : (n : ℕ) (keys : List Key) (world : World) → length keys ≤ n
-      → (played_in n site keys world).keys ≡ []
-  plays_to_end zero [] world few = refl
-  plays_to_end zero (one ∷ keys) world few = absurd (omega (few, arith))
-  plays_to_end (suc n) [] world few = refl
-  plays_to_end (suc n) (one ∷ keys) world few =
-      let step = react site one keys world in
-      plays_to_end n step.keys step.world (omega (few, keys_fall site falls one keys world, arith))
-
-  -- no key is left
-  pub plays_all : (keys : List Key) (world : World) → (played site keys world).keys ≡ []
-  unfolding played
-  plays_all keys world = plays_to_end (length keys) keys world (omega arith)

@@ -1,6 +1,6 @@
 -- Every key leaves a world that stands on a card.
-use Rattle.std.proofs.Common.{◌≡◌, ◌<◌, true, List, [], ◌∷◌, ◌++◌, length, drop}
-use Rattle.std.proofs.Common.{Some, None, refl, sym, ap, ◌∙◌}
+use Rattle.std.proofs.Common.{◌≡◌, ◌<◌, true, List, [], ◌∷◌, ◌++◌, length, drop, Some, None, refl}
+use Rattle.std.proofs.Common.{sym, ap, ◌∙◌}
 use Rattle.std.specs.Prelude.{is_some, nat_lt, if◌then◌else◌}
 use Rattle.std.specs.Option.{option_and_then}
 use Rattle.std.specs.List.{last_or}
@@ -18,9 +18,10 @@ use Rattle.wap_world.specs.World.{World, Place, place_in, place_of, deck_at, pla
 use Rattle.wap_world.specs.History.{pushed, entry_of, in_deck, back_at, all_but_last}
 use Rattle.wap_world.specs.Tasks.{card_for}
 use Rattle.wap_world.specs.Keys.{react}
-use Rattle.wap_world.proofs.Entries.{last_pushed, pushed_some, item_some}
-use Rattle.wap_world.proofs.Entries.{fragment_below, earlier_below, earlier_url}
-use Rattle.wap_world.proofs.Walk.{Keeping, Kept, react_moves}
+use Rattle.wap_world.proofs.Entries.{last_pushed, pushed_some, item_some, fragment_below}
+use Rattle.wap_world.proofs.Entries.{earlier_below, earlier_url}
+use Rattle.wap_world.proofs.Alike.{Fact}
+use Rattle.wap_world.proofs.Invariants.{Keeps, react_keeps}
 use Rattle.wap_world.specs.session_laws.Standing.{HaveCards, StandsOnCard}
 use Rattle.wap_world.specs.session_laws.Scripts.{ScriptsKeep}
 
@@ -49,8 +50,8 @@ stands_at shelf world others entry deck is has below =
 
 -- ---- each change of a world
 
-abbrev Keeps : Shelf → Keeping
-Keeps shelf keys old left new = StandsOnCard shelf old → StandsOnCard shelf new
+abbrev pub Stands : Shelf → Fact
+Stands shelf keys w = StandsOnCard shelf w
 
 keeps_push : (shelf : Shelf) → HaveCards shelf → (world : World) (url : Url) (deck : Deck)
     → deck_at shelf url ≡ Some deck
@@ -86,30 +87,28 @@ nowhere shelf world place none here =
 settled_off : (timer : Timer) → timer ≡ NotStarted → settled_timer timer ≡ NotStarted
 settled_off timer is = ap settled_timer is
 
-pub standing_kept : (shelf : Shelf) → HaveCards shelf → Kept (Keeps shelf) shelf
-standing_kept shelf cards = record {
-  none = λ k w s. s;
-  joins = λ k u l v m w f g s. g (f s);
+pub standing_kept : (site : Site) → HaveCards site.shelf → Keeps (Stands site.shelf) site
+standing_kept site cards = record {
   vars = λ k w v s. record { card = s.card; timer = s.timer };
   reset = λ k w s. record { card = s.card; timer = λ none. refl };
-  timer = λ k w t place here s. record {
+  timer = λ k w t place e here s. record {
     card = s.card;
-    timer = λ none. absurd (nowhere shelf w place none here);
+    timer = λ none. absurd (nowhere site.shelf w place none here);
   };
-  settle = λ k w s. record {
+  turn = λ k w n e s. record { card = s.card; timer = s.timer };
+  clear = λ k w s. record { card = refl; timer = λ none. refl };
+  push = λ k w url deck fine has s. keeps_push site.shelf cards w url deck has;
+  pop = λ k w e deck fine has s. keeps_pop site.shelf cards w e deck has;
+  begins = λ k w s. record { card = s.card; timer = s.timer };
+  ends = λ k w s. record {
     card = s.card;
     timer = λ none. settled_off w.timer (s.timer none);
   };
-  pending = λ k w t s. record { card = s.card; timer = s.timer };
-  turn = λ k w n e s. record { card = s.card; timer = s.timer };
-  clear = λ k w s. record { card = refl; timer = λ none. refl };
-  push = λ k w url deck has s. keeps_push shelf cards w url deck has;
-  pop = λ k w e deck has s. keeps_pop shelf cards w e deck has;
 }
 
 pub keeps_standing : (site : Site) (one : Key) (keys : List Key) (world : World)
     → ScriptsKeep (StandsOnCard site.shelf) site → HaveCards site.shelf
     → StandsOnCard site.shelf world → StandsOnCard site.shelf (react site one keys world).world
 keeps_standing site one keys world runs cards stands =
-    react_moves (Keeps site.shelf) site (standing_kept site.shelf cards) runs one keys world
+    react_keeps (Stands site.shelf) site (standing_kept site cards) runs one keys world
     (record { card = stands.card; timer = stands.timer })

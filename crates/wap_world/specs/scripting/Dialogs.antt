@@ -12,7 +12,7 @@ use Rattle.wap_execution.specs.declared.fatal.Fatal.TheVariants.{Stopped}
 use Rattle.wap_execution.specs.declared.library.HostOut.{HostOut}
 use Rattle.wap_execution.specs.declared.library.HostOut.TheVariants as out
 use Rattle.wap_world.specs.declared.timer.Timer.{Timer}
-use Rattle.wap_world.specs.declared.timer.Timer.TheVariants.{NotStarted, Running, Off, Expired}
+use Rattle.wap_world.specs.declared.timer.Timer.TheVariants.{Running, Expired}
 use Rattle.wap_world.specs.Shelves.{Shelf}
 use Rattle.wap_world.specs.World.{World, Place}
 use Rattle.wap_world.specs.Lines.{variable_line}
@@ -40,39 +40,18 @@ pub data Reply : Type 0 where
 
 -- a prompt, by its default: `ok` and `cancel` give that
 abbrev pub reply_to_prompt : List ℕ → Key → Reply
-reply_to_prompt first (key.Open url) = passes
-reply_to_prompt first (key.Do name) = passes
-reply_to_prompt first (key.Pick n) = passes
-reply_to_prompt first (key.Enter n text) = passes
-reply_to_prompt first (key.Choose n m) = passes
-reply_to_prompt first key.Back = passes
-reply_to_prompt first (key.Tick n) = passes
 reply_to_prompt first key.Ok = answers (Str first)
 reply_to_prompt first key.Cancel = answers (Str first)
 reply_to_prompt first (key.Answer text) = answers (Str text)
 reply_to_prompt first key.Stop = ends_it
-reply_to_prompt first key.Vars = passes
-reply_to_prompt first (key.Push bytes) = passes
-reply_to_prompt first key.Inbox = passes
-reply_to_prompt first (key.Follow n) = passes
+reply_to_prompt first other = passes
 
 -- a confirm or an alert, by what `ok` and `cancel` give
 abbrev pub reply_to_buttons : Value → Value → Key → Reply
-reply_to_buttons first second (key.Open url) = passes
-reply_to_buttons first second (key.Do name) = passes
-reply_to_buttons first second (key.Pick n) = passes
-reply_to_buttons first second (key.Enter n text) = passes
-reply_to_buttons first second (key.Choose n m) = passes
-reply_to_buttons first second key.Back = passes
-reply_to_buttons first second (key.Tick n) = passes
 reply_to_buttons first second key.Ok = answers first
 reply_to_buttons first second key.Cancel = answers second
-reply_to_buttons first second (key.Answer text) = passes
 reply_to_buttons first second key.Stop = ends_it
-reply_to_buttons first second key.Vars = passes
-reply_to_buttons first second (key.Push bytes) = passes
-reply_to_buttons first second key.Inbox = passes
-reply_to_buttons first second (key.Follow n) = passes
+reply_to_buttons first second other = passes
 
 -- a key in a dialog; a confirm gives whether its first button was taken, and an alert ""
 abbrev pub reply_to : Dialog → Key → Reply
@@ -90,31 +69,17 @@ run_out place world = store_time place.card 0 (record world { timer = Expired })
 
 -- some time passes in a dialog: less than remains, or all
 abbrev pub tick_waiting : Shelf → ℕ → Timer → World → Scene
-tick_waiting shelf n NotStarted world = ignored world
 tick_waiting shelf n (Running time) world =
     if nat_lt n time then still (record world { timer = Running (time - n) })
     else here shelf run_out world
-tick_waiting shelf n Off world = ignored world
-tick_waiting shelf n Expired world = ignored world
+tick_waiting shelf n other world = ignored world
 
 -- what a key does that is no answer; the dialog stays open
 abbrev pub meanwhile : Shelf → Key → World → Scene
-meanwhile shelf (key.Open url) world = ignored world
-meanwhile shelf (key.Do name) world = ignored world
-meanwhile shelf (key.Pick n) world = ignored world
-meanwhile shelf (key.Enter n text) world = ignored world
-meanwhile shelf (key.Choose n m) world = ignored world
-meanwhile shelf key.Back world = ignored world
 meanwhile shelf (key.Tick n) world = tick_waiting shelf n world.timer world
-meanwhile shelf key.Ok world = ignored world
-meanwhile shelf key.Cancel world = ignored world
-meanwhile shelf (key.Answer text) world = ignored world
-meanwhile shelf key.Stop world = ignored world
 meanwhile shelf key.Vars world =
     record { world = world; lines = map variable_line world.vars }
-meanwhile shelf (key.Push bytes) world = ignored world
-meanwhile shelf key.Inbox world = ignored world
-meanwhile shelf (key.Follow n) world = ignored world
+meanwhile shelf other world = ignored world
 
 -- ---- answers
 

@@ -19,7 +19,7 @@ use Rattle.wap_libs.specs.declared.outcome.LibOut.TheVariants as lib
 use Rattle.wap_libs.specs.Row.{argument}
 use Rattle.wap_libs.specs.Outcome.{outcome, generator_after}
 use Rattle.wap_world.specs.declared.refusal.Refusal.{Refusal}
-use Rattle.wap_world.specs.Shelves.{Shelf, Shelved, deck_page, script_page, text_page, refused_page}
+use Rattle.wap_world.specs.Shelves.{Shelf, Shelved, script_page}
 use Rattle.wap_world.specs.Shelves.{no_page}
 use Rattle.wap_world.specs.World.{World, Place}
 use Rattle.wap_world.specs.Steps.{Step}
@@ -52,8 +52,6 @@ module _ {U : Type 0} (shelf : Shelf) (externals : List ℕ → List ℕ → Opt
     (code : List ℕ → U) where
   -- the page that answers is no script, or one whose access pragmas decide
   abbrev pub found_under : Url → Url → List ℕ → ℕ → ℕ → Step → Shelved → Found U × Step
-  found_under caller url function count working step (deck_page deck) =
-      (Not fatal.UnitRefused, step)
   found_under caller url function count working step (script_page entrance) =
       let one = test_of url (Some caller) entrance in
       let name = name_for url in (
@@ -61,10 +59,9 @@ module _ {U : Type 0} (shelf : Shelf) (externals : List ℕ → List ℕ → Opt
             step.world.limits.depth working (externals name function)),
         with_test one step,
       )
-  found_under caller url function count working step (text_page text) =
-      (Not fatal.UnitRefused, step)
-  found_under caller url function count working step refused_page = (Not fatal.UnitRefused, step)
   found_under caller url function count working step no_page = (Not fatal.NoUnit, step)
+  found_under caller url function count working step other =
+      (Not fatal.UnitRefused, step)
 
   -- the page is asked for, where the target can be one
   abbrev pub found_at : Url → List ℕ → ℕ → ℕ → Step → Result Url Refusal → Found U × Step

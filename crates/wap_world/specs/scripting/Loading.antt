@@ -13,7 +13,7 @@ use Rattle.wap_value.specs.declared.value.Value.{Value}
 use Rattle.wap_value.specs.declared.value.Value.TheVariants.{Int, Str, Invalid}
 use Rattle.wap_execution.specs.declared.library.HostOut.{HostOut}
 use Rattle.wap_world.specs.declared.refusal.Refusal.{Refusal}
-use Rattle.wap_world.specs.Shelves.{Shelf, Shelved, deck_page, script_page, text_page, refused_page}
+use Rattle.wap_world.specs.Shelves.{Shelf, Shelved, text_page}
 use Rattle.wap_world.specs.Shelves.{no_page}
 use Rattle.wap_world.specs.Steps.{Step}
 use Rattle.wap_world.specs.Urls.{page_url}
@@ -31,11 +31,9 @@ not_found = Int (pos 404)
 
 -- what a page of a text's name gives
 abbrev pub text_in : Shelved → Value
-text_in (deck_page deck) = not_acceptable
-text_in (script_page entrance) = not_acceptable
 text_in (text_page text) = Str text
-text_in refused_page = not_acceptable
 text_in no_page = not_found
+text_in other = not_acceptable
 
 -- the page is asked for whatever its name, and a text has a name that ends in `.txt`
 abbrev pub loaded : Shelf → Url → Step → HostOut × Step

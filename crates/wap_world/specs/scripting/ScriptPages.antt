@@ -32,11 +32,8 @@ page_under name pages = lookup (λ other. is_same_text other name) pages
 
 -- the script that stands there, if one does
 abbrev pub script_in : {U : Type 0} → Option (PageOf U) → Option U
-script_in (Some (deck one)) = None
 script_in (Some (script one)) = Some one
-script_in (Some (words text)) = None
-script_in (Some refused) = None
-script_in None = None
+script_in other = None
 
 -- ---- what a browser asks of scripts
 

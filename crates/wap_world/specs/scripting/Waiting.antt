@@ -1,19 +1,22 @@
 -- Sessions between two keys, over units: at rest, or with a script that waits in a dialog. This
 -- project's own.
-use Rattle.std.specs.Prelude.{ℕ, List, Option, Some, None}
+use Rattle.std.specs.Prelude.{ℕ, List, Option, Some, None, Result}
 use Rattle.wap_base.specs.declared.limits.Limits.{Limits}
 use Rattle.wap_base.specs.declared.key.Key.{Key}
 use Rattle.wap_url.specs.declared.url.Url.{Url}
+use Rattle.wap_push.specs.declared.indication.Indication.{Indication}
+use Rattle.wap_push.specs.declared.fault.PushFault.{PushFault}
 use Rattle.wap_execution.specs.declared.dialog.Dialog.{Dialog}
 use Rattle.wap_execution.specs.Frames.{Frame}
 use Rattle.wap_execution.specs.laws.Settings.{uncounted}
 use Rattle.wap_execution.specs.laws.Keyed.{gone_on}
 use Rattle.wap_world.specs.World.{World}
-use Rattle.wap_world.specs.Steps.{Step, Once, still, quiet, followed}
+use Rattle.wap_world.specs.Steps.{Step, Once, still, quiet}
 use Rattle.wap_world.specs.Sites.{Call, Ran}
 use Rattle.wap_world.specs.Starting.{ended_script}
 use Rattle.wap_world.specs.Tasks.{onward, act}
-use Rattle.wap_world.specs.Sessions.{played}
+use Rattle.wap_world.specs.inboxes.Inboxes.{Phone, Stepped, taking_none}
+use Rattle.wap_world.specs.Sessions.{followed_with, played}
 use Rattle.wap_world.specs.scripting.Dialogs.{answered_by}
 use Rattle.wap_world.specs.scripting.UnitSites.{Pages, shelf_of, keyed_host, ran_of, units_site}
 
@@ -29,7 +32,7 @@ pub record Waits : Type 0 where
 -- a session between two keys
 pub record State : Type 0 where
   -- with the turns that are left to the key at hand
-  pub world : World
+  pub phone : Phone
   pub waiting : Option Waits
 
 -- while scripts run turns are counted apart
@@ -59,7 +62,11 @@ module _ (call : List ℕ → Option Call) (pages : Pages) where
   left_over None keys world = quiet keys (still world)
   left_over (Some one) keys world = resumed_step one keys world
 
-  -- what keys come to from a state on
-  abbrev pub played_from : State → List Key → Step
-  played_from state keys =
-      followed (left_over state.waiting keys state.world) (played (units_site call pages))
+-- what is pushed is read like this
+module _ (read : List ℕ → Result Indication PushFault) (call : List ℕ → Option Call)
+    (pages : Pages) where
+  -- what keys come to from a state on; in a dialog no push is taken
+  abbrev pub played_from : State → List Key → Stepped
+  played_from state keys = followed_with
+      (taking_none state.phone (left_over call pages state.waiting keys state.phone.world))
+      (played read (units_site call pages))

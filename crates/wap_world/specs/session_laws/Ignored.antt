@@ -9,7 +9,7 @@ use Rattle.wap_cardrules.specs.Fields.{field_with, numbered}
 use Rattle.wap_cardrules.specs.Selects.{options_of}
 use Rattle.wap_world.specs.Sites.{Site}
 use Rattle.wap_world.specs.declared.timer.Timer.{Timer}
-use Rattle.wap_world.specs.declared.timer.Timer.TheVariants.{NotStarted, Running, Off, Expired}
+use Rattle.wap_world.specs.declared.timer.Timer.TheVariants.{Running}
 use Rattle.wap_world.specs.World.{World}
 use Rattle.wap_world.specs.Steps.{quiet}
 use Rattle.wap_world.specs.Keys.{react, renewed, ignored}
@@ -22,20 +22,11 @@ IsIgnored site one keys world = react site one keys world ≡ quiet keys (ignore
 -- those of an inbox
 abbrev pub is_for_card : Key → Bool
 is_for_card (key.Open url) = false
-is_for_card (key.Do name) = true
-is_for_card (key.Pick n) = true
-is_for_card (key.Enter n text) = true
-is_for_card (key.Choose n m) = true
-is_for_card key.Back = true
-is_for_card (key.Tick n) = true
-is_for_card key.Ok = true
-is_for_card key.Cancel = true
-is_for_card (key.Answer text) = true
-is_for_card key.Stop = true
 is_for_card key.Vars = false
 is_for_card (key.Push bytes) = false
 is_for_card key.Inbox = false
 is_for_card (key.Follow n) = false
+is_for_card other = true
 
 -- the option of a number, in the select of another
 abbrev pub option_with : Node → ℕ → ℕ → Option Node
@@ -44,7 +35,5 @@ option_with card n m =
 
 -- whether some time remains of a timer
 abbrev pub is_running : Timer → Bool
-is_running NotStarted = false
 is_running (Running time) = true
-is_running Off = false
-is_running Expired = false
+is_running other = false

@@ -2,7 +2,6 @@ use Rattle.std.proofs.Common.{sym, subst}
 use Rattle.wap_cli.specs.declared.status.Status.TheVariants.{NoMemory}
 use Rattle.wap_cli.specs.browse.Plays.{opened}
 use Rattle.wap_cli.proofs.BrowseLemmas.Exits.{nothing_browses}
-use Rattle.wap_cli.proofs.BrowseLemmas.Summary.{browses_by}
 use Rattle.wap_cli.proofs.BrowseLemmas.Forgetting.{browsed_over}
 use Rattle.wap_cli.specs.Browsing.{BrowsesOver}
 use Rattle.wap_cli.specs.Devices.{Devices, uncached}
@@ -22,8 +21,7 @@ returns-in-Err g c =
     (record { store = g.S.Store.seen store; source = source; sink = sink }) NoMemory)
     (sym c.in-Err.ensures.back)
     (browses_over begun capacity devices devices NoMemory
-    (browses_by (opened begun) (uncached capacity devices) (uncached capacity devices) NoMemory
-    (nothing_browses (opened begun) (uncached capacity devices))))
+    (nothing_browses (opened begun) (uncached capacity devices)))
 
 pub returns : goal.returns
 returns g c =

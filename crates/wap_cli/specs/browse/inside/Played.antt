@@ -12,14 +12,12 @@ use Rattle.wap_world.specs.scripting.UnitSites.{Pages, shelf_of}
 use Rattle.wap_context.specs.Browsers.{IsOver}
 use Rattle.wap_context.specs.Missing.{Missed}
 use Rattle.wap_context.specs.Sites.{IfOver}
-use Rattle.wap_session.specs.handset.Feeding.{State, step_of, PlaysOn}
+use Rattle.wap_session.specs.Feeding.{State, step_of, PlaysOn}
 use Rattle.wap_cli.specs.browse.Plays.{IsNoPush}
 use Rattle.wap_cli.specs.declared.status.Status.{Status}
-use Rattle.wap_cli.specs.declared.status.Status.TheVariants.{Done, Usage, Refused, StoreFault}
-use Rattle.wap_cli.specs.declared.status.Status.TheVariants.{KeyReadFault, WriteFault, NoMemory}
-use Rattle.wap_cli.specs.declared.status.Status.TheVariants.{BadKey, OpenDialog, TooManyKeys}
+use Rattle.wap_cli.specs.declared.status.Status.TheVariants.{StoreFault, WriteFault, NoMemory}
 
--- what a key is seen to move: pages, the handset and the sink
+-- what a key is seen to move: pages, the session and the sink
 pub record Moment : Type 0 where
   pub pages : Seen
   pub state : State
@@ -80,20 +78,13 @@ pub record RunsOut (old new : Moment) : Type 0 where
   pub unwritten : new.sink ≡ old.sink
   pub stays : Stays old.pages new.pages
 
--- why a session stops at a key
-abbrev pub Stops : Status → Key → Moment → Moment → Type 0
-Stops StoreFault key old new = FailsAtStore key old new
-Stops WriteFault key old new = FailsAtSink key old new
-Stops NoMemory key old new = RunsOut old new
-Stops Done key old new = ⊥
-Stops Usage key old new = ⊥
-Stops (Refused fault) key old new = ⊥
-Stops KeyReadFault key old new = ⊥
-Stops (BadKey line fault) key old new = ⊥
-Stops OpenDialog key old new = ⊥
-Stops TooManyKeys key old new = ⊥
+-- why a session stops at a key, with each status, and with no other
+pub data Stops (key : Key) (old new : Moment) : Status → Type 0 where
+  at_store : FailsAtStore key old new → Stops key old new StoreFault
+  at_sink : FailsAtSink key old new → Stops key old new WriteFault
+  for_memory : RunsOut old new → Stops key old new NoMemory
 
 -- a key was played, or the session stops
 abbrev pub Plays : Key → Moment → Moment → {A : Type 0} → Result A Status → Type 0
 Plays key old new (Ok done) = GoesOn key old new
-Plays key old new (Err status) = Stops status key old new
+Plays key old new (Err status) = Stops key old new status

@@ -6,11 +6,12 @@ use Rattle.wap_base.specs.declared.key.Key.{Key}
 use Rattle.wap_base.specs.declared.key.Key.TheVariants.{Vars}
 use Rattle.wap_devices.specs.Stores.{Held}
 use Rattle.wap_make.specs.Folders.{folder}
+use Rattle.wap_push.specs.Pushes.{push_at}
 use Rattle.wap_pages.specs.Judged.{judged}
 use Rattle.wap_world.specs.site.Pages.{Pages}
 use Rattle.wap_world.specs.site.Asking.{Seen}
 use Rattle.wap_world.specs.Sites.{Site}
-use Rattle.wap_world.specs.Sessions.{played, shown_by, world_of}
+use Rattle.wap_world.specs.Sessions.{shown_by, world_of, unpushed, played}
 use Rattle.wap_world.specs.scripting.UnitSites.{unit_pages}
 use Rattle.wap_context.specs.Sites.{site_of}
 use Rattle.wap_cli.specs.declared.made.playing.Played.{Played}
@@ -34,7 +35,7 @@ pub record IsMade (folder : Contents) (seen : Seen) : Type 0 where
 
 -- the lines of keys from the beginning
 abbrev pub lines_by : Site → List Key → List (List ℕ)
-lines_by site keys = shown_by (played site keys (world_of made_begun))
+lines_by site keys = shown_by (played push_at site keys (unpushed (world_of made_begun))).step
 
 -- it is what these keys come to
 pub record IsPlayed (site : Site) (keys : List Key) (came : Played) : Type 0 where

@@ -1,7 +1,7 @@
 -- Fetching what was saved, and finding the deck of its current card. This project's own.
-use Rattle.std.specs.Prelude.{◌≡◌, ◌≢◌, ◌⊎◌, ◌≤◌, ℕ, List, [], ◌∷◌, Some, None, Result}
+use Rattle.std.specs.Prelude.{◌≡◌, ◌⊎◌, ◌≤◌, ℕ, List, [], ◌∷◌, Some, None, Result}
 use Rattle.std.specs.Prelude.{IfOk, IfErr, OnOk}
-use Rattle.wap_base.specs.Count.{raised, Rose}
+use Rattle.wap_base.specs.Count.{raised}
 use Rattle.wap_base.specs.Contents.{Contents}
 use Rattle.wap_devices.specs.Stores.{Known, told, Agrees, StoreSeen, Grew}
 use Rattle.wap_devices.specs.declared.store.Fetched.TheVariants.{Found}
@@ -14,11 +14,11 @@ use Rattle.wap_pages.specs.declared.fault.PageFault.TheVariants.{Missing, Image,
 use Rattle.wap_pages.specs.Judged.{Refuses}
 use Rattle.wap_cli.specs.Answers.{IsPageOf}
 use Rattle.wap_cli.specs.declared.status.Status.{Status}
-use Rattle.wap_cli.specs.declared.status.Status.TheVariants.{Refused, StoreFault, NoMemory}
+use Rattle.wap_cli.specs.declared.status.Status.TheVariants.{Refused, NoMemory}
 use Rattle.wap_cli.specs.browse.Outside.{Outside}
 use Rattle.wap_cli.specs.browse.Headline.{BrowsesSeen}
 use Rattle.wap_cli.specs.resume.Resuming.{resumed, HasDeck, LacksDeck, Hinders}
-use Rattle.wap_cli.specs.resume.Resuming.{EndsUnbegun, Unbegun}
+use Rattle.wap_cli.specs.resume.Resuming.{Fails, Unbegun}
 
 -- ---- one page that is fetched
 
@@ -28,14 +28,6 @@ pub record IsFetched (before after : StoreSeen) : Type 0 where
   pub fetches : after.fetches ≡ raised before.fetches
   pub listings : after.listings ≡ before.listings
   pub counts : before.faults ≤ after.faults
-
--- that gave nothing, for one of these causes
-pub record GivesNone (Cause : PageFault → Type 0) (before after : StoreSeen) (status : Status)
-    : Type 0 where
-  pub ends : EndsUnbegun status
-  pub refused : (fault : PageFault) → status ≡ Refused fault → Cause fault
-  pub failed : status ≡ StoreFault → Rose before.faults after.faults
-  pub steady : status ≢ StoreFault → status ≢ NoMemory → after.faults ≡ before.faults
 
 -- ---- what was saved
 
@@ -52,7 +44,7 @@ pub record Loads (name : List ℕ) (before after : StoreSeen) (result : Result S
         × IsPageOf after.known name (Some bytes) × IsImage bytes saved)
     pub rules : IfOk result (λ saved. MayBeSaved saved.0 saved.1)
     pub steady : OnOk result (after.faults ≡ before.faults)
-    pub none : IfErr result (GivesNone (Hinders after.known name) before after)
+    pub none : IfErr result (Fails (Hinders after.known name) before.faults after.faults)
     pub fetched : IsFetched before after
 
 -- ---- the deck of the current card
@@ -73,7 +65,7 @@ pub data IsCause (known : Known) (name : List ℕ) : PageFault → Type 0 where
 
 -- the page of a name is fetched anew, and judged for why it is no deck
 pub record RefusesDeck (name : List ℕ) (before after : StoreSeen) (status : Status) : Type 0 where
-  pub none : GivesNone (IsCause after.known name) before after status
+  pub none : Fails (IsCause after.known name) before.faults after.faults status
   pub fetched : IsFetched before after
 
 -- ---- all of it

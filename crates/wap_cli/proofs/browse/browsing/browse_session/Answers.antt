@@ -1,21 +1,20 @@
 -- The URL is opened as a key before the first, and then the keys are read and played.
 use Rattle.std.proofs.Common.{ap}
 use Rattle.wap_base.specs.declared.key.Key.TheVariants.{Open}
-use Rattle.wap_session.specs.handset.Feeding.{State}
+use Rattle.wap_session.specs.Feeding.{State}
 use Rattle.wap_cli.specs.browse.Beginning.{begun_with}
 use Rattle.wap_cli.specs.browse.Plays.{opened}
 use Rattle.wap_cli.specs.browse.Outside.{Outside}
-use Rattle.wap_cli.specs.browse.Standing.{Moved, moved_of, outside_of}
+use Rattle.wap_cli.specs.browse.Standing.{Moved, moved_of}
 use Rattle.wap_cli.specs.browse.inside.Played.{Moment}
-use Rattle.wap_cli.proofs.BrowseLemmas.Going.{opens_first, browsed_after, played_to}
+use Rattle.wap_cli.proofs.BrowseLemmas.Going.{opens_first, browsed_after}
 use Rattle.wap_cli.proofs.BrowseLemmas.Exits.{first_stops, stop_undone}
-use Rattle.wap_cli.proofs.BrowseLemmas.Summary.{browses_by}
 use Rattle.wap_cli.proofs.browse.browsing.browse_session.Goals as goal
 
--- a new handset isn't over
+-- a new session isn't over
 pub play-requires : goal.play-requires
 play-requires g c =
-    ap (λ (state : State). state.is_over) (c.new-handset.ensures c.args.begun.url)
+    ap (λ (state : State). state.is_over) (c.new-session.ensures c.args.begun.url)
 
 -- the first key was played
 pub returns-clause-browses : goal.returns-clause-browses
@@ -27,12 +26,12 @@ returns-clause-browses g c =
     let begun = begun_with c.args.begun in
     let new : Moment = record {
       pages = g.P.Pages.seen c.play.new.pages;
-      state = c.play.new.handset;
+      state = c.play.new.session;
       sink = g.O.Sink.seen c.play.new.out;
     } in
     c.play_keys-status.ensures.browses (opened begun) from
-    (browsed_after (opened begun) _ (Open begun.url) from from c.new-handset.result new
-    (opens_first begun from c.new-handset.result (c.new-handset.ensures begun.url))
+    (browsed_after (opened begun) _ (Open begun.url) from from c.new-session.result new
+    (opens_first begun from c.new-session.result (c.new-session.ensures begun.url))
     c.in_default.ensures)
 
 pub returns-clause-rests : goal.returns-clause-rests
@@ -44,12 +43,12 @@ returns-clause-rests g c done =
     let begun = begun_with c.args.begun in
     let new : Moment = record {
       pages = g.P.Pages.seen c.play.new.pages;
-      state = c.play.new.handset;
+      state = c.play.new.session;
       sink = g.O.Sink.seen c.play.new.out;
     } in
     c.play_keys-status.ensures.rests (opened begun) from
-    (browsed_after (opened begun) _ (Open begun.url) from from c.new-handset.result new
-    (opens_first begun from c.new-handset.result (c.new-handset.ensures begun.url))
+    (browsed_after (opened begun) _ (Open begun.url) from from c.new-session.result new
+    (opens_first begun from c.new-session.result (c.new-session.ensures begun.url))
     c.in_default.ensures)
     done
 
@@ -64,14 +63,13 @@ returns-in-Err-clause-browses g c =
     let begun = begun_with c.args.begun in
     let new : Moment = record {
       pages = g.P.Pages.seen c.play.new.pages;
-      state = c.play.new.handset;
+      state = c.play.new.session;
       sink = g.O.Sink.seen c.play.new.out;
     } in
-    browses_by (opened begun) old (outside_of (played_to new) old.source) c.in-Err.status
-    (first_stops (opened begun) old (moved_of old) c.new-handset.result (Open begun.url) new
+    first_stops (opened begun) old (moved_of old) c.new-session.result (Open begun.url) new
     c.in-Err.status
-    (opens_first begun (moved_of old) c.new-handset.result (c.new-handset.ensures begun.url))
-    c.in-Err.ensures)
+    (opens_first begun (moved_of old) c.new-session.result (c.new-session.ensures begun.url))
+    c.in-Err.ensures
 
 pub returns-in-Err-clause-rests : goal.returns-in-Err-clause-rests
 returns-in-Err-clause-rests g c done =

@@ -1,7 +1,7 @@
 -- A key that fits nothing, and its line, which was written or not: lemmas of Unpushed.
 use Rattle.std.proofs.Common.{rules, ◌∷◌, [], List, ℕ, Ok, refl, sym, subst}
-use Rattle.wap_session.specs.handset.Feeding.{Plays}
-use Rattle.wap_cli.specs.browse.inside.Played.{Moment}
+use Rattle.wap_session.specs.Feeding.{Plays}
+use Rattle.wap_cli.specs.browse.inside.Played.{Moment, Stops}
 use Rattle.wap_cli.proofs.BrowseLemmas.Unpushed.{goes_on, stops_there}
 use Rattle.wap_cli.proofs.browse.playing.play_read.Goals as goal
 
@@ -10,7 +10,7 @@ returns-in-Ok g c =
     let pages = g.P.Pages.seen c.args.pages.now in
     let old : Moment = record {
       pages = pages;
-      state = c.args.handset.now;
+      state = c.args.session.now;
       sink = g.O.Sink.seen c.args.out.now;
     } in
     let new : Moment = record {
@@ -28,7 +28,7 @@ returns g c =
     let pages = g.P.Pages.seen c.args.pages.now in
     let old : Moment = record {
       pages = pages;
-      state = c.args.handset.now;
+      state = c.args.session.now;
       sink = g.O.Sink.seen c.args.out.now;
     } in
     let new : Moment = record {
@@ -36,7 +36,8 @@ returns g c =
       state = c.try_ignore.new.self;
       sink = g.O.Sink.seen c.write_all.new.out;
     } in
-    stops_there c.args.key old new c.args.ignored.now
+    Stops.at_sink
+    (stops_there c.args.key old new c.args.ignored.now
     (subst (λ (lines : List (List ℕ)). Plays (c.args.key ∷ []) pages pages old.state new.state
     (Ok lines)) (sym c.requires.ignored) (c.if-not-try_ignore.ensures.plays refl pages))
-    (search rules) (search rules) (search rules)
+    (search rules) (search rules) (search rules))

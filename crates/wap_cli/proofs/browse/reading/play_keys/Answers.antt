@@ -5,17 +5,15 @@ use Rattle.wap_keys.specs.KeyReaders.{Answers, CountsFaults}
 use Rattle.wap_keys.specs.declared.ending.Next.{Next}
 use Rattle.wap_keys.proofs.FaultLaws.{lost_steady}
 use Rattle.wap_cli.specs.declared.status.Status.{Status}
-use Rattle.wap_cli.specs.declared.status.Status.TheVariants.{NoMemory}
 use Rattle.wap_cli.specs.browse.Outside.{Outside}
 use Rattle.wap_cli.specs.browse.Endings.{ended}
 use Rattle.wap_cli.specs.browse.Headline.{BrowsesSeen}
 use Rattle.wap_cli.specs.browse.Standing.{outside_of}
 use Rattle.wap_cli.specs.browse.inside.Played.{Moment}
-use Rattle.wap_cli.proofs.BrowseLemmas.Going.{goes_first, goes_more, played_to}
+use Rattle.wap_cli.proofs.BrowseLemmas.Going.{goes_first, goes_more}
 use Rattle.wap_cli.proofs.BrowseLemmas.Exits.{ended_browses, ended_rests, reader_runs_out}
 use Rattle.wap_cli.proofs.BrowseLemmas.Exits.{read_stops}
 use Rattle.wap_cli.proofs.BrowseLemmas.Exits.{stop_undone, none_read}
-use Rattle.wap_cli.proofs.BrowseLemmas.Summary.{browses_by}
 use Rattle.wap_cli.proofs.browse.reading.play_keys.Goals as goal
 
 pub loop-key-init : goal.loop-key-init
@@ -25,7 +23,7 @@ loop-key-init g c =
       source = g.I.Source.seen c.args.keys.now;
       sink = g.O.Sink.seen c.args.out.now;
     } in
-    goes_first start c.new-reader.result c.args.handset.now c.requires
+    goes_first start c.new-reader.result c.args.session.now c.requires
     (c.new-reader.ensures.read start.source)
 
 pub loop-key-preserved : goal.loop-key-preserved
@@ -42,11 +40,11 @@ loop-key-preserved g c =
     } in
     let new : Moment = record {
       pages = g.P.Pages.seen c.play_read.new.pages;
-      state = c.play_read.new.handset;
+      state = c.play_read.new.session;
       sink = g.O.Sink.seen c.play_read.new.out;
     } in
     let source = g.I.Source.seen c.next.new.source in
-    goes_more start now c.loop-key.reader c.next.new.self c.args.handset.now c.loop-key.handset
+    goes_more start now c.loop-key.reader c.next.new.self c.args.session.now c.loop-key.session
     c.in-Ok-Key.key source new c.loop-key.invariant
     (subst (Answers now.source source c.loop-key.reader c.next.new.self)
     c.in-Ok-Key.field-0-is c.in-Ok-Key.ensures.answers)
@@ -63,16 +61,15 @@ returns-in-Err-play_read-clause-browses g c play from began =
     } in
     let new : Moment = record {
       pages = g.P.Pages.seen c.play_read.new.pages;
-      state = c.play_read.new.handset;
+      state = c.play_read.new.session;
       sink = g.O.Sink.seen c.play_read.new.out;
     } in
     let source = g.I.Source.seen c.next.new.source in
-    browses_by play old (outside_of (played_to new) source) c.in-Err-play_read.status
-    (read_stops play old now c.loop-key.reader c.next.new.self c.loop-key.handset c.in-Ok-Key.key
+    read_stops play old now c.loop-key.reader c.next.new.self c.loop-key.session c.in-Ok-Key.key
     source new c.in-Err-play_read.status (c.loop-key.invariant.reaches play from began)
     (subst (Answers now.source source c.loop-key.reader c.next.new.self)
     c.in-Ok-Key.field-0-is c.in-Ok-Key.ensures.answers)
-    c.in-Err-play_read.ensures)
+    c.in-Err-play_read.ensures
 
 pub returns-in-Err-play_read-clause-rests : goal.returns-in-Err-play_read-clause-rests
 returns-in-Err-play_read-clause-rests g c play from began done =
@@ -92,16 +89,15 @@ returns-in-Ok-Ended-clause-browses g c play from began =
     let last : Outside = record now { source = source } in
     subst (λ (status : Status). BrowsesSeen play old last status)
     (sym (c.status_of.ensures
-    ∙ ap (λ (is_open : Bool). ended is_open c.in-Ok-Ended.ending) c.in_dialog.ensures))
-    (browses_by play old last _
-    (ended_browses play old now c.loop-key.reader c.next.new.self c.loop-key.handset source
+    ∙ ap (λ (is_open : Bool). ended is_open c.in-Ok-Ended.ending) c.in_dialog.ensures.waits))
+    (ended_browses play old now c.loop-key.reader c.next.new.self c.loop-key.session source
     c.in-Ok-Ended.ending (c.loop-key.invariant.reaches play from began)
     (subst (Answers now.source source c.loop-key.reader c.next.new.self)
     c.in-Ok-Ended.field-0-is c.in-Ok-Ended.ensures.answers)
     (subst (λ (next : Next). CountsFaults now.source.faults source.faults (Ok next))
     c.in-Ok-Ended.field-0-is
     (subst (CountsFaults now.source.faults source.faults) c.in-Ok-Ended.is
-    c.next.ensures.faults))))
+    c.next.ensures.faults)))
 
 pub returns-in-Ok-Ended-clause-rests : goal.returns-in-Ok-Ended-clause-rests
 returns-in-Ok-Ended-clause-rests g c play from began done =
@@ -112,12 +108,12 @@ returns-in-Ok-Ended-clause-rests g c play from began done =
       sink = g.O.Sink.seen c.loop-key.out;
     } in
     let source = g.I.Source.seen c.next.new.source in
-    ended_rests play old now c.loop-key.reader c.next.new.self c.loop-key.handset source
+    ended_rests play old now c.loop-key.reader c.next.new.self c.loop-key.session source
     c.in-Ok-Ended.ending (c.loop-key.invariant.reaches play from began)
     (subst (Answers now.source source c.loop-key.reader c.next.new.self)
     c.in-Ok-Ended.field-0-is c.in-Ok-Ended.ensures.answers)
     (sym (c.status_of.ensures
-    ∙ ap (λ (is_open : Bool). ended is_open c.in-Ok-Ended.ending) c.in_dialog.ensures)
+    ∙ ap (λ (is_open : Bool). ended is_open c.in-Ok-Ended.ending) c.in_dialog.ensures.waits)
     ∙ done)
 
 -- memory ran out as the next was read
@@ -130,11 +126,10 @@ returns-in-Err-clause-browses g c play from began =
       sink = g.O.Sink.seen c.loop-key.out;
     } in
     let source = g.I.Source.seen c.next.new.source in
-    browses_by play old (record now { source = source }) NoMemory
-    (reader_runs_out play old now c.loop-key.reader c.loop-key.handset source
+    reader_runs_out play old now c.loop-key.reader c.loop-key.session source
     (c.loop-key.invariant.reaches play from began) c.in-Err.ensures.gives_up
     (lost_steady c.next.result _ now.source.faults source.faults c.in-Err.is
-    c.next.ensures.faults))
+    c.next.ensures.faults)
 
 pub returns-in-Err-clause-rests : goal.returns-in-Err-clause-rests
 returns-in-Err-clause-rests g c play from began done = absurd cc
@@ -149,8 +144,7 @@ returns-in_default-clause-browses g c play from began =
     } in
     let old = outside_of from start.source in
     let goes =
-    goes_first start c.new-reader.result c.args.handset.now c.requires
+    goes_first start c.new-reader.result c.args.session.now c.requires
     (c.new-reader.ensures.read start.source) in
-    browses_by play old start NoMemory
-    (none_read play old start c.new-reader.result c.args.handset.now
-    (goes.reaches play from began))
+    none_read play old start c.new-reader.result c.args.session.now
+    (goes.reaches play from began)

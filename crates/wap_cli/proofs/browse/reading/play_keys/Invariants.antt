@@ -16,7 +16,7 @@ invariant-loop-key g l =
       source = g.I.Source.seen l.keys;
       sink = g.O.Sink.seen l.out;
     })
-    l.reader l.fn.handset l.handset
+    l.reader l.fn.session l.session
 
 -- each key takes some bytes
 abbrev pub decreases-loop-key : goal.decreases-loop-key

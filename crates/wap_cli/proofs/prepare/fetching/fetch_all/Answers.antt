@@ -1,10 +1,11 @@
 use Rattle.std.proofs.Common.{◌∙◌, ℕ, ◌+◌, List, [], ◌∷◌, ◌++◌, take, length}
 use Rattle.std.proofs.Common.{sym, ap, arith, ap₂}
 use Rattle.std.specs.Map.{keys_of}
+use Rattle.std.proofs.lemmas.List.{map-append}
 use Rattle.std.proofs.lemmas.List.{take_more}
 use Rattle.wap_cli.specs.prepare.Fetching.{Job}
 use Rattle.wap_cli.proofs.PrepareLemmas.Asking.{asked_more, more_fail, then_memory, memory_over}
-use Rattle.wap_cli.proofs.PrepareLemmas.Asking.{keys-push, answered_more}
+use Rattle.wap_cli.proofs.PrepareLemmas.Asking.{answered_more}
 use Rattle.wap_cli.proofs.prepare.fetching.fetch_all.Goals as goal
 
 pub returns-in_err-push-in-Ok-fetch_one-clause-asks :
@@ -37,7 +38,7 @@ loop-name-preserved g c =
     let pushed = c.in_ok-push-in-Ok-fetch_one.ensures.items in
     record {
       names =
-          ap keys_of pushed ∙ keys-push jobs job
+          ap keys_of pushed ∙ map-append (λ (one : Job). one.0) jobs (job ∷ [])
           ∙ ap₂ (λ (names : List (List ℕ)) (name : List ℕ). names ++ name ∷ [])
           c.loop-name.invariant.names c.in-Ok-fetch_one.ensures.name
           ∙ sym (take_more c.args.names.now i c.name-item.result (omega arith)

@@ -7,7 +7,8 @@ use Rattle.wap_cli.proofs.prepare.preparing.judge_some.Goals as goal
 
 pub returns-in-Ok-judge_pages-clause-names : goal.returns-in-Ok-judge_pages-clause-names
 returns-in-Ok-judge_pages-clause-names g c =
-    same_names c.in-Ok.jobs.items c.in-Ok-judge_pages.entries.items
+    same_names IsRight (λ job one right. right.name) c.in-Ok.jobs.items
+    c.in-Ok-judge_pages.entries.items
     (subst (λ (jobs : List Job). AllZip IsRight jobs c.in-Ok-judge_pages.entries.items)
     c.deref.ensures.value c.in-Ok-judge_pages.ensures)
     ∙ c.in-Ok.ensures.names

@@ -3,7 +3,7 @@ use Rattle.std.specs.declared.alloc.Global.{Global}
 use Rattle.wap_cli.specs.prepare.Reports.{Entry, AreEntries, report}
 use Rattle.wap_cli.specs.prepare.Preparing.{Reports}
 use Rattle.wap_devices.specs.declared.store.StoreErr.TheVariants.{Failed, NoMemory}
-use Rattle.wap_cli.specs.prepare.Writing.{PutsTo}
+use Rattle.wap_cli.specs.Writing.{PutsTo}
 use Rattle.wap_cli.proofs.PrepareLemmas.Asking.{asks_over}
 use Rattle.wap_cli.proofs.PrepareLemmas.Entries.{are_entries}
 use Rattle.wap_cli.proofs.PrepareLemmas.Ending.{list_fails, list_no_memory, page_fails, no_memory}

@@ -4,7 +4,7 @@ use Rattle.wap_world.specs.Sessions.{shown_by}
 use Rattle.wap_world.specs.scripting.UnitSites.{unit_pages}
 use Rattle.wap_world.proofs.SiteLemmas.Asking.{Stays-then}
 use Rattle.wap_context.specs.Sites.{site_of}
-use Rattle.wap_session.specs.handset.Feeding.{State}
+use Rattle.wap_session.specs.Feeding.{State}
 use Rattle.wap_cli.specs.browse.Beginning.{begun_with}
 use Rattle.wap_cli.specs.prepared.Prepared.{shared_seen}
 use Rattle.wap_cli.specs.replay.Texts.{alone}
@@ -12,12 +12,12 @@ use Rattle.wap_cli.proofs.PreparedLemmas.Fitting.{still}
 use Rattle.wap_cli.proofs.ReplayLemmas.Transcripts.{played_alone}
 use Rattle.wap_cli.proofs.replay.playing.play.Goals as goal
 
--- a new handset isn't over
+-- a new session isn't over
 pub unreachable-requires-in-Err-Ended : goal.unreachable-requires-in-Err-Ended
 unreachable-requires-in-Err-Ended c =
     c.in-Err-Ended.ensures.plays.goes_on
     (ap (λ (state : State). state.is_over)
-    (c.new-handset.ensures (begun_with c.args.begun.now).url))
+    (c.new-session.ensures (begun_with c.args.begun.now).url))
     c.in-Err-Ended.field-0-is
 
 -- the pages are the same after each call
@@ -30,17 +30,17 @@ returns c =
     let one = c.feed.new.pages in
     let two = c.play.new.pages in
     let both = played_alone pages (shared_seen one) (shared_seen two) begun c.in_ok-first.first
-    c.args.keys.now c.new-handset.result c.feed.new.self c.play.new.self c.in-Ok.lines
+    c.args.keys.now c.new-session.result c.feed.new.self c.play.new.self c.in-Ok.lines
     c.in-Ok-play.lines (still pages one feed.plays.stays)
     (still pages two (Stays-then (shared_seen pages) (shared_seen one) (shared_seen two)
     feed.plays.stays play.plays.stays))
-    (c.new-handset.ensures begun.url) c.in_ok-first.ensures feed.plays.leads feed.shown
+    (c.new-session.ensures begun.url) c.in_ok-first.ensures feed.plays.leads feed.shown
     play.plays.leads in record {
       lines = both.0
           ∙ ap (λ (pages : Pages).
           shown_by (alone (site_of (unit_pages pages)) begun c.args.keys.now))
           c.pages-shared.ensures;
-      ends = c.in_dialog.ensures ∙ both.1
+      ends = c.in_dialog.ensures.waits ∙ both.1
           ∙ ap (λ (pages : Pages).
           (alone (site_of (unit_pages pages)) begun c.args.keys.now).is_open)
           c.pages-shared.ensures;

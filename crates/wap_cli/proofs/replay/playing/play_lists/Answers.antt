@@ -7,7 +7,7 @@ use Rattle.wap_context.specs.Sites.{site_of}
 use Rattle.wap_cli.specs.browse.Beginning.{begun_with}
 use Rattle.wap_cli.specs.replay.Texts.{replayed}
 use Rattle.wap_cli.specs.replay.inside.Jobs.{Stage, text_on}
-use Rattle.wap_cli.proofs.ReplayLemmas.Listed.{all_there}
+use Rattle.wap_cli.proofs.PrepareLemmas.Entries.{all_there}
 use Rattle.wap_cli.proofs.ReplayLemmas.Transcripts.{texts_are}
 use Rattle.wap_cli.proofs.replay.playing.play_lists.Goals as goal
 

@@ -1,7 +1,7 @@
 use Rattle.std.specs.List.{AllZip}
 use Rattle.std.proofs.lemmas.Result.{IfOk-weaker}
 use Rattle.wap_cli.specs.replay.inside.Jobs.{IsJudged}
-use Rattle.wap_cli.proofs.ReplayLemmas.Listed.{all_there}
+use Rattle.wap_cli.proofs.PrepareLemmas.Entries.{all_there}
 use Rattle.wap_cli.proofs.replay.preparing.judge_pages.Goals as goal
 
 pub returns : goal.returns

@@ -16,7 +16,8 @@ returns-in-Ok-Missing g c =
 
 pub returns-in-Err-Failed : goal.returns-in-Err-Failed
 returns-in-Err-Failed g c =
-    refuses_fault c.args.name.now (g.S.Store.seen c.args.store.now) (g.S.Store.seen c.fetch.new.self)
+    refuses_fault c.args.name.now (g.S.Store.seen c.args.store.now)
+    (g.S.Store.seen c.fetch.new.self)
     (rw c.in-Err-Failed.field-0-is at c.in-Err-Failed.ensures)
 
 pub returns-in-Err-NoMemory : goal.returns-in-Err-NoMemory

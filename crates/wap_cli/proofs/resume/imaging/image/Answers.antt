@@ -37,8 +37,8 @@ returns g c =
     let done : played.result.0 ≡ Done = search rules in
     let rests = rw c.new.ensures at (played.ensures.rests done) in
     images_done (begun_with c.args.begun) old new played.new.out.taken.items played.result.1
-    c.in-Some-context.context.now played.result.0 c.save_context.result done
+    c.in-Some.context.now played.result.0 c.save_context.result done
     (rw c.new.ensures at played.ensures.browses) rests
-    (context_there played.result.1 c.in-Some.session.now c.in-Some-context.context.now
-    rests.waiting rests.ready c.in-Some.ensures c.in-Some-context.ensures)
+    (context_there played.result.1 c.in-Some.context.now rests.waiting rests.ready
+    c.in-Some.ensures)
     c.save_context.ensures.image c.save_context.ensures.whole

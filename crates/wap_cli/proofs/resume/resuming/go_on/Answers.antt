@@ -1,7 +1,6 @@
-use Rattle.std.proofs.Common.{rules, refl, ap, ◌∙◌}
-use Rattle.wap_session.specs.Feeding.{State}
-use Rattle.wap_session.specs.handset.Feeding.{with_session}
+use Rattle.std.proofs.Common.{rules, refl}
 use Rattle.wap_cli.proofs.ResumeLemmas.Over.{lost_over, missing_over, refused_over, context_over}
+use Rattle.wap_cli.proofs.ResumeLemmas.Over.{fault_over, wants_over}
 use Rattle.wap_cli.proofs.resume.resuming.go_on.Goals as goal
 
 pub returns-in-Err : goal.returns-in-Err
@@ -21,11 +20,11 @@ returns-in-Ok-Context g c =
     context_over g.S.Store.seen c.args.saved pages c.args.store c.args.cache
     (g.I.Source.seen c.args.keys.now) (g.O.Sink.seen c.args.out.now) c.in-Ok-new.ensures.store
     c.in-Ok-new.ensures.kept c.in-Ok-new.ensures.capacity c.in-Ok-Context.context
-    c.revive.new.pages played.new.pages c.into_store.result c.of-handset.result
+    c.revive.new.pages played.new.pages c.into_store.result c.of-session.result
     (g.I.Source.seen played.new.keys) (g.O.Sink.seen played.new.out) played.result
     c.into_store.ensures
     (rw c.in-Ok-Context.field-0-is at c.in-Ok-Context.ensures)
-    (c.of-handset.ensures ∙ ap (λ (s : State). with_session s) c.of.ensures)
+    c.of-session.ensures
     played.ensures.browses
 
 pub returns-in-Ok-Missing : goal.returns-in-Ok-Missing
@@ -42,8 +41,27 @@ returns-in-Ok-Refused g c =
     let pages = c.in-Ok-new.pages in
     refused_over g.S.Store.seen c.args.saved pages c.args.store c.args.cache
     (g.I.Source.seen c.args.keys.now) (g.O.Sink.seen c.args.out.now) c.in-Ok-new.ensures.store
-    c.in-Ok-new.ensures.kept c.in-Ok-new.ensures.capacity c.revive.new.pages c.into_store-store.result
+    c.in-Ok-new.ensures.kept c.in-Ok-new.ensures.capacity c.revive.new.pages
+    c.into_store-store.result
     c.refuse_deck-status.new.store c.in-Some.name c.refuse_deck-status.result
     c.into_store-store.ensures
     (rw c.in-Ok-Refused.field-0-is at c.in-Ok-Refused.ensures)
     (search rules) c.refuse_deck-status.ensures
+
+pub returns-in-Err-Store : goal.returns-in-Err-Store
+returns-in-Err-Store g c =
+    let pages = c.in-Ok-new.pages in
+    fault_over g.S.Store.seen c.args.saved pages c.args.store c.args.cache
+    (g.I.Source.seen c.args.keys.now) (g.O.Sink.seen c.args.out.now) c.in-Ok-new.ensures.store
+    c.in-Ok-new.ensures.kept c.in-Ok-new.ensures.capacity c.revive.new.pages
+    c.into_store-in-Err-Store.result c.into_store-in-Err-Store.ensures
+    (rw c.in-Err-Store.field-0-is at c.in-Err-Store.ensures)
+
+pub returns : goal.returns
+returns g c =
+    let pages = c.in-Ok-new.pages in
+    wants_over g.S.Store.seen c.args.saved pages c.args.store c.args.cache
+    (g.I.Source.seen c.args.keys.now) (g.O.Sink.seen c.args.out.now) c.in-Ok-new.ensures.store
+    c.in-Ok-new.ensures.kept c.in-Ok-new.ensures.capacity c.revive.new.pages
+    c.into_store-in-Err-NoMemory.result c.into_store-in-Err-NoMemory.ensures
+    (rw c.in-Err-NoMemory.field-0-is at c.in-Err-NoMemory.ensures)

@@ -1,18 +1,17 @@
-use Rattle.std.proofs.Common.{ap, sym, subst, ◌∙◌, ◌+◌, drop, take, List, Ok, Err}
+use Rattle.std.proofs.Common.{ap, sym, subst, ◌∙◌, ◌+◌, drop, List, Ok, Err}
 use Rattle.std.proofs.lemmas.Result.{err_from_is_err_and}
 use Rattle.std.proofs.lemmas.List.{take_all}
 use Rattle.wap_base.specs.declared.key.Key.{Key}
-use Rattle.wap_world.specs.scripting.UnitSites.{unit_pages}
 use Rattle.wap_context.specs.Sites.{IfOver}
-use Rattle.wap_session.specs.Feeding.{steps_in, Plays, MissedAt}
+use Rattle.wap_session.specs.Feeding.{Plays, MissedAt}
 use Rattle.wap_session.proofs.Playing.{plays_none, over_plays, plays_more, then_fails, then_wants}
-use Rattle.wap_session.proofs.Playing.{missed_failing, tells_on, around, one_more}
+use Rattle.wap_session.proofs.Playing.{missed_more, tells_on, around, one_more}
 use Rattle.wap_session.proofs.session.Session.play.Goals as goal
 
 pub loop-key-init : goal.loop-key-init
 loop-key-init g c =
     rw c.new-lines.ensures (plays_none (g.P.Pages.seen c.args.pages.now) c.args.self.now
-    (sym c.is_over.ensures ∙ c.if-is_over.false))
+    (sym c.is_over.ensures.over ∙ c.if-is_over.false) c.is_over.ensures.own)
 
 pub returns-in_err-more-clause-plays : goal.returns-in_err-more-clause-plays
 returns-in_err-more-clause-plays g c =
@@ -26,14 +25,12 @@ returns-in_err-more-clause-missed g c is =
     let one = c.key-item.result in
     let old = c.args.self.now in
     let before = g.P.Pages.seen c.args.pages.now in
-    let mid = g.P.Pages.seen c.loop-key.pages in
     let after = g.P.Pages.seen c.feed.new.pages in
     let p = err_from_is_err_and c.from_residual.result c.from_residual.ensures.1 in
     subst (λ (all : List Key). IfOver after old.browser
     (λ pages. MissedAt all pages old before after))
     (around keys i one c.loop-key-test.true c.key-item.is)
-    (missed_failing (take i keys) (drop (i + 1) keys) one before mid after old c.loop-key.self
-    c.loop-key.lines c.in_err-more.ensures.plays.stays c.loop-key.invariant
+    (missed_more c.loop-key.invariant one (drop (i + 1) keys) c.in_err-more.ensures.plays.stays
     (c.in_err-more.ensures.missed (sym (p.1 ∙ ap Err p.2) ∙ is)))
 
 pub returns-in_err-keep_lines-clause-plays : goal.returns-in_err-keep_lines-clause-plays
@@ -45,16 +42,10 @@ returns-in_err-keep_lines-clause-plays g c =
 
 pub loop-key-preserved : goal.loop-key-preserved
 loop-key-preserved g c =
-    let keys = c.args.keys.now in
-    let i = c.loop-key.key-index in
-    let one = c.key-item.result in
-    let on = one_more keys i one c.loop-key-test.true c.key-item.is in
+    let on = one_more c.args.keys.now c.loop-key.key-index c.key-item.result c.loop-key-test.true
+    c.key-item.is in
     rw (on, c.in_ok-keep_lines.ensures.kept, c.in_ok-keep_lines.ensures.same)
-    (plays_more (take i keys) one
-    (g.P.Pages.seen c.args.pages.now) (g.P.Pages.seen c.loop-key.pages)
-    (g.P.Pages.seen c.feed.new.pages)
-    c.args.self.now c.loop-key.self c.feed.new.self c.loop-key.lines c.in_ok-more.more
-    c.loop-key.invariant c.in_ok-more.ensures.plays)
+    (plays_more c.loop-key.invariant c.in_ok-more.ensures.plays)
 
 pub returns-clause-plays : goal.returns-clause-plays
 returns-clause-plays g c =
@@ -64,12 +55,9 @@ returns-clause-plays g c =
 
 pub returns-clause-shown : goal.returns-clause-shown
 returns-clause-shown g c = λ judged may over.
-    let pages = unit_pages judged in
-    let led = (returns-clause-plays g c).leads judged may over in
-    tells_on c.args.keys.now (steps_in c.args.self.now pages) (steps_in c.loop-key.self pages)
-    c.loop-key.lines led.tells led.on
+    tells_on ((returns-clause-plays g c).leads judged may over)
 
 pub returns-then-is_over-clause-plays : goal.returns-then-is_over-clause-plays
 returns-then-is_over-clause-plays g c =
-    let over = sym c.is_over.ensures ∙ c.if-is_over.true in
-    over_plays _ _ (g.P.Pages.seen c.args.pages.now) _ _ _ over over
+    over_plays c.args.keys.now (g.P.Pages.seen c.args.pages.now) c.args.self.now
+    (sym c.is_over.ensures.over ∙ c.if-is_over.true)

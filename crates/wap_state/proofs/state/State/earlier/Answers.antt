@@ -9,7 +9,7 @@ use Rattle.wap_state.proofs.state.State.earlier.Goals as goal
 pub returns-in_ok-copy-in-Some : goal.returns-in_ok-copy-in-Some
 returns-in_ok-copy-in-Some c =
     let history : List Entry = c.self.inside.history in
-    let count : c.len-count.result ≡ length history = c.len-count.ensures.value in
+    let count : c.len-count.result ≡ length history = c.len-count.ensures in
     let some : 2 ≤ length history = omega arith in
     ap Some c.in_ok-copy-in-Some.ensures
     ∙ sym (ap option_copied c.in-Some.is)
@@ -21,7 +21,7 @@ returns-in_ok-copy-in-Some c =
 pub returns-in-None : goal.returns-in-None
 returns-in-None c =
     let history : List Entry = c.self.inside.history in
-    let count : c.len-count.result ≡ length history = c.len-count.ensures.value in
+    let count : c.len-count.result ≡ length history = c.len-count.ensures in
     let some : 2 ≤ length history = omega arith in
     sym (ap option_copied c.in-None.is)
     ∙ c.get.ensures

@@ -9,6 +9,6 @@ pub returns : goal.returns
 returns c =
     let history : List Entry = c.self.inside.history in
     c.get.ensures
-    ∙ ap (slice_get history) (c.saturating_sub.ensures ∙ ap (λ (n : ℕ). n - 1) c.len.ensures.value)
+    ∙ ap (slice_get history) (c.saturating_sub.ensures ∙ ap (λ (n : ℕ). n - 1) c.len.ensures)
     ∙ sym (last_at history)
     ∙ ap last_entry c.self.view_is

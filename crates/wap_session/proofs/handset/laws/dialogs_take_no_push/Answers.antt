@@ -1,5 +1,0 @@
-use Rattle.wap_session.proofs.HandsetLemmas.Sessions.{in_dialogs}
-use Rattle.wap_session.proofs.handset.laws.dialogs_take_no_push.Goals as goal
-
-pub returns : goal.returns
-returns c = in_dialogs

@@ -1,4 +1,0 @@
-pub mod Holding
-pub mod Feeding
-pub mod Ignoring
-pub mod inside
