@@ -10,3 +10,4 @@ pub mod NumberLaws
 pub mod NumberLoop
 pub mod NumberSpelling
 pub mod NameLaws
+pub mod formats

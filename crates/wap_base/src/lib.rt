@@ -1,5 +1,5 @@
 //! What all crates share: texts and bytes, names and numbers, character sets, limits, values with
-//! several owners, and keys.
+//! several owners, and keys; and what it is to read the items of a format of bytes from the left.
 #![tactic(auto)]
 
 mod bytes;
@@ -11,6 +11,7 @@ mod limits;
 mod name;
 mod number;
 mod order;
+mod places;
 mod rows;
 mod shared;
 mod text;
@@ -27,6 +28,7 @@ pub use limits::{
 pub use name::{Conv, Name, NameFault, Part, is_name};
 pub use number::{ReadFault, read_mb, read_u8, write_mb};
 pub use order::{are_ascending, are_distinct};
+pub use places::place;
 pub use rows::Rows;
 pub use shared::Shared;
 pub use text::Text;

@@ -1,8 +1,7 @@
 -- What is read is an image, each image is read, and a fault is the first one from the left, both
 -- ways.
-use Rattle.std.proofs.Common.{◌≡◌, ◌≢◌, ℕ, ◌-◌, ◌<◌, ◌≤◌, Bool, true, false, cond, ltb}
-use Rattle.std.proofs.Common.{List, [], ◌∷◌, ◌++◌, length, Result, Ok, Err, refl, sym, ap}
-use Rattle.std.proofs.Common.{subst, ◌∙◌, ◌⊎◌, inl, inr, arith}
+use Rattle.std.proofs.Common.{◌≡◌, ◌≢◌, ℕ, ◌-◌, ◌≤◌, Bool, cond, ltb, List, [], ◌++◌, length}
+use Rattle.std.proofs.Common.{Result, Ok, Err, refl, sym, ap, subst, ◌∙◌, ◌⊎◌, inl, inr, arith}
 use Rattle.std.specs.Prelude.{IfOk, IfErr}
 use Rattle.std.proofs.lemmas.Bool.{ltb-true, ltb-false, lt-ltb}
 use Rattle.std.proofs.lemmas.List.{append-nil, nil_from_length}
@@ -20,12 +19,12 @@ abbrev Read : Type 0
 Read = Result (Saved × List ℕ) ImageFault
 
 -- items after which nothing follows are all
-all_items : (bytes prefix rest : List ℕ) (saved : Saved) → bytes ≡ prefix ++ rest → length rest ≤ 0
-    → IsImage prefix saved → IsImage bytes saved
-all_items bytes prefix rest saved split none is =
+all_items : (bytes front rest : List ℕ) (saved : Saved) → bytes ≡ front ++ rest → length rest ≤ 0
+    → IsImage front saved → IsImage bytes saved
+all_items bytes front rest saved split none is =
     let nothing : rest ≡ [] = nil_from_length rest (omega arith) in
     subst (λ (l : List ℕ). IsImage l saved)
-    (sym (split ∙ ap (λ (l : List ℕ). prefix ++ l) nothing ∙ append-nil prefix)) is
+    (sym (split ∙ ap (λ (l : List ℕ). front ++ l) nothing ∙ append-nil front)) is
 
 -- what is read is an image
 pub image_takes : (bytes : List ℕ) (saved : Saved) → image_at bytes ≡ Ok saved
@@ -44,10 +43,10 @@ image_takes bytes saved e =
     ]
 
 -- items are read, with what follows them
-items_again : (end : ℕ) (bytes prefix rest : List ℕ) (saved : Saved) → bytes ≡ prefix ++ rest
-    → IsImage prefix saved → items_at end bytes ≡ Ok (saved, rest)
-items_again end bytes prefix rest saved split is =
-    ap (items_at end) split ∙ reads_items.again end prefix saved rest is
+items_again : (end : ℕ) (bytes front rest : List ℕ) (saved : Saved) → bytes ≡ front ++ rest
+    → IsImage front saved → items_at end bytes ≡ Ok (saved, rest)
+items_again end bytes front rest saved split is =
+    ap (items_at end) split ∙ reads_items.again end front saved rest is
 
 -- an image is read
 pub image_again : (bytes : List ℕ) (saved : Saved) → IsImage bytes saved
@@ -84,9 +83,9 @@ unfolding image_at
 image_fails bytes found (inside refuses) =
     ap (λ (r : Read). r >>= ended (length bytes))
     (reads_items.fails (length bytes) bytes found refuses)
-image_fails bytes found (beyond saved prefix rest split is more same) =
+image_fails bytes found (beyond saved front rest split is more same) =
     let end : ℕ = length bytes in
-    ap (λ (r : Read). r >>= ended end) (items_again end bytes prefix rest saved split is)
+    ap (λ (r : Read). r >>= ended end) (items_again end bytes front rest saved split is)
     ∙ ap (λ (b : Bool). cond b (Err (fault.Rest (end - length rest))) (Ok saved))
     (lt-ltb 0 (length rest) more)
     ∙ ap Err (sym same)

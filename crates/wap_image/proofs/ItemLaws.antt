@@ -1,5 +1,5 @@
 -- The items of an image are read as the relation has them, and refused as the refusal has them.
-use Rattle.std.proofs.Common.{◌≡◌, ℕ, List, []}
+use Rattle.std.proofs.Common.{ℕ, List}
 use Rattle.std.specs.Int.{w64, from_be_bytes}
 use Rattle.wap_base.specs.Charsets.{text_in}
 use Rattle.wap_base.specs.Numbers.{IsMb}
@@ -11,46 +11,41 @@ use Rattle.wap_image.specs.declared.context_parts.parts.SavedTimer.TheVariants.{
 use Rattle.wap_image.specs.declared.context_parts.parts.SavedTimer.TheVariants.{Off}
 use Rattle.wap_image.specs.declared.kind.TimerKind.{TimerKind}
 use Rattle.wap_image.specs.declared.kind.TimerKind.TheVariants as kind
-use Rattle.wap_image.specs.Sequences.{IsByte, Passing}
+use Rattle.wap_base.specs.formats.Sequences.{IsByte, AreBytes}
 use Rattle.wap_image.specs.Items.{is_head, is_drawn, is_budget, is_string_limit, is_history_limit}
 use Rattle.wap_image.specs.Items.{is_depth_limit, timer_kind, is_time_left, is_variable_count}
 use Rattle.wap_image.specs.Items.{is_value_length, is_next_name, is_entry_count, is_entry_text}
 use Rattle.wap_image.specs.Images.{IsText, IsHead, IsDrawn, IsBudget, AreLimits, IsTimerOf, IsTimer}
 use Rattle.wap_image.specs.Images.{IsVariable, AreVariables, IsEntry, AreEntries, IsImage, saved_of}
 use Rattle.wap_image.specs.Refusal.{Refusal, RefusesText, RefusesHead, RefusesDrawn, RefusesRange}
-use Rattle.wap_image.specs.Refusal.{RefusesByte, RefusesLimits, RefusesTimerOf, RefusesTimer}
+use Rattle.wap_image.specs.Refusal.{RefusesLimits, RefusesTimerOf, RefusesTimer}
 use Rattle.wap_image.specs.Refusal.{RefusesVariable, RefusesVariables, RefusesEntry, RefusesEntries}
-use Rattle.wap_image.specs.Refusal.{RefusesItems, RefusesNumber}
-use Rattle.wap_image.specs.inside.ByteReading.{Reader, number_at}
-use Rattle.wap_image.specs.inside.ImageReading.{
-  sized_at,
-  text_at,
-  head_at,
-  drawn_at,
-  budget_at,
-  string_limit_at,
-  history_limit_at,
-  depth_limit_at,
-  limits_at,
-  time_left_at,
-  timer_of_at,
-  timer_kind_at,
-  timer_at,
-  name_at,
-  value_length_at,
-  variable_at,
-  variable_count_at,
-  variables_at,
-  url_at,
-  entry_at,
-  entry_count_at,
-  entries_at,
-  lists_at,
-  items_at,
-}
-use Rattle.wap_image.proofs.Readers.{Reads, reads_byte, reads_taken, reads_number, reads_in_turn}
-use Rattle.wap_image.proofs.Readers.{reads_given, reads_passing, reads_made, reads_made_if}
-use Rattle.wap_image.proofs.Readers.{reads_many}
+use Rattle.wap_image.specs.Refusal.{RefusesItems, RefusesNumber, LacksByte, LacksBytes}
+use Rattle.wap_image.specs.inside.ByteReading.{Reader, byte_at, taken_at, number_at}
+use Rattle.wap_image.specs.inside.ImageReading.{sized_at, text_at, head_at, drawn_at, budget_at}
+use Rattle.wap_image.specs.inside.ImageReading.{string_limit_at, history_limit_at, depth_limit_at}
+use Rattle.wap_image.specs.inside.ImageReading.{limits_at, time_left_at, timer_of_at, timer_kind_at}
+use Rattle.wap_image.specs.inside.ImageReading.{timer_at, name_at, value_length_at, variable_at}
+use Rattle.wap_image.specs.inside.ImageReading.{variable_count_at, variables_at, url_at, entry_at}
+use Rattle.wap_image.specs.inside.ImageReading.{entry_count_at, entries_at, lists_at, items_at}
+use Rattle.wap_base.proofs.formats.Readers.{Reads, reads_in_turn, reads_given, reads_passing}
+use Rattle.wap_base.proofs.formats.Readers.{reads_made, reads_made_if}
+use Rattle.wap_base.proofs.formats.Steps
+use Rattle.wap_base.proofs.formats.Rows.{reads_many}
+
+-- ---- the steps, with an image's faults
+
+-- one byte
+reads_byte : Reads byte_at IsByte LacksByte
+reads_byte = Steps.reads_byte fault.Short
+
+-- so many bytes
+reads_taken : (size : ℕ) → Reads (taken_at size) (AreBytes size) (LacksBytes size)
+reads_taken = Steps.reads_taken fault.Short
+
+-- one number
+reads_number : Reads number_at IsMb RefusesNumber
+reads_number = Steps.reads_number fault.Short fault.Number
 
 -- ---- texts
 

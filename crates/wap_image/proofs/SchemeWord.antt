@@ -1,7 +1,7 @@
 -- The scheme of the web: a text is compared with it by its bytes or by its characters.
 use Rattle.std.proofs.Common.{◌≡◌, ℕ, List, Decides, refl, sym, ap, ◌∙◌}
 use Rattle.std.specs.Prelude.{codes, encode_utf8_all}
-use Rattle.std.specs.Str.{IsUtf8, chars, bytes_eq}
+use Rattle.std.specs.Str.{chars, bytes_eq}
 use Rattle.std.specs.Cmp.Lexicographic.{bytes_decides}
 use Rattle.std.proofs.lemmas.Slice.Eq.{bytes_eq-Decides}
 use Rattle.std.proofs.lemmas.Str.{chars-encodes}

@@ -1,5 +1,5 @@
 -- What is written for the parts of a context is their image, and can be written.
-use Rattle.std.proofs.Common.{◌≡◌, ℕ, zero, suc, ◌+◌, ◌<◌, ◌≤◌, ◌^◌, Bool, true, false, List, []}
+use Rattle.std.proofs.Common.{◌≡◌, ℕ, suc, ◌<◌, ◌≤◌, ◌^◌, Bool, true, false, List, []}
 use Rattle.std.proofs.Common.{◌∷◌, ◌++◌, length, Result, Ok, Err, refl, sym, ap, subst, ◌∙◌, arith}
 use Rattle.std.specs.Prelude.{IfOk, ⊤, ◌&&◌, ◌||◌, encode_utf8_all, nat_le, nat_lt}
 use Rattle.std.specs.Int.{w64, to_be_bytes}
@@ -29,9 +29,10 @@ use Rattle.wap_image.specs.declared.context_parts.parts.SavedTimer.TheVariants.{
 use Rattle.wap_image.specs.declared.context_parts.parts.SavedTimer.TheVariants.{Off}
 use Rattle.wap_image.specs.declared.kind.TimerKind.TheVariants as kind
 use Rattle.wap_image.specs.declared.kind.TheConstants.{NOT_STARTED, RUNNING, OFF}
-use Rattle.wap_image.specs.Sequences.{IsRow, Passing}
+use Rattle.wap_base.specs.formats.Sequences.{IsRowAfter, Passing}
+use Rattle.wap_base.proofs.formats.Parts.{both, then_is}
 use Rattle.wap_image.specs.Items.{head, is_drawn, is_after, is_next_name, is_value_length}
-use Rattle.wap_image.specs.Items.{is_not_started, is_entry_count, is_entry_text}
+use Rattle.wap_image.specs.Items.{is_not_started, is_entry_text}
 use Rattle.wap_image.specs.Images.{IsText, AreLimits, IsTimer, IsVariable, AreVariables, IsEntry}
 use Rattle.wap_image.specs.Images.{AreEntries, IsImage, IsDrawn}
 use Rattle.wap_image.specs.Rules.{AreParts, is_short_text, is_short_variable, is_short_entry}
@@ -39,8 +40,7 @@ use Rattle.wap_image.specs.Rules.{are_short}
 use Rattle.wap_image.specs.Spelling.{text_spelling, limits_spelling, timer_spelling}
 use Rattle.wap_image.specs.Spelling.{variable_spelling, entry_spelling, variables_spelling}
 use Rattle.wap_image.specs.Spelling.{entries_spelling, spelling}
-use Rattle.wap_image.specs.inside.Fitting.{FitsText, FitsVariable, FitsEntry, FitsParts}
-use Rattle.wap_image.specs.inside.Fitting.{FitsTimer}
+use Rattle.wap_image.specs.inside.Fitting.{FitsText, FitsVariable, FitsEntry, FitsParts, FitsTimer}
 use Rattle.wap_image.specs.inside.Fitting.{OfVariable, OfEntry}
 
 -- ---- tests
@@ -72,16 +72,7 @@ text_is : (IsSize : List ℕ → ℕ → Type 0) (text : List ℕ)
 text_is IsSize text size scalars =
     let content : List ℕ = encode_utf8_all text in (
       content,
-      (
-        length content,
-        record {
-          prefix = mb_spelling (length content);
-          rest = content;
-          split = refl;
-          first = size;
-          second = (refl, refl);
-        },
-      ),
+      then_is (length content) (mb_spelling (length content)) _ size (refl, refl),
       sym (text_in-utf8 content text (text, (scalars, refl)) (sym (chars-encodes text scalars))),
     )
 
@@ -95,64 +86,23 @@ short_fits text short = ltb-true _ _ short
 limits_are : (limits : Limits) → AreInRange limits → AreLimits (limits_spelling limits) limits
 limits_are limits are =
     let string = are.string in
-    let most : limits.string ≤ 1048575 = string.1 in (
-      limits.string,
-      record {
-        prefix = mb_spelling limits.string;
-        rest = limits.history ∷ limits.depth ∷ [];
-        split = refl;
-        first = (number_is limits.string (omega arith), between _ _ _ string.0 string.1);
-        second = (
-          limits.history,
-          record {
-            prefix = limits.history ∷ [];
-            rest = limits.depth ∷ [];
-            split = refl;
-            first = (refl, between _ _ _ are.history.0 are.history.1);
-            second = (limits.depth, (refl, between _ _ _ are.depth.0 are.depth.1), refl);
-          },
-        );
-      },
-    )
+    let most : limits.string ≤ 1048575 = string.1 in
+    then_is limits.string (mb_spelling limits.string) _
+    (number_is limits.string (omega arith), between _ _ _ string.0 string.1)
+    (then_is limits.history (limits.history ∷ []) _
+    (refl, between _ _ _ are.history.0 are.history.1)
+    (limits.depth, (refl, between _ _ _ are.depth.0 are.depth.1), refl))
 
 -- the byte of a kind, and what follows it
 timer_is : (timer : SavedTimer) → ((tenths : ℕ) → timer ≡ Running tenths → 0 < tenths)
     → FitsTimer timer
     → IsTimer (timer_spelling timer) timer
-timer_is NotStarted runs fits = (
-  kind.NotStarted,
-  record {
-    prefix = NOT_STARTED ∷ [];
-    rest = [];
-    split = refl;
-    first = (NOT_STARTED, refl, refl);
-    second = (refl, refl);
-  },
-)
-timer_is (Running tenths) runs fits = (
-  kind.Running,
-  record {
-    prefix = RUNNING ∷ [];
-    rest = mb_spelling tenths;
-    split = refl;
-    first = (RUNNING, refl, refl);
-    second = (
-      tenths,
-      (number_is tenths fits, lt-ltb 0 tenths (runs tenths refl)),
-      refl,
-    );
-  },
-)
-timer_is Off runs fits = (
-  kind.Off,
-  record {
-    prefix = OFF ∷ [];
-    rest = [];
-    split = refl;
-    first = (OFF, refl, refl);
-    second = (refl, refl);
-  },
-)
+timer_is NotStarted runs fits =
+    then_is kind.NotStarted (NOT_STARTED ∷ []) _ (NOT_STARTED, refl, refl) (refl, refl)
+timer_is (Running tenths) runs fits =
+    then_is kind.Running (RUNNING ∷ []) _ (RUNNING, refl, refl)
+    (tenths, (number_is tenths fits, lt-ltb 0 tenths (runs tenths refl)), refl)
+timer_is Off runs fits = then_is kind.Off (OFF ∷ []) _ (OFF, refl, refl) (refl, refl)
 
 -- ---- variables
 
@@ -167,20 +117,13 @@ record MayFollow (before : List (List ℕ × List ℕ)) (variable : List ℕ × 
 variable_is : (before : List (List ℕ × List ℕ)) (variable : List ℕ × List ℕ)
     → MayFollow before variable → IsVariable before (variable_spelling variable) variable
 variable_is before variable may =
-    let short : length (encode_utf8_all variable.1) ≤ 65535 = may.short in (
-      variable.0,
-      record {
-        prefix = text_spelling variable.0;
-        rest = text_spelling variable.1;
-        split = refl;
-        first = (text_is IsMb variable.0 (number_is _ may.fits) may.texts.name, may.name);
-        second = (
-          variable.1,
-          text_is (Passing is_value_length IsMb) variable.1
-              (number_is _ (omega arith), le-leb _ _ short) may.texts.value,
-          refl,
-        );
-      },
+    let short : length (encode_utf8_all variable.1) ≤ 65535 = may.short in
+    then_is variable.0 (text_spelling variable.0) _
+    (text_is IsMb variable.0 (number_is _ may.fits) may.texts.name, may.name) (
+      variable.1,
+      text_is (Passing is_value_length IsMb) variable.1
+          (number_is _ (omega arith), le-leb _ _ short) may.texts.value,
+      refl,
     )
 
 -- each of these may follow those before it
@@ -191,15 +134,11 @@ AllMayFollow before (variable ∷ variables) =
 
 -- variables one after the other
 row_is : (before variables : List (List ℕ × List ℕ)) → AllMayFollow before variables
-    → IsRow IsVariable before (flat_map variable_spelling variables) variables
+    → IsRowAfter IsVariable before (flat_map variable_spelling variables) variables
 row_is before [] may = refl
-row_is before (variable ∷ variables) may = record {
-  prefix = variable_spelling variable;
-  rest = flat_map variable_spelling variables;
-  split = refl;
-  first = variable_is before variable may.0;
-  second = row_is (before ++ variable ∷ []) variables may.1;
-}
+row_is before (variable ∷ variables) may =
+    both (variable_spelling variable) _ (variable_is before variable may.0)
+    (row_is (before ++ variable ∷ []) variables may.1)
 
 -- the last of variables is the one that was added
 pub after_last : (before : List (List ℕ × List ℕ)) (variable : List ℕ × List ℕ) (name : List ℕ)
@@ -265,16 +204,10 @@ variables_are : (parts : ContextParts) → AreVars parts.vars
     → list_all is_short_variable parts.vars ≡ true → AllByRecursion OfVariable parts.vars
     → AreVariables (variables_spelling parts.vars) parts.vars
 variables_are parts vars fits texts =
-    let few : length parts.vars ≤ 1024 = vars.few in (
-      length parts.vars,
-      record {
-        prefix = mb_spelling (length parts.vars);
-        rest = flat_map variable_spelling parts.vars;
-        split = refl;
-        first = (number_is (length parts.vars) (omega arith), le-leb _ _ few);
-        second = (row_is [] parts.vars (vars_follow parts vars fits texts), refl);
-      },
-    )
+    let few : length parts.vars ≤ 1024 = vars.few in
+    then_is (length parts.vars) (mb_spelling (length parts.vars)) _
+    (number_is (length parts.vars) (omega arith), le-leb _ _ few)
+    (row_is [] parts.vars (vars_follow parts vars fits texts), refl)
 
 -- ---- entries
 
@@ -282,30 +215,15 @@ variables_are parts vars fits texts =
 list_is : (before entries : List (List ℕ × ℕ))
     → AllByRecursion (λ entry. is_entry_text entry.0 ≡ true) entries
     → list_all is_short_entry entries ≡ true → AllByRecursion OfEntry entries
-    → IsRow (λ before. IsEntry) before (flat_map entry_spelling entries) entries
+    → IsRowAfter (λ before. IsEntry) before (flat_map entry_spelling entries) entries
 list_is before [] urls fits texts = refl
 list_is before (entry ∷ entries) urls fits texts =
     let split = both_true (is_short_entry entry) (list_all is_short_entry entries) fits in
     let one = both_true (is_short_text entry.0) (nat_lt entry.1 (2 ^ 32)) split.0 in
-    record {
-      prefix = entry_spelling entry;
-      rest = flat_map entry_spelling entries;
-      split = refl;
-      first = (
-        entry.0,
-        record {
-          prefix = text_spelling entry.0;
-          rest = mb_spelling entry.1;
-          split = refl;
-          first = (
-            text_is IsMb entry.0 (number_is _ (short_fits entry.0 one.0)) texts.0,
-            urls.0,
-          );
-          second = (entry.1, number_is entry.1 (ltb-true _ _ one.1), refl);
-        },
-      );
-      second = list_is (before ++ entry ∷ []) entries urls.1 split.1 texts.1;
-    }
+    both (entry_spelling entry) _ (then_is entry.0 (text_spelling entry.0) _
+    (text_is IsMb entry.0 (number_is _ (short_fits entry.0 one.0)) texts.0, urls.0)
+    (entry.1, number_is entry.1 (ltb-true _ _ one.1), refl))
+    (list_is (before ++ entry ∷ []) entries urls.1 split.1 texts.1)
 
 -- there are some entries where the timer has started
 some_started : (timer : SavedTimer) (entries : List (List ℕ × ℕ))
@@ -321,21 +239,13 @@ some_started Off (entry ∷ entries) started = lt-ltb 0 _ (omega arith)
 entries_are : (parts : ContextParts) → AreParts parts
     → list_all is_short_entry parts.history ≡ true → AllByRecursion OfEntry parts.history
     → AreEntries parts.limits parts.timer (entries_spelling parts.history) parts.history
-entries_are parts are fits texts = (
-  length parts.history,
-  record {
-    prefix = length parts.history ∷ [];
-    rest = flat_map entry_spelling parts.history;
-    split = refl;
-    first = (
+entries_are parts are fits texts =
+    then_is (length parts.history) (length parts.history ∷ []) _ (
       refl,
       true_both (nat_le (length parts.history) parts.limits.history)
           (is_not_started parts.timer || nat_lt 0 (length parts.history)) (le-leb _ _ are.few)
           (some_started parts.timer parts.history are.started),
-    );
-    second = (list_is [] parts.history are.urls fits texts, refl);
-  },
-)
+    ) (list_is [] parts.history are.urls fits texts, refl)
 
 -- ---- images
 
@@ -369,88 +279,18 @@ image_is parts budget are turns drawn short known =
     let split =
     both_true (list_all is_short_variable parts.vars) (list_all is_short_entry parts.history) short
     in
-    let lists : List ℕ = variables_spelling parts.vars ++ entries_spelling parts.history in
-    let timers : List ℕ = timer_spelling parts.timer ++ lists in
-    let limits : List ℕ = limits_spelling parts.limits ++ timers in
-    let turns_of : List ℕ = mb_spelling budget ++ limits in
-    let words : List ℕ = to_be_bytes w64 parts.drawn ++ turns_of in
-    let starts : List ℕ = mb_spelling parts.start ++ words in (
-      head,
-      record {
-        prefix = head;
-        rest = mb_spelling parts.seed ++ starts;
-        split = refl;
-        first = ((refl, refl), refl);
-        second = (
-          parts.seed,
-          record {
-            prefix = mb_spelling parts.seed;
-            rest = starts;
-            split = refl;
-            first = number_is parts.seed known.seed;
-            second = (
-              parts.start,
-              record {
-                prefix = mb_spelling parts.start;
-                rest = words;
-                split = refl;
-                first = number_is parts.start known.start;
-                second = (
-                  parts.drawn,
-                  record {
-                    prefix = to_be_bytes w64 parts.drawn;
-                    rest = turns_of;
-                    split = refl;
-                    first = drawn_is parts.drawn drawn;
-                    second = (
-                      budget,
-                      record {
-                        prefix = mb_spelling budget;
-                        rest = limits;
-                        split = refl;
-                        first = (number_is budget known.turns, lt-ltb 0 budget turns);
-                        second = (
-                          parts.limits,
-                          record {
-                            prefix = limits_spelling parts.limits;
-                            rest = timers;
-                            split = refl;
-                            first = limits_are parts.limits are.limits;
-                            second = (
-                              parts.timer,
-                              record {
-                                prefix = timer_spelling parts.timer;
-                                rest = lists;
-                                split = refl;
-                                first = timer_is parts.timer are.runs known.timer;
-                                second = (
-                                  parts.vars,
-                                  record {
-                                    prefix = variables_spelling parts.vars;
-                                    rest = entries_spelling parts.history;
-                                    split = refl;
-                                    first = variables_are parts are.vars split.0 known.vars;
-                                    second = (
-                                      parts.history,
-                                      entries_are parts are split.1 known.history,
-                                      refl,
-                                    );
-                                  },
-                                );
-                              },
-                            );
-                          },
-                        );
-                      },
-                    );
-                  },
-                );
-              },
-            );
-          },
-        );
-      },
-    )
+    then_is head head _ ((refl, refl), refl)
+    (then_is parts.seed (mb_spelling parts.seed) _ (number_is parts.seed known.seed)
+    (then_is parts.start (mb_spelling parts.start) _ (number_is parts.start known.start)
+    (then_is parts.drawn (to_be_bytes w64 parts.drawn) _ (drawn_is parts.drawn drawn)
+    (then_is budget (mb_spelling budget) _
+    (number_is budget known.turns, lt-ltb 0 budget turns)
+    (then_is parts.limits (limits_spelling parts.limits) _ (limits_are parts.limits are.limits)
+    (then_is parts.timer (timer_spelling parts.timer) _
+    (timer_is parts.timer are.runs known.timer)
+    (then_is parts.vars (variables_spelling parts.vars) _
+    (variables_are parts are.vars split.0 known.vars)
+    (parts.history, entries_are parts are split.1 known.history, refl))))))))
 
 -- ---- lengths
 

@@ -11,7 +11,7 @@ use Rattle.wap_image.specs.declared.context_parts.parts.SavedTimer.TheVariants.{
 use Rattle.wap_image.specs.declared.context_parts.parts.SavedTimer.TheVariants.{Off}
 use Rattle.wap_image.specs.declared.kind.TimerKind.{TimerKind}
 use Rattle.wap_image.specs.declared.kind.TimerKind.TheVariants as kind
-use Rattle.wap_image.specs.Sequences.{Then, IsByte, AreBytes, Passing, Made, MadeIf, AreMany}
+use Rattle.wap_base.specs.formats.Sequences.{Then, IsByte, AreBytes, Passing, Made, MadeIf, AreMany}
 use Rattle.wap_image.specs.Items.{is_head, is_drawn, is_budget, is_string_limit, is_history_limit}
 use Rattle.wap_image.specs.Items.{is_depth_limit, timer_kind, is_time_left, is_variable_count}
 use Rattle.wap_image.specs.Items.{is_value_length, is_next_name, is_entry_count, is_entry_text}

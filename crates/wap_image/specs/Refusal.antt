@@ -2,11 +2,10 @@
 -- refusal speaks of the length of the whole input, of the bytes that are left of it after whole
 -- items, and of a fault; the place of the first byte that is left is the difference of the lengths.
 -- This project's own.
-use Rattle.std.specs.Prelude.{◌≡◌, ℕ, ◌-◌, ◌<◌, ◌⊎◌, Bool, true, false}
-use Rattle.std.specs.Prelude.{List, [], ◌∷◌, ◌++◌, length, Option, Some, None}
+use Rattle.std.specs.Prelude.{◌≡◌, ℕ, ◌-◌, ◌<◌, Bool, List, [], ◌++◌, length}
 use Rattle.std.specs.Int.{w64, from_be_bytes}
 use Rattle.wap_base.specs.Charsets.{text_in}
-use Rattle.wap_base.specs.Numbers.{IsMb, EndsInside, IsTooLong}
+use Rattle.wap_base.specs.Numbers.{IsMb}
 use Rattle.wap_base.specs.declared.charset.Charset.TheVariants.{Utf8}
 use Rattle.wap_base.specs.declared.limits.Limits.{Limits}
 use Rattle.wap_image.specs.declared.context_parts.fault.ImageFault.{ImageFault}
@@ -14,79 +13,34 @@ use Rattle.wap_image.specs.declared.context_parts.fault.ImageFault.TheVariants a
 use Rattle.wap_image.specs.declared.context_parts.parts.SavedTimer.{SavedTimer}
 use Rattle.wap_image.specs.declared.kind.TimerKind.{TimerKind}
 use Rattle.wap_image.specs.declared.kind.TimerKind.TheVariants as kind
-use Rattle.wap_image.specs.Sequences.{IsByte, AreBytes, Passing, Made, MadeIf, IsRow}
+use Rattle.wap_base.specs.formats.Sequences.{IsByte, AreBytes, Passing, Made, MadeIf}
+use Rattle.wap_base.specs.formats.Refusal as formats
+use Rattle.wap_base.specs.formats.Refusal.{Never}
+pub use Rattle.wap_base.specs.formats.Refusal.{RefusesInTurn, RefusesPassing, RefusesMadeIf}
+pub use Rattle.wap_base.specs.formats.Refusal.{RefusesRowAfter as RefusesRow}
 use Rattle.wap_image.specs.Items.{is_head, is_drawn, is_budget, is_string_limit, is_history_limit}
 use Rattle.wap_image.specs.Items.{is_depth_limit, timer_kind, is_time_left, is_variable_count}
 use Rattle.wap_image.specs.Items.{is_value_length, is_next_name, is_entry_count, is_entry_text}
 use Rattle.wap_image.specs.Images.{IsSized, IsText, IsHead, IsDrawn, IsBudget, AreLimits, IsTimer}
-use Rattle.wap_image.specs.Images.{IsNextName, IsValue, IsVariable, AreVariables, IsEntry}
-use Rattle.wap_image.specs.Images.{Saved, IsImage}
+use Rattle.wap_image.specs.Images.{IsNextName, IsVariable, AreVariables, IsEntry, Saved, IsImage}
 
 -- the length of the input, what is left of it, and the fault
 abbrev pub Refusal : Type 1
-Refusal = ℕ → List ℕ → ImageFault → Type 0
+Refusal = formats.Refusal ImageFault
 
 -- ---- what an item may lack
 
--- nothing is refused
-abbrev pub Never : Refusal
-Never end left found = ⊥
-
 -- nothing is left where a byte has to stand
 abbrev pub LacksByte : Refusal
-LacksByte end left found = (left ≡ []) × (found ≡ fault.Short end)
+LacksByte = formats.LacksByte fault.Short
 
 -- fewer bytes are left than have to follow
 abbrev pub LacksBytes : ℕ → Refusal
-LacksBytes size end left found = (length left < size) × (found ≡ fault.Short end)
+LacksBytes = formats.LacksBytes fault.Short
 
 -- no number stands here: the input ends inside it, or it is too long
 abbrev pub RefusesNumber : Refusal
-RefusesNumber end left found =
-    (EndsInside left × (found ≡ fault.Short end))
-    ⊎ (IsTooLong left × (found ≡ fault.Number (end - length left)))
-
--- ---- one item after the other
-
--- a whole item, after which the next one is refused
-pub record After {A : Type 0} (Is : List ℕ → A → Type 0) (Next : A → Refusal) (end : ℕ)
-    (left : List ℕ) (found : ImageFault) : Type 0 where
-  pub value : A
-  pub prefix : List ℕ
-  pub rest : List ℕ
-  pub split : left ≡ prefix ++ rest
-  pub whole : Is prefix value
-  pub refused : Next value end rest found
-
--- the first item is refused, or the next one after it
-abbrev pub RefusesInTurn : {A : Type 0} → Refusal → (List ℕ → A → Type 0) → (A → Refusal) → Refusal
-RefusesInTurn First Is Next end left found = First end left found ⊎ After Is Next end left found
-
--- the value is refused, or doesn't pass a test; the fault is at its place
-abbrev pub RefusesPassing : {A : Type 0} → (A → Bool) → (ℕ → ImageFault) → (List ℕ → A → Type 0)
-    → Refusal → Refusal
-RefusesPassing test failed Is Refuses end left found =
-    RefusesInTurn Refuses Is
-    (λ x last rest other. (test x ≡ false) × (other ≡ failed (end - length left))) end left found
-
--- the value is refused, or nothing is made of it; the fault is at its place
-abbrev pub RefusesMadeIf : {A B : Type 0} → (A → Option B) → (ℕ → ImageFault)
-    → (List ℕ → A → Type 0) → Refusal → Refusal
-RefusesMadeIf make failed Is Refuses end left found =
-    RefusesInTurn Refuses Is
-    (λ x last rest other. (make x ≡ None) × (other ≡ failed (end - length left))) end left found
-
--- some whole things, fewer than there have to be, and then one that is refused
-pub record RefusesRow {A : Type 0} (count : ℕ) (Is : List A → List ℕ → A → Type 0)
-    (Refuses : List A → Refusal) (before : List A) (end : ℕ) (left : List ℕ) (found : ImageFault) :
-    Type 0 where
-  pub whole : List A
-  pub prefix : List ℕ
-  pub rest : List ℕ
-  pub split : left ≡ prefix ++ rest
-  pub row : IsRow Is before prefix whole
-  pub fewer : length whole < count
-  pub refused : Refuses (before ++ whole) end rest found
+RefusesNumber = formats.RefusesNumber fault.Short fault.Number
 
 -- ---- texts
 

@@ -6,7 +6,6 @@ use Rattle.std.specs.List.{AllByRecursion, list_all}
 use Rattle.wap_base.specs.Limits.{AreInRange}
 use Rattle.wap_vars.specs.Variables.{AreVars}
 use Rattle.wap_image.specs.declared.context_parts.parts.ContextParts.{ContextParts}
-use Rattle.wap_image.specs.declared.context_parts.parts.SavedTimer.{SavedTimer}
 use Rattle.wap_image.specs.declared.context_parts.parts.SavedTimer.TheVariants.{NotStarted, Running}
 use Rattle.wap_image.specs.Items.{is_drawn, is_entry_text}
 

@@ -1,17 +1,17 @@
 //! The entries of the history.
-ghost use Rattle.std.specs.Prelude.{◌≡◌, []};
+ghost use Rattle.std.specs.Prelude.{◌≡◌};
 ghost use Rattle.wap_base.specs.Outcome.{Meets};
 ghost use Rattle.wap_image.specs.declared.context_parts.fault.ImageFault.TheVariants.{NoMemory};
 ghost use Rattle.wap_image.specs.Items.{is_not_started, is_entry_count};
-ghost use Rattle.wap_image.specs.inside.ByteReading.{many};
+ghost use Rattle.wap_base.specs.formats.ByteReading.{row_at};
 ghost use Rattle.wap_image.specs.inside.ImageReading.{url_at, entry_at, entry_count_at, entries_at};
 
 use crate::context_parts::{ImageFault, SavedTimer};
 use crate::items::is_entry_text;
-use crate::steps::{byte, number, place};
+use crate::steps::{byte, number};
 use crate::texts::read_text;
 use std::alloc::Global;
-use wap_base::{Limits, Rows, Text};
+use wap_base::{Limits, Rows, Text, place};
 
 /// The entries, after their number, which the limit and the timer may refuse.
 #[tactic(auto, unfolding(crate::specs::inside::ImageReading::entries_at))]
@@ -72,7 +72,7 @@ fn read_row(
     bytes: &[u8],
 ) -> Result<(Rows<(Text, usize)>, &[u8]), ImageFault>
     ensures { Meets NoMemory (λ read. (read.0, read.1.now)) result
-        (many (λ before. entry_at) count [] end bytes.now) }
+        (row_at entry_at count end bytes.now) }
 {
     let mut entries = Rows::new(alloc);
     let mut rest = bytes;

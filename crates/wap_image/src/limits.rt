@@ -5,9 +5,9 @@ ghost use Rattle.wap_image.specs.inside.ImageReading.{string_limit_at, history_l
 ghost use Rattle.wap_image.specs.inside.ImageReading.{depth_limit_at, limits_at};
 
 use crate::context_parts::ImageFault;
-use crate::steps::{byte, number, place};
+use crate::steps::{byte, number};
 use wap_base::{
-    LEAST_DEPTH, LEAST_HISTORY, LEAST_STRING, Limits, MOST_DEPTH, MOST_HISTORY, MOST_STRING,
+    LEAST_DEPTH, LEAST_HISTORY, LEAST_STRING, Limits, MOST_DEPTH, MOST_HISTORY, MOST_STRING, place,
 };
 
 /// The limits of strings, of the history and of calls.

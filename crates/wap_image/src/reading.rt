@@ -13,10 +13,11 @@ use crate::context_parts::{ContextParts, ImageFault};
 use crate::entries::read_entries;
 use crate::items::is_head;
 use crate::limits::read_limits;
-use crate::steps::{number, place, take_bytes};
+use crate::steps::{number, take_bytes};
 use crate::timer::read_timer;
 use crate::variables::read_variables;
 use std::alloc::Global;
+use wap_base::place;
 
 /// The parts of which the bytes are the image, all of them, and the turns of a key. Of a text no
 /// more is copied than there are bytes.

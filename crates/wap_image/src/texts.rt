@@ -5,9 +5,9 @@ ghost use Rattle.wap_image.specs.inside.ByteReading.{number_at};
 ghost use Rattle.wap_image.specs.inside.ImageReading.{sized_at, text_at, value_length_at};
 
 use crate::context_parts::ImageFault;
-use crate::steps::{number, place, take_bytes};
+use crate::steps::{number, take_bytes};
 use std::alloc::Global;
-use wap_base::{Charset, Text};
+use wap_base::{Charset, Text, place};
 use wap_vars::TEXT_LIMIT;
 
 /// A text after the number of its bytes.

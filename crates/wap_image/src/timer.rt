@@ -6,7 +6,8 @@ ghost use Rattle.wap_image.specs.inside.ImageReading.{timer_at};
 
 use crate::context_parts::{ImageFault, SavedTimer};
 use crate::kind::{TimerKind, timer_kind};
-use crate::steps::{byte, number, place};
+use crate::steps::{byte, number};
+use wap_base::place;
 
 /// The byte of its kind, and for a timer that runs the tenths that are left.
 #[tactic(auto, unfolding(crate::specs::inside::ImageReading::timer_at))]

@@ -2,16 +2,16 @@
 ghost use Rattle.std.specs.Prelude.{[]};
 ghost use Rattle.wap_base.specs.Outcome.{Meets};
 ghost use Rattle.wap_image.specs.declared.context_parts.fault.ImageFault.TheVariants.{NoMemory};
-ghost use Rattle.wap_image.specs.inside.ByteReading.{many};
+ghost use Rattle.wap_base.specs.formats.ByteReading.{many};
 ghost use Rattle.wap_image.specs.inside.ImageReading.{name_at, variable_at, variable_count_at};
 ghost use Rattle.wap_image.specs.inside.ImageReading.{variables_at};
 
 use crate::context_parts::ImageFault;
 use crate::items::is_next_name;
-use crate::steps::{number, place};
+use crate::steps::number;
 use crate::texts::{read_text, read_value};
 use std::alloc::Global;
-use wap_base::{Rows, Text};
+use wap_base::{Rows, Text, place};
 use wap_vars::VAR_LIMIT;
 
 /// The variables, after their number.

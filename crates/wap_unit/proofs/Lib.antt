@@ -1,6 +1,5 @@
 pub mod Texts
-pub mod Loops
-pub mod Readers
 pub mod UnitItems
 pub mod UnitLaws
+pub mod Writers
 pub mod SpellingLaws

@@ -1,16 +1,14 @@
 -- What is written for a unit is that unit, is no longer than what it was read from, and can be
 -- written.
-use Rattle.std.proofs.Common.{◌≡◌, ℕ, zero, suc, ◌+◌, ◌/◌, ◌%◌, ◌^◌, ◌<◌, ◌≤◌, Bool}
-use Rattle.std.proofs.Common.{true, false, cond, eqb, List, [], ◌∷◌, ◌++◌, length}
-use Rattle.std.proofs.Common.{get_or, refl, sym, ap, subst, ◌∙◌, arith}
+use Rattle.std.proofs.Common.{◌≡◌, ℕ, ◌/◌, ◌%◌, ◌^◌, ◌<◌, ◌≤◌, List, [], ◌∷◌, ◌++◌, length, refl}
+use Rattle.std.proofs.Common.{sym, ap, subst, ◌∙◌, arith}
 use Rattle.std.specs.Prelude.{⊤, encode_utf8_all}
-use Rattle.std.specs.List.{flat_map, AllByRecursion}
+use Rattle.std.specs.List.{flat_map}
 use Rattle.std.specs.Int.{w8, w16, w32, cast_signed, cast_unsigned, from_be_bytes, to_be_bytes}
 use Rattle.std.proofs.lemmas.Int.{of_z-to_z}
-use Rattle.std.proofs.lemmas.List.{length-append}
 use Rattle.std.proofs.lemmas.Nat.{be_bytes_2, be_bytes_4}
 use Rattle.std.proofs.lemmas.Str.{IsUtf8-from_is_utf8, encodes-chars}
-use Rattle.wap_base.specs.Numbers.{IsMb, carried, mb_spelling}
+use Rattle.wap_base.specs.Numbers.{carried, mb_spelling}
 use Rattle.wap_base.proofs.NumberSpelling.{IsShortest-mb_spelling}
 use Rattle.wap_unit.specs.declared.unit.Unit.{Unit}
 use Rattle.wap_unit.specs.declared.unit.Constant.{Constant}
@@ -21,167 +19,21 @@ use Rattle.wap_unit.specs.declared.unit.Pragma.TheVariants.{Domain, Path, Proper
 use Rattle.wap_unit.specs.declared.unit.Code.{Code}
 use Rattle.wap_unit.specs.declared.kind.TheConstants.{INT8, INT16, INT32, FLOAT, UTF8, CODED}
 use Rattle.wap_unit.specs.declared.kind.TheConstants.{DOMAIN, PATH, PROPERTY, SCHEME}
-use Rattle.wap_unit.specs.Sequences.{IsSized, IsRow, IsCounted}
+use Rattle.wap_base.specs.formats.Sequences.{InTurn}
+use Rattle.wap_unit.specs.Sequences.{IsSized, IsCounted}
+use Rattle.wap_unit.proofs.Writers.{AreBytes, Written, Writes, bytes_back, bytes_both, byte_below}
+use Rattle.wap_unit.proofs.Writers.{written_same, written_behind, carried_bytes, writes_number}
+use Rattle.wap_unit.proofs.Writers.{writes_row, writes_both, writes_of, writes_after, writes_sized}
+use Rattle.wap_unit.proofs.Writers.{writes_counted}
 use Rattle.wap_unit.specs.Units.{IsUtf8Text, IsConstant, AreConstants, IsPair, IsPragma, IsName}
-use Rattle.wap_unit.specs.Units.{IsFunction, AreFunctions, IsBody, IsHead, IsUnit}
+use Rattle.wap_unit.specs.Units.{IsFunction, AreFunctions, IsHead, IsUnit}
 use Rattle.wap_unit.specs.Spelling.{sized, counted, constant_spelling, pragma_spelling}
 use Rattle.wap_unit.specs.Spelling.{name_spelling, function_spelling, constants_spelling}
 use Rattle.wap_unit.specs.Spelling.{functions_spelling, body_spelling, spelling}
 use Rattle.wap_unit.specs.inside.Fitting.{FitsConstant, FitsConstants, FitsName}
 use Rattle.wap_unit.specs.inside.Fitting.{FitsFunction, FitsFunctions, FitsUnit}
 
--- numbers below 256
-abbrev AreBytes : List ℕ → Type 0
-AreBytes bytes = AllByRecursion (λ byte. byte < 256) bytes
-
--- a prefix of bytes is bytes
-bytes_front : (front back : List ℕ) → AreBytes (front ++ back) → AreBytes front
-bytes_front [] back are = tt
-bytes_front (byte ∷ front) back are = (are.0, bytes_front front back are.1)
-
--- what follows a prefix is bytes
-bytes_back : (front back : List ℕ) → AreBytes (front ++ back) → AreBytes back
-bytes_back [] back are = are
-bytes_back (byte ∷ front) back are = bytes_back front back are.1
-
--- bytes after bytes are bytes
-bytes_both : (front back : List ℕ) → AreBytes front → AreBytes back → AreBytes (front ++ back)
-bytes_both [] back are more = more
-bytes_both (byte ∷ front) back are more = (are.0, bytes_both front back are.1 more)
-
--- each byte is below 256
-byte_below : (bytes : List ℕ) → AreBytes bytes → (i : ℕ) → get_or bytes i 0 < 256
-byte_below [] are i = omega arith
-byte_below (byte ∷ bytes) are zero = are.0
-byte_below (byte ∷ bytes) are (suc i) = byte_below bytes are.1 i
-
--- these bytes, written in place of others
-record Written (others bytes : List ℕ) : Type 0 where
-  are : AreBytes bytes
-  short : length bytes ≤ length others
-
--- what is written for a thing is that thing, in place of the bytes from which it was read
-record Writes {A : Type 0} (Is : List ℕ → A → Type 0) (spell : A → List ℕ)
-    (Fits : A → Type 0) : Type 0 where
-  is : (bytes : List ℕ) (x : A) → AreBytes bytes → Is bytes x → Is (spell x) x
-  written : (bytes : List ℕ) (x : A) → AreBytes bytes → Is bytes x → Written bytes (spell x)
-  fits : (bytes : List ℕ) (x : A) → AreBytes bytes → Is bytes x → Fits x
-
--- two parts are written one after the other
-written_both : (bytes front back a b : List ℕ) → bytes ≡ front ++ back → Written front a
-    → Written back b → Written bytes (a ++ b)
-written_both bytes front back a b split first second =
-    let one = first.short in
-    let two = second.short in
-    let all : length bytes ≡ length (front ++ back) = ap (λ (l : List ℕ). length l) split in
-    record {
-      are = bytes_both a b first.are second.are;
-      short = omega (arith, length-append a b, length-append front back);
-    }
-
--- bytes are written as they were
-written_same : (bytes : List ℕ) → AreBytes bytes → Written bytes bytes
-written_same bytes are = record { are = are; short = omega arith }
-
--- a byte is written, and what follows it
-written_behind : (byte : ℕ) (others bytes rest : List ℕ) → others ≡ byte ∷ rest → AreBytes others
-    → Written rest bytes → Written others (byte ∷ bytes)
-written_behind byte others bytes rest spelled are behind =
-    let one = behind.short in
-    let all : length others ≡ suc (length rest) = ap (λ (l : List ℕ). length l) spelled in
-    record { are = ((subst AreBytes spelled are).0, behind.are); short = omega arith }
-
--- a part of bytes is bytes
-front_of : (bytes front back : List ℕ) → bytes ≡ front ++ back → AreBytes bytes → AreBytes front
-front_of bytes front back split are = bytes_front front back (subst AreBytes split are)
-
--- so is what follows the part
-back_of : (bytes front back : List ℕ) → bytes ≡ front ++ back → AreBytes bytes → AreBytes back
-back_of bytes front back split are = bytes_back front back (subst AreBytes split are)
-
--- ---- numbers
-
--- the groups of a number are bytes
-carried_bytes : (allowed number : ℕ) → AreBytes (carried allowed number)
-carried_bytes zero number = tt
-carried_bytes (suc allowed) number =
-    by_test (eqb number 0) (carried allowed (number / 128)) (128 + number % 128)
-    (carried_bytes allowed (number / 128)) (omega arith)
-  where
-    by_test : (b : Bool) (front : List ℕ) (last : ℕ) → AreBytes front → last < 256
-        → AreBytes (cond b [] (front ++ last ∷ []))
-    by_test true front last are below = tt
-    by_test false front last are below = bytes_both front (last ∷ []) are (below, tt)
-
--- one number
-writes_number : Writes IsMb mb_spelling (λ number. number < 2 ^ 32)
-writes_number = record {
-  is = λ bytes number are is. (IsShortest-mb_spelling number is.fits).spells;
-  written = λ bytes number are is. record {
-    are =
-        bytes_both (carried 4 (number / 128)) (number % 128 ∷ []) (carried_bytes 4 (number / 128))
-        (omega arith, tt);
-    short = (IsShortest-mb_spelling number is.fits).shortest bytes is;
-  };
-  fits = λ bytes number are is. is.fits;
-}
-
--- ---- rows
-
--- so many things
-writes_row : {A : Type 0} {Is : List ℕ → A → Type 0} {spell : A → List ℕ} {Fits : A → Type 0}
-    → Writes Is spell Fits → Writes (IsRow Is) (flat_map spell) (AllByRecursion Fits)
-writes_row {A} {Is} {spell} {Fits} writes = record { is = is; written = written; fits = fits }
-  where
-    is : (bytes : List ℕ) (xs : List A) → AreBytes bytes → IsRow Is bytes xs
-        → IsRow Is (flat_map spell xs) xs
-    is bytes [] are row = refl
-    is bytes (x ∷ xs) are row = record {
-      front = spell x;
-      back = flat_map spell xs;
-      split = refl;
-      first = writes.is row.front x (front_of bytes row.front row.back row.split are) row.first;
-      second = is row.back xs (back_of bytes row.front row.back row.split are) row.second;
-    }
-
-    written : (bytes : List ℕ) (xs : List A) → AreBytes bytes → IsRow Is bytes xs
-        → Written bytes (flat_map spell xs)
-    written bytes [] are row = record { are = tt; short = omega arith }
-    written bytes (x ∷ xs) are row =
-        written_both bytes row.front row.back (spell x) (flat_map spell xs) row.split
-        (writes.written row.front x (front_of bytes row.front row.back row.split are) row.first)
-        (written row.back xs (back_of bytes row.front row.back row.split are) row.second)
-
-    fits : (bytes : List ℕ) (xs : List A) → AreBytes bytes → IsRow Is bytes xs
-        → AllByRecursion Fits xs
-    fits bytes [] are row = tt
-    fits bytes (x ∷ xs) are row = (
-      writes.fits row.front x (front_of bytes row.front row.back row.split are) row.first,
-      fits row.back xs (back_of bytes row.front row.back row.split are) row.second,
-    )
-
 -- ---- texts
-
--- bytes after their number
-writes_sized : Writes IsSized sized (λ content. length content < 2 ^ 32)
-writes_sized = record {
-  is = λ bytes content are is. record {
-    front = mb_spelling (length content);
-    back = content;
-    split = refl;
-    first =
-        writes_number.is is.front (length content)
-        (front_of bytes is.front is.back is.split are) is.first;
-    second = refl;
-  };
-  written = λ bytes content are is.
-      written_both bytes is.front is.back (mb_spelling (length content)) content is.split
-      (writes_number.written is.front (length content)
-      (front_of bytes is.front is.back is.split are) is.first)
-      (subst (Written is.back) is.second
-      (written_same is.back (back_of bytes is.front is.back is.split are)));
-  fits = λ bytes content are is. is.first.fits;
-}
 
 -- the bytes of a text are those from which it was read
 utf8_same : (content text : List ℕ) → IsUtf8Text content text → encode_utf8_all text ≡ content
@@ -308,15 +160,11 @@ constant_law charset bytes (Coded text) are is =
 -- the length of a constant can be written
 constant_fits : (charset : ℕ) (bytes : List ℕ) (c : Constant) → AreBytes bytes
     → IsConstant charset bytes c → FitsConstant c
-constant_fits charset bytes (Int8 number) are is = tt
-constant_fits charset bytes (Int16 number) are is = tt
-constant_fits charset bytes (Int32 number) are is = tt
-constant_fits charset bytes (Float number) are is = tt
 constant_fits charset bytes (Utf8 text) are is =
     subst (λ (l : List ℕ). length l < 2 ^ 32) (sym (utf8_same is.2.0 text is.2.2)) is.2.1.first.fits
-constant_fits charset bytes Empty are is = tt
 constant_fits charset bytes (Coded text) are is =
     subst (λ (l : List ℕ). length l < 2 ^ 32) is.2.2.0 is.2.1.first.fits
+constant_fits charset bytes _ are is = tt
 
 -- one constant
 writes_constant : (charset : ℕ) → Writes (IsConstant charset) constant_spelling FitsConstant
@@ -326,122 +174,38 @@ writes_constant charset = record {
   fits = constant_fits charset;
 }
 
--- the number of the character set, and the constants
-abbrev Pool : Type 0
-Pool = ℕ × List Constant
-
--- the pool of constants
-writes_constants : Writes (λ bytes (pool : Pool). AreConstants bytes pool.0 pool.1)
-    (λ pool. constants_spelling pool.0 pool.1) (λ pool. FitsConstants pool.1)
-writes_constants = record {
-  is = λ bytes pool are is.
-      let rest = back_of bytes is.front is.back is.split are in
-      let row = back_of is.back is.second.front is.second.back is.second.split rest in
-      record {
-        front = mb_spelling (length pool.1);
-        back = mb_spelling pool.0 ++ flat_map constant_spelling pool.1;
-        split = refl;
-        first =
-            writes_number.is is.front (length pool.1)
-            (front_of bytes is.front is.back is.split are) is.first;
-        second = record {
-          front = mb_spelling pool.0;
-          back = flat_map constant_spelling pool.1;
-          split = refl;
-          first =
-              writes_number.is is.second.front pool.0 (front_of is.back is.second.front
-              is.second.back is.second.split rest) is.second.first;
-          second =
-              (writes_row (writes_constant pool.0)).is is.second.back pool.1 row is.second.second;
-        };
-      };
-  written = λ bytes pool are is.
-      let rest = back_of bytes is.front is.back is.split are in
-      let row = back_of is.back is.second.front is.second.back is.second.split rest in
-      written_both bytes is.front is.back (mb_spelling (length pool.1))
-      (mb_spelling pool.0 ++ flat_map constant_spelling pool.1) is.split
-      (writes_number.written is.front (length pool.1)
-      (front_of bytes is.front is.back is.split are) is.first)
-      (written_both is.back is.second.front is.second.back (mb_spelling pool.0)
-      (flat_map constant_spelling pool.1) is.second.split
-      (writes_number.written is.second.front pool.0
-      (front_of is.back is.second.front is.second.back is.second.split rest) is.second.first)
-      ((writes_row (writes_constant pool.0)).written is.second.back pool.1 row is.second.second));
-  fits = λ bytes pool are is.
-      let rest = back_of bytes is.front is.back is.split are in
-      let row = back_of is.back is.second.front is.second.back is.second.split rest in
-      record {
-        few = is.first.fits;
-        each =
-            (writes_row (writes_constant pool.0)).fits is.second.back pool.1 row is.second.second;
-      };
-}
+-- so many constants of a pool whose strings are in this character set
+writes_pool : (charset : ℕ) → Writes (λ bytes constants. AreConstants bytes charset constants)
+    (constants_spelling charset) FitsConstants
+writes_pool charset =
+    writes_of (writes_both writes_number (writes_both writes_number
+    (writes_row (writes_constant charset)))) (λ constants. (length constants, (charset, constants)))
+    (λ constants fits. record { few = fits.0; each = fits.1.1 })
 
 -- ---- pragmas
 
--- what is written for two numbers is the numbers
-pair_law : (bytes : List ℕ) (one two : ℕ) → AreBytes bytes → IsPair bytes one two
-    → IsPair (mb_spelling one ++ mb_spelling two) one two
-    × Written bytes (mb_spelling one ++ mb_spelling two)
-pair_law bytes one two are is =
-    let front = front_of bytes is.front is.back is.split are in
-    let back = back_of bytes is.front is.back is.split are in (
-      record {
-        front = mb_spelling one;
-        back = mb_spelling two;
-        split = refl;
-        first = writes_number.is is.front one front is.first;
-        second = writes_number.is is.back two back is.second;
-      },
-      written_both bytes is.front is.back (mb_spelling one) (mb_spelling two) is.split
-          (writes_number.written is.front one front is.first)
-          (writes_number.written is.back two back is.second),
-    )
+-- two numbers
+writes_pair : Writes (λ bytes (pair : ℕ × ℕ). IsPair bytes pair.0 pair.1)
+    (λ pair. mb_spelling pair.0 ++ mb_spelling pair.1)
+    (λ pair. (pair.0 < 2 ^ 32) × (pair.1 < 2 ^ 32))
+writes_pair = writes_both writes_number writes_number
 
 -- what is written for a pragma is the pragma
 pragma_law : (bytes : List ℕ) (p : Pragma) → AreBytes bytes → IsPragma bytes p
     → IsPragma (pragma_spelling p) p × Written bytes (pragma_spelling p)
 pragma_law bytes (Domain text) are is =
-    let rest = behind_kind bytes is.0 DOMAIN is.1 are in (
-      (mb_spelling text, refl, writes_number.is is.0 text rest is.2),
-      written_behind DOMAIN bytes (mb_spelling text) is.0 is.1 are
-          (writes_number.written is.0 text rest is.2),
-    )
+    let law = writes_after (λ text. DOMAIN) writes_number in
+    (law.is bytes text are is, law.written bytes text are is)
 pragma_law bytes (Path text) are is =
-    let rest = behind_kind bytes is.0 PATH is.1 are in (
-      (mb_spelling text, refl, writes_number.is is.0 text rest is.2),
-      written_behind PATH bytes (mb_spelling text) is.0 is.1 are
-          (writes_number.written is.0 text rest is.2),
-    )
+    let law = writes_after (λ text. PATH) writes_number in
+    (law.is bytes text are is, law.written bytes text are is)
 pragma_law bytes (Property name content) are is =
-    let pair = pair_law is.0 name content (behind_kind bytes is.0 PROPERTY is.1 are) is.2 in (
-      (mb_spelling name ++ mb_spelling content, refl, pair.0),
-      written_behind PROPERTY bytes (mb_spelling name ++ mb_spelling content) is.0 is.1 are pair.1,
-    )
+    let law = writes_after (λ pair. PROPERTY) writes_pair in
+    (law.is bytes (name, content) are is, law.written bytes (name, content) are is)
 pragma_law bytes (Scheme name content scheme) are is =
-    let rest = behind_kind bytes is.0 SCHEME is.1 are in
-    let inner = is.2 in
-    let front = front_of is.0 inner.front inner.back inner.split rest in
-    let pair =
-    pair_law inner.back content scheme
-    (back_of is.0 inner.front inner.back inner.split rest) inner.second in
-    let again : List ℕ = mb_spelling name ++ (mb_spelling content ++ mb_spelling scheme) in (
-      (
-        again,
-        refl,
-        record {
-          front = mb_spelling name;
-          back = mb_spelling content ++ mb_spelling scheme;
-          split = refl;
-          first = writes_number.is inner.front name front inner.first;
-          second = pair.0;
-        },
-      ),
-      written_behind SCHEME bytes again is.0 is.1 are
-          (written_both is.0 inner.front inner.back (mb_spelling name)
-          (mb_spelling content ++ mb_spelling scheme) inner.split
-          (writes_number.written inner.front name front inner.first) pair.1),
-    )
+    let law = writes_after (λ names. SCHEME) (writes_both writes_number writes_pair) in
+    let names : ℕ × (ℕ × ℕ) = (name, (content, scheme)) in
+    (law.is bytes names are is, law.written bytes names are is)
 
 -- one pragma
 writes_pragma : Writes IsPragma pragma_spelling (λ p. ⊤)
@@ -449,29 +213,6 @@ writes_pragma = record {
   is = λ bytes p are is. (pragma_law bytes p are is).0;
   written = λ bytes p are is. (pragma_law bytes p are is).1;
   fits = λ bytes p are is. tt;
-}
-
--- the pragmas
-writes_pragmas : Writes (IsCounted IsPragma) (counted pragma_spelling) (λ ps. length ps < 2 ^ 32)
-writes_pragmas = record {
-  is = λ bytes ps are is. record {
-    front = mb_spelling (length ps);
-    back = flat_map pragma_spelling ps;
-    split = refl;
-    first =
-        writes_number.is is.front (length ps)
-        (front_of bytes is.front is.back is.split are) is.first;
-    second =
-        (writes_row writes_pragma).is is.back ps
-        (back_of bytes is.front is.back is.split are) is.second;
-  };
-  written = λ bytes ps are is.
-      written_both bytes is.front is.back (mb_spelling (length ps))
-      (flat_map pragma_spelling ps) is.split (writes_number.written is.front (length ps)
-      (front_of bytes is.front is.back is.split are) is.first)
-      ((writes_row writes_pragma).written is.back ps
-      (back_of bytes is.front is.back is.split are) is.second);
-  fits = λ bytes ps are is. is.first.fits;
 }
 
 -- ---- functions
@@ -540,87 +281,55 @@ functions_law bytes found are is =
     let names : ℕ = length found.0 in
     let spelled : AreBytes (count ∷ names ∷ is.rows) = subst AreBytes is.spelled are in
     let rows : AreBytes is.rows = spelled.1.1 in
-    let front = front_of is.rows is.each.front is.each.back is.each.split rows in
-    let back = back_of is.rows is.each.front is.each.back is.each.split rows in
-    let names_row : List ℕ = flat_map name_spelling found.0 in
-    let functions_row : List ℕ = flat_map function_spelling found.1 in
-    let each_name = writes_row (writes_name count) in
-    let each = writes_row writes_function in
-    let written =
-    written_both is.rows is.each.front is.each.back names_row functions_row is.each.split
-    (each_name.written is.each.front found.0 front is.each.first)
-    (each.written is.each.back found.1 back is.each.second) in
+    let law = writes_both (writes_row (writes_name count)) (writes_row writes_function) in
+    let written = law.written is.rows found rows is.each in
+    let fits = law.fits is.rows found rows is.each in
+    let spelling : List ℕ =
+    flat_map name_spelling found.0 ++ flat_map function_spelling found.1 in
     let few : count < 256 = spelled.0 in
     let few_names : names < 256 = spelled.1.0 in (
       record {
-        rows = names_row ++ functions_row;
+        rows = spelling;
         spelled = refl;
         some = is.some;
-        each = record {
-          front = names_row;
-          back = functions_row;
-          split = refl;
-          first = each_name.is is.each.front found.0 front is.each.first;
-          second = each.is is.each.back found.1 back is.each.second;
-        };
+        each = law.is is.rows found rows is.each;
       },
-      written_behind count bytes (names ∷ (names_row ++ functions_row))
-          (names ∷ is.rows) is.spelled are (written_behind names (names ∷ is.rows)
-          (names_row ++ functions_row) is.rows refl spelled.1 written),
-      record {
-        few_names = few_names;
-        few = few;
-        each_name = each_name.fits is.each.front found.0 front is.each.first;
-        each = each.fits is.each.back found.1 back is.each.second;
-      },
+      written_behind count bytes (names ∷ spelling) (names ∷ is.rows) is.spelled are
+          (written_behind names (names ∷ is.rows) spelling is.rows refl spelled.1 written),
+      record { few_names = few_names; few = few; each_name = fits.0; each = fits.1 },
     )
+
+-- names and functions
+writes_functions : Writes (λ bytes (found : Named). AreFunctions bytes found.0 found.1)
+    (λ found. functions_spelling found.0 found.1) (λ found. FitsFunctions found.0 found.1)
+writes_functions = record {
+  is = λ bytes found are is. (functions_law bytes found are is).0;
+  written = λ bytes found are is. (functions_law bytes found are is).1;
+  fits = λ bytes found are is. (functions_law bytes found are is).2;
+}
 
 -- ---- units
 
-record BodyLaw (body : List ℕ) (unit : Unit) : Type 0 where
-  is : IsBody (body_spelling unit) unit
-  written : Written body (body_spelling unit)
-  constants : FitsConstants unit.constants
-  pragmas : length unit.pragmas < 2 ^ 32
-  functions : FitsFunctions unit.names unit.functions
+-- the parts of a unit
+abbrev Body : Type 0
+Body = List Constant × (List Pragma × Named)
 
--- what is written for the parts of a unit is those
-body_law : (body : List ℕ) (unit : Unit) → AreBytes body → IsBody body unit → BodyLaw body unit
-unfolding body_spelling
-body_law body unit are is =
-    let front = front_of body is.front is.back is.split are in
-    let back = back_of body is.front is.back is.split are in
-    let inner = is.second in
-    let middle = front_of is.back inner.front inner.back inner.split back in
-    let last = back_of is.back inner.front inner.back inner.split back in
-    let pool : Pool = (unit.charset, unit.constants) in
-    let functions = functions_law inner.back (unit.names, unit.functions) last inner.second in
-    let pool_bytes : List ℕ = constants_spelling unit.charset unit.constants in
-    let pragma_bytes : List ℕ = counted pragma_spelling unit.pragmas in
-    let function_bytes : List ℕ = functions_spelling unit.names unit.functions in
-    record {
-      is = record {
-        front = pool_bytes;
-        back = pragma_bytes ++ function_bytes;
-        split = refl;
-        first = writes_constants.is is.front pool front is.first;
-        second = record {
-          front = pragma_bytes;
-          back = function_bytes;
-          split = refl;
-          first = writes_pragmas.is inner.front unit.pragmas middle inner.first;
-          second = functions.0;
-        };
-      };
-      written =
-          written_both body is.front is.back pool_bytes (pragma_bytes ++ function_bytes) is.split
-          (writes_constants.written is.front pool front is.first)
-          (written_both is.back inner.front inner.back pragma_bytes function_bytes inner.split
-          (writes_pragmas.written inner.front unit.pragmas middle inner.first) functions.1);
-      constants = writes_constants.fits is.front pool front is.first;
-      pragmas = writes_pragmas.fits inner.front unit.pragmas middle inner.first;
-      functions = functions.2;
-    }
+-- the parts of a unit in this character set
+writes_body : (charset : ℕ) → Writes
+    (λ bytes (body : Body). InTurn (λ pool. AreConstants pool charset body.0)
+    (InTurn (λ front. IsCounted IsPragma front body.1.0)
+    (λ back. AreFunctions back body.1.1.0 body.1.1.1)) bytes)
+    (λ body. constants_spelling charset body.0
+    ++ (counted pragma_spelling body.1.0 ++ functions_spelling body.1.1.0 body.1.1.1))
+    (λ body. FitsConstants body.0
+    × ((length body.1.0 < 2 ^ 32) × FitsFunctions body.1.1.0 body.1.1.1))
+writes_body charset =
+    writes_both (writes_pool charset)
+    (writes_both (writes_counted writes_pragma) writes_functions)
+
+-- the parts of this unit
+abbrev body_of : Unit → Body
+body_of unit = (unit.constants, (unit.pragmas, (unit.names, unit.functions)))
 
 -- what follows the head is bytes
 body_bytes : (bytes : List ℕ) (version : ℕ) (body : List ℕ) → AreBytes bytes
@@ -631,25 +340,28 @@ body_bytes bytes version body are head =
 
 -- each length of a unit that was read can be written
 pub unit_fits : (bytes : List ℕ) (unit : Unit) → IsUnit bytes unit → FitsUnit unit
+unfolding body_spelling
 unit_fits bytes unit is =
-    let law =
-    body_law is.body unit
-    (body_bytes bytes unit.version is.body is.bytes_are is.head).1 is.body_is in
+    let are = (body_bytes bytes unit.version is.body is.bytes_are is.head).1 in
+    let law = writes_body unit.charset in
+    let parts = law.fits is.body (body_of unit) are is.body_is in
     let fits : length is.body < 2 ^ 32 = is.head.size_is.fits in
-    let short = law.written.short in
+    let short : length (body_spelling unit) ≤ length is.body =
+    (law.written is.body (body_of unit) are is.body_is).short in
     record {
-      constants = law.constants;
-      pragmas = law.pragmas;
-      functions = law.functions;
+      constants = parts.0;
+      pragmas = parts.1.0;
+      functions = parts.1.1;
       body = omega arith;
     }
 
 -- what is written for a unit that was read is the unit
 pub unit_written : (bytes : List ℕ) (unit : Unit) → IsUnit bytes unit → IsUnit (spelling unit) unit
-unfolding spelling
+unfolding spelling body_spelling
 unit_written bytes unit is =
     let are = body_bytes bytes unit.version is.body is.bytes_are is.head in
-    let law = body_law is.body unit are.1 is.body_is in
+    let law = writes_body unit.charset in
+    let written = law.written is.body (body_of unit) are.1 is.body_is in
     let fits = (unit_fits bytes unit is).body in
     let size : List ℕ = mb_spelling (length (body_spelling unit)) in
     record {
@@ -658,7 +370,7 @@ unit_written bytes unit is =
         bytes_both size (body_spelling unit) (bytes_both
             (carried 4 (length (body_spelling unit) / 128)) (length (body_spelling unit) % 128
             ∷ []) (carried_bytes 4 (length (body_spelling unit) / 128)) (omega arith, tt))
-            law.written.are,
+            written.are,
       );
       body = body_spelling unit;
       head = record {
@@ -667,5 +379,5 @@ unit_written bytes unit is =
         low = is.head.low;
         size_is = (IsShortest-mb_spelling (length (body_spelling unit)) fits).spells;
       };
-      body_is = law.is;
+      body_is = law.is is.body (body_of unit) are.1 is.body_is;
     }

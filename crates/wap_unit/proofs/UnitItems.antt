@@ -1,11 +1,10 @@
 -- The parts of a unit are read as the relation has them, and refused as the refusal has them.
-use Rattle.std.proofs.Common.{◌≡◌, ℕ, ◌<◌, true, ltb, List, [], ◌∷◌, ◌++◌, length}
+use Rattle.std.proofs.Common.{◌≡◌, ℕ, ◌<◌, true, ltb, List, [], ◌∷◌, length}
 use Rattle.std.proofs.Common.{Option, Some, None, refl, sym, ap, subst, ◌∙◌, arith}
 use Rattle.std.specs.Str.{is_utf8, chars}
 use Rattle.std.specs.Int.{w8, w16, w32, cast_signed, from_be_bytes}
 use Rattle.std.proofs.lemmas.Bool.{ltb-true, lt-ltb}
 use Rattle.std.proofs.lemmas.Bool.Decides.{nat_tests}
-use Rattle.std.proofs.lemmas.List.{append-nil}
 use Rattle.wap_base.specs.Numbers.{IsMb}
 use Rattle.wap_base.proofs.Choices.{some_same}
 use Rattle.wap_base.specs.declared.charset.Charset.{Charset}
@@ -25,89 +24,52 @@ use Rattle.wap_unit.specs.declared.kind.PragmaKind.TheVariants as pragma
 use Rattle.wap_unit.specs.declared.kind.TheConstants.{INT8, INT16, INT32, FLOAT, UTF8, EMPTY, CODED}
 use Rattle.wap_unit.specs.declared.kind.TheConstants.{DOMAIN, PATH, PROPERTY, SCHEME}
 use Rattle.wap_unit.specs.Kinds.{constant_kind, pragma_kind}
-use Rattle.wap_unit.specs.Sequences.{InTurn, Then, IsByte, IsSized, Sized, IsRow, IsCounted}
-use Rattle.wap_unit.specs.Units.{IsUtf8Text, IsCodedText, IsConstant, AreConstants, IsPair}
+use Rattle.wap_base.specs.formats.Sequences.{InTurn, Then, IsByte, After, IsRow, Made}
+use Rattle.wap_unit.specs.Sequences.{IsSized, Sized, IsCounted}
+use Rattle.wap_unit.specs.Units.{IsUtf8Text, IsCodedText, IsBits, IsConstant, AreConstants, IsPair}
 use Rattle.wap_unit.specs.Units.{IsPragma, IsName, IsFunction, AreFunctions, IsBody}
-use Rattle.wap_unit.specs.Refusal.{
-  IsTaken,
-  RefusesSized,
-  RefusesText,
-  RefusesCoded,
-  RefusesValue,
-  RefusesConstant,
-  RefusesConstants,
-  RefusesPair,
-  RefusesIndexes,
-  RefusesPragma,
-  RefusesCounted,
-  RefusesNameText,
-  RefusesName,
-  RefusesFunction,
-  RefusesNamesAndFunctions,
-  RefusesFunctions,
-  RefusesBody,
-}
-use Rattle.wap_unit.specs.reading.UnitReading.{
-  sized_at,
-  utf8_text,
-  coded_text,
-  coded_at,
-  utf8_at,
-  value_at,
-  value_by,
-  constant_at,
-  constants_at,
-  pair_at,
-  indexes_at,
-  indexes_by,
-  pragma_at,
-  pragmas_at,
-  name_text_at,
-  name_at,
-  function_at,
-  named_functions_at,
-  functions_at,
-  body_at,
-}
-use Rattle.wap_unit.specs.reading.ByteReading.{in_turn, judged}
-use Rattle.wap_unit.proofs.Readers.{Reads, reads_byte, reads_taken, reads_number, reads_in_turn}
-use Rattle.wap_unit.proofs.Readers.{reads_given, reads_judged, reads_failing, reads_passing}
-use Rattle.wap_unit.proofs.Readers.{reads_told, reads_as, reads_here, reads_many}
+use Rattle.wap_unit.specs.Refusal.{IsTaken, LacksByte, LacksBytes, RefusesNumber, RefusesSized}
+use Rattle.wap_unit.specs.Refusal.{RefusesText, RefusesCoded, RefusesValue, RefusesConstant}
+use Rattle.wap_unit.specs.Refusal.{RefusesConstants, RefusesPair, RefusesIndexes, RefusesPragma}
+use Rattle.wap_unit.specs.Refusal.{RefusesCounted, RefusesNameText, RefusesName, RefusesFunction}
+use Rattle.wap_unit.specs.Refusal.{RefusesNamesAndFunctions, RefusesFunctions, RefusesBody}
+use Rattle.wap_unit.specs.reading.UnitReading.{sized_at, utf8_text, coded_text, coded_at, utf8_at}
+use Rattle.wap_unit.specs.reading.UnitReading.{value_at, value_by, constant_at, constants_at}
+use Rattle.wap_unit.specs.reading.UnitReading.{pair_at, indexes_at, indexes_by, pragma_at}
+use Rattle.wap_unit.specs.reading.UnitReading.{pragmas_at, name_text_at, name_at, function_at}
+use Rattle.wap_unit.specs.reading.UnitReading.{named_functions_at, functions_at, body_at}
+use Rattle.wap_unit.specs.reading.ByteReading.{byte_at, taken_at, number_at}
+use Rattle.wap_base.specs.formats.ByteReading.{in_turn, judged, made}
+use Rattle.wap_base.proofs.formats.Parts.{parts_of, headed, behind, alone, added}
+use Rattle.wap_base.proofs.formats.Readers.{Reads, reads_in_turn, reads_given, reads_judged, reads_made}
+use Rattle.wap_base.proofs.formats.Readers.{reads_failing, reads_unless, reads_as, reads_here}
+use Rattle.wap_base.proofs.formats.Readers.{reads_known}
+use Rattle.wap_base.proofs.formats.Steps
+use Rattle.wap_base.proofs.formats.Rows.{reads_row}
+use Rattle.wap_base.proofs.formats.KindBytes.{IsBy, reads_kind}
 
--- a prefix after which nothing stands is all
-whole : (Is : List ℕ → Type 0) (bytes front back : List ℕ) → bytes ≡ front ++ back → back ≡ []
-    → Is front → Is bytes
-whole Is bytes front back split none is =
-    subst Is (sym (split ∙ ap (λ (l : List ℕ). front ++ l) none ∙ append-nil front)) is
+-- ---- the steps, with a unit's faults
 
--- a prefix of one byte
-headed : (bytes front back : List ℕ) (byte : ℕ) → bytes ≡ front ++ back → front ≡ byte ∷ []
-    → bytes ≡ byte ∷ back
-headed bytes front back byte split one = split ∙ ap (λ (l : List ℕ). l ++ back) one
+-- one byte
+pub reads_byte : Reads byte_at IsByte LacksByte
+reads_byte = Steps.reads_byte fault.Short
 
--- ---- texts
+-- so many bytes
+reads_taken : (size : ℕ) → Reads (taken_at size) (IsTaken size) (LacksBytes size)
+reads_taken = Steps.reads_taken fault.Short
+
+-- one number
+pub reads_number : Reads number_at IsMb RefusesNumber
+reads_number = Steps.reads_number fault.Short fault.Number
 
 -- bytes after their number
 pub reads_sized : Reads sized_at IsSized RefusesSized
 unfolding sized_at
-reads_sized = reads_as (reads_in_turn reads_number reads_taken)
-    (λ bytes content is. record {
-      front = is.1.front;
-      back = is.1.back;
-      split = is.1.split;
-      first = subst (IsMb is.1.front) (sym is.1.second.1) is.1.first;
-      second = is.1.second.0;
-    })
-    (λ bytes content is. (
-      length content,
-      record {
-        front = is.front;
-        back = is.back;
-        split = is.split;
-        first = is.first;
-        second = (is.second, refl);
-      },
-    ))
+reads_sized =
+    reads_known reads_number reads_taken (λ content. length content)
+    (λ size l content is. (is.1, is.0)) (λ l content is. (is, refl))
+
+-- ---- texts
 
 -- a text in UTF-8
 reads_utf8 : (at : ℕ)
@@ -117,21 +79,10 @@ unfolding utf8_text
 reads_utf8 at =
     reads_as (reads_in_turn reads_sized
     (λ content. reads_judged (chars content) (is_utf8 content) (fault.Text at)))
-    (λ bytes text is. (
-      is.0,
-      whole (λ l. IsSized l is.0) bytes is.1.front is.1.back is.1.split is.1.second.1.0 is.1.first,
-      record { utf8 = is.1.second.0; characters = is.1.second.1.1 },
-    ))
-    (λ bytes text is. (
-      is.0,
-      record {
-        front = bytes;
-        back = [];
-        split = sym (append-nil bytes);
-        first = is.1;
-        second = (is.2.utf8, (refl, is.2.characters));
-      },
-    ))
+    (λ bytes text is.
+    let one = alone bytes is in
+    (one.0, one.1, record { utf8 = one.2.0; characters = one.2.1 }))
+    (λ bytes text is. added bytes (is.0, is.1, (is.2.utf8, is.2.characters)))
 
 -- bytes that are a text of the character set
 abbrev IsCoded : ℕ → List ℕ → List ℕ → Type 0
@@ -145,80 +96,72 @@ unfolding coded_text
 reads_text charset at set known =
     reads_as (reads_in_turn reads_sized
     (λ content. reads_judged content (is_text set content) (fault.Text at)))
-    (λ bytes text is. (
-      is.0,
-      whole (λ l. IsSized l is.0) bytes is.1.front is.1.back is.1.split is.1.second.1.0 is.1.first,
-      (sym is.1.second.1.1, record { set = set; known = known; fits = is.1.second.0 }),
-    ))
     (λ bytes text is.
-    let same : is.2.1.set ≡ set = some_same is.2.1.set set (sym is.2.1.known ∙ known) in (
+    let one = alone bytes is in
+    (one.0, one.1, (sym one.2.1, record { set = set; known = known; fits = one.2.0 })))
+    (λ bytes text is.
+    let same : is.2.1.set ≡ set = some_same is.2.1.set set (sym is.2.1.known ∙ known) in
+    added bytes (
       is.0,
-      record {
-        front = bytes;
-        back = [];
-        split = sym (append-nil bytes);
-        first = is.1;
-        second =
-            (subst (λ (s : Charset). is_text s is.0 ≡ true) same is.2.1.fits, (refl, sym is.2.0));
-      },
+      is.1,
+      (subst (λ (s : Charset). is_text s is.0 ≡ true) same is.2.1.fits, sym is.2.0),
     ))
 
 -- ---- constants
 
 -- a string of any character set
 reads_coded : (charset at : ℕ) (set : Option Charset) → charset_of charset ≡ set
-    → Reads (coded_at at set) (λ bytes c.
-    (text : List ℕ) × IsCoded charset bytes text × (c ≡ Coded text)) (RefusesCoded at set)
+    → Reads (coded_at at set) (Made Coded (IsCoded charset)) (RefusesCoded at set)
 unfolding coded_at
 reads_coded charset at None known =
     reads_as (reads_failing (fault.Charset at)) (λ bytes c is. absurd is)
     (λ bytes c is. absurd (cc (sym is.1.2.1.known ∙ known)))
-reads_coded charset at (Some set) known = reads_told (reads_text charset at set known) Coded
+reads_coded charset at (Some set) known = reads_made (reads_text charset at set known) Coded
+
+-- so many bytes, of which a value is made
+reads_bits : {N : Type 0} (size : ℕ) (of : List ℕ → N) (make : N → Constant)
+    → Reads (made (λ value. make (of value)) (taken_at size))
+    (Made make (λ bytes n. IsBits size (λ value. n ≡ of value) bytes)) (LacksBytes size)
+reads_bits size of make =
+    reads_as (reads_made (reads_taken size) (λ value. make (of value)))
+    (λ bytes c is. (
+      of is.0,
+      (ap (λ (l : List ℕ). length l) is.1.0 ∙ is.1.1, ap of (sym is.1.0)),
+      is.2,
+    ))
+    (λ bytes c is. (bytes, (refl, is.1.0), is.2 ∙ ap make is.1.1))
 
 -- what follows the first byte of a constant
 abbrev IsValue : ℕ → ConstantKind → List ℕ → Constant → Type 0
-IsValue charset constant.Int8 bytes c =
-    (value : List ℕ) × IsTaken 1 bytes value × (c ≡ Int8 (cast_signed w8 (from_be_bytes w8 value)))
-IsValue charset constant.Int16 bytes c =
-    (value : List ℕ) × IsTaken 2 bytes value
-    × (c ≡ Int16 (cast_signed w16 (from_be_bytes w16 value)))
-IsValue charset constant.Int32 bytes c =
-    (value : List ℕ) × IsTaken 4 bytes value
-    × (c ≡ Int32 (cast_signed w32 (from_be_bytes w32 value)))
-IsValue charset constant.Float bytes c =
-    (value : List ℕ) × IsTaken 4 bytes value × (c ≡ Float (from_be_bytes w32 value))
-IsValue charset constant.Utf8 bytes c =
-    (text : List ℕ) × Sized (λ content. IsUtf8Text content text) bytes × (c ≡ Utf8 text)
-IsValue charset constant.Empty bytes c = (bytes ≡ []) × (c ≡ Empty)
-IsValue charset constant.Coded bytes c =
-    (text : List ℕ) × IsCoded charset bytes text × (c ≡ Coded text)
-
--- what follows the byte of a kind
-reads_value : (charset at : ℕ) (kind : ConstantKind) → Reads (value_at (charset_of charset) at kind)
-    (IsValue charset kind) (RefusesValue charset at (Some kind))
-unfolding value_at utf8_at
-reads_value charset at constant.Int8 =
-    reads_told (reads_taken 1) (λ value. Int8 (cast_signed w8 (from_be_bytes w8 value)))
-reads_value charset at constant.Int16 =
-    reads_told (reads_taken 2) (λ value. Int16 (cast_signed w16 (from_be_bytes w16 value)))
-reads_value charset at constant.Int32 =
-    reads_told (reads_taken 4) (λ value. Int32 (cast_signed w32 (from_be_bytes w32 value)))
-reads_value charset at constant.Float =
-    reads_told (reads_taken 4) (λ value. Float (from_be_bytes w32 value))
-reads_value charset at constant.Utf8 = reads_told (reads_utf8 at) Utf8
-reads_value charset at constant.Empty = reads_given Empty
-reads_value charset at constant.Coded = reads_coded charset at (charset_of charset) refl
-
--- what follows a first byte, where that is of a kind
-abbrev IsValueBy : ℕ → Option ConstantKind → List ℕ → Constant → Type 0
-IsValueBy charset None bytes c = ⊥
-IsValueBy charset (Some kind) bytes c = IsValue charset kind bytes c
+IsValue charset constant.Int8 =
+    Made Int8 (λ bytes n. IsBits 1 (λ value. n ≡ cast_signed w8 (from_be_bytes w8 value)) bytes)
+IsValue charset constant.Int16 =
+    Made Int16 (λ bytes n. IsBits 2 (λ value. n ≡ cast_signed w16 (from_be_bytes w16 value)) bytes)
+IsValue charset constant.Int32 =
+    Made Int32 (λ bytes n. IsBits 4 (λ value. n ≡ cast_signed w32 (from_be_bytes w32 value)) bytes)
+IsValue charset constant.Float =
+    Made Float (λ bytes n. IsBits 4 (λ value. n ≡ from_be_bytes w32 value) bytes)
+IsValue charset constant.Utf8 =
+    Made Utf8 (λ bytes text. Sized (λ content. IsUtf8Text content text) bytes)
+IsValue charset constant.Empty = λ bytes c. (bytes ≡ []) × (c ≡ Empty)
+IsValue charset constant.Coded = Made Coded (IsCoded charset)
 
 -- what follows any first byte
-reads_value_by : (charset at : ℕ) (kind : Option ConstantKind) → Reads
-    (value_by (charset_of charset) at kind) (IsValueBy charset kind) (RefusesValue charset at kind)
-reads_value_by charset at None = reads_failing (fault.ConstantKind at)
-reads_value_by charset at (Some kind) = reads_value charset at kind
+reads_value : (charset at : ℕ) (kind : Option ConstantKind)
+    → Reads (value_by (charset_of charset) at kind) (IsBy (IsValue charset) kind)
+    (RefusesValue charset at kind)
+unfolding value_at utf8_at
+reads_value charset at None = reads_failing (fault.ConstantKind at)
+reads_value charset at (Some constant.Int8) =
+    reads_bits 1 (λ value. cast_signed w8 (from_be_bytes w8 value)) Int8
+reads_value charset at (Some constant.Int16) =
+    reads_bits 2 (λ value. cast_signed w16 (from_be_bytes w16 value)) Int16
+reads_value charset at (Some constant.Int32) =
+    reads_bits 4 (λ value. cast_signed w32 (from_be_bytes w32 value)) Int32
+reads_value charset at (Some constant.Float) = reads_bits 4 (from_be_bytes w32) Float
+reads_value charset at (Some constant.Utf8) = reads_made (reads_utf8 at) Utf8
+reads_value charset at (Some constant.Empty) = reads_given Empty
+reads_value charset at (Some constant.Coded) = reads_coded charset at (charset_of charset) refl
 
 -- the byte of a kind of constants
 abbrev constant_code : ConstantKind → ℕ
@@ -241,137 +184,82 @@ code-constant_kind byte constant.Utf8 e = grind (arith, nat_tests)
 code-constant_kind byte constant.Empty e = grind (arith, nat_tests)
 code-constant_kind byte constant.Coded e = grind (arith, nat_tests)
 
--- a byte and the value after it are a constant
-valued : (charset : ℕ) (bytes back : List ℕ) (kind : ConstantKind) (c : Constant)
-    → bytes ≡ constant_code kind ∷ back → IsValue charset kind back c → IsConstant charset bytes c
-valued charset bytes back constant.Int8 c spelled is =
-    subst (IsConstant charset bytes) (sym is.2) (
-      back,
-      spelled,
-      (
-        ap (λ (l : List ℕ). length l) is.1.0 ∙ is.1.1,
-        ap (λ (l : List ℕ). cast_signed w8 (from_be_bytes w8 l)) (sym is.1.0),
-      ),
-    )
-valued charset bytes back constant.Int16 c spelled is =
-    subst (IsConstant charset bytes) (sym is.2) (
-      back,
-      spelled,
-      (
-        ap (λ (l : List ℕ). length l) is.1.0 ∙ is.1.1,
-        ap (λ (l : List ℕ). cast_signed w16 (from_be_bytes w16 l)) (sym is.1.0),
-      ),
-    )
-valued charset bytes back constant.Int32 c spelled is =
-    subst (IsConstant charset bytes) (sym is.2) (
-      back,
-      spelled,
-      (
-        ap (λ (l : List ℕ). length l) is.1.0 ∙ is.1.1,
-        ap (λ (l : List ℕ). cast_signed w32 (from_be_bytes w32 l)) (sym is.1.0),
-      ),
-    )
-valued charset bytes back constant.Float c spelled is =
-    subst (IsConstant charset bytes) (sym is.2) (
-      back,
-      spelled,
-      (ap (λ (l : List ℕ). length l) is.1.0 ∙ is.1.1, ap (from_be_bytes w32) (sym is.1.0)),
-    )
-valued charset bytes back constant.Utf8 c spelled is =
-    subst (IsConstant charset bytes) (sym is.2) (back, spelled, is.1)
-valued charset bytes back constant.Empty c spelled is =
-    subst (IsConstant charset bytes) (sym is.1) (spelled ∙ ap (λ (l : List ℕ). EMPTY ∷ l) is.0)
-valued charset bytes back constant.Coded c spelled is =
-    subst (IsConstant charset bytes) (sym is.2) (back, spelled, is.1)
+-- and the byte its kind
+constant_kind-code : (kind : ConstantKind) → constant_kind (constant_code kind) ≡ Some kind
+constant_kind-code constant.Int8 = refl
+constant_kind-code constant.Int16 = refl
+constant_kind-code constant.Int32 = refl
+constant_kind-code constant.Float = refl
+constant_kind-code constant.Utf8 = refl
+constant_kind-code constant.Empty = refl
+constant_kind-code constant.Coded = refl
 
--- so are a byte of a known kind and its value
-by_constant_kind : (charset : ℕ) (bytes back : List ℕ) (byte : ℕ) (kind : Option ConstantKind)
-    (c : Constant) → constant_kind byte ≡ kind → bytes ≡ byte ∷ back → IsValueBy charset kind back c
+-- a byte of a kind, and a value after it
+abbrev IsOfKind : ℕ → List ℕ → Constant → Type 0
+IsOfKind charset bytes c =
+    (kind : ConstantKind) × After (constant_code kind) (λ l. IsValue charset kind l c) bytes
+
+-- are a constant
+valued : (charset : ℕ) (bytes : List ℕ) (c : Constant) → IsOfKind charset bytes c
     → IsConstant charset bytes c
-by_constant_kind charset bytes back byte None c known spelled is = absurd is
-by_constant_kind charset bytes back byte (Some kind) c known spelled is =
-    valued charset bytes back kind c
-    (spelled ∙ ap (λ (b : ℕ). b ∷ back) (code-constant_kind byte kind known)) is
+valued charset bytes c (constant.Int8, (back, spelled, (n, is, same))) =
+    subst (IsConstant charset bytes) (sym same) (back, spelled, is)
+valued charset bytes c (constant.Int16, (back, spelled, (n, is, same))) =
+    subst (IsConstant charset bytes) (sym same) (back, spelled, is)
+valued charset bytes c (constant.Int32, (back, spelled, (n, is, same))) =
+    subst (IsConstant charset bytes) (sym same) (back, spelled, is)
+valued charset bytes c (constant.Float, (back, spelled, (n, is, same))) =
+    subst (IsConstant charset bytes) (sym same) (back, spelled, is)
+valued charset bytes c (constant.Utf8, (back, spelled, (text, is, same))) =
+    subst (IsConstant charset bytes) (sym same) (back, spelled, is)
+valued charset bytes c (constant.Empty, (back, spelled, (none, same))) =
+    subst (IsConstant charset bytes) (sym same) (spelled ∙ ap (λ (l : List ℕ). EMPTY ∷ l) none)
+valued charset bytes c (constant.Coded, (back, spelled, (text, is, same))) =
+    subst (IsConstant charset bytes) (sym same) (back, spelled, is)
 
--- a first byte and the value after it
-begun : (charset : ℕ) (bytes back : List ℕ) (byte : ℕ) (c : Constant) → bytes ≡ byte ∷ back
-    → IsValueBy charset (constant_kind byte) back c
-    → Then IsByte (λ byte l. IsValueBy charset (constant_kind byte) l c) bytes
-begun charset bytes back byte c spelled is =
-    (byte, record { front = byte ∷ []; back = back; split = spelled; first = refl; second = is })
-
--- a constant begins with the byte of its kind
-constant_begun : (charset : ℕ) (bytes : List ℕ) (c : Constant) → IsConstant charset bytes c
-    → Then IsByte (λ byte l. IsValueBy charset (constant_kind byte) l c) bytes
-constant_begun charset bytes (Int8 number) is =
-    begun charset bytes is.0 INT8 (Int8 number) is.1 (is.0, (refl, is.2.0), ap Int8 is.2.1)
-constant_begun charset bytes (Int16 number) is =
-    begun charset bytes is.0 INT16 (Int16 number) is.1 (is.0, (refl, is.2.0), ap Int16 is.2.1)
-constant_begun charset bytes (Int32 number) is =
-    begun charset bytes is.0 INT32 (Int32 number) is.1 (is.0, (refl, is.2.0), ap Int32 is.2.1)
-constant_begun charset bytes (Float number) is =
-    begun charset bytes is.0 FLOAT (Float number) is.1 (is.0, (refl, is.2.0), ap Float is.2.1)
-constant_begun charset bytes (Utf8 text) is =
-    begun charset bytes is.0 UTF8 (Utf8 text) is.1 (text, is.2, refl)
-constant_begun charset bytes Empty is = begun charset bytes [] EMPTY Empty is (refl, refl)
-constant_begun charset bytes (Coded text) is =
-    begun charset bytes is.0 CODED (Coded text) is.1 (text, is.2, refl)
+-- each constant is so
+begun : (charset : ℕ) (bytes : List ℕ) (c : Constant) → IsConstant charset bytes c
+    → IsOfKind charset bytes c
+begun charset bytes (Int8 n) (back, spelled, is) =
+    (constant.Int8, (back, spelled, (n, is, refl)))
+begun charset bytes (Int16 n) (back, spelled, is) =
+    (constant.Int16, (back, spelled, (n, is, refl)))
+begun charset bytes (Int32 n) (back, spelled, is) =
+    (constant.Int32, (back, spelled, (n, is, refl)))
+begun charset bytes (Float n) (back, spelled, is) =
+    (constant.Float, (back, spelled, (n, is, refl)))
+begun charset bytes (Utf8 text) (back, spelled, is) =
+    (constant.Utf8, (back, spelled, (text, is, refl)))
+begun charset bytes Empty is = (constant.Empty, ([], is, (refl, refl)))
+begun charset bytes (Coded text) (back, spelled, is) =
+    (constant.Coded, (back, spelled, (text, is, refl)))
 
 -- one constant
 reads_constant : (charset : ℕ)
     → Reads (constant_at (charset_of charset)) (IsConstant charset) (RefusesConstant charset)
 unfolding constant_at
 reads_constant charset =
-    reads_as (reads_here (λ at.
-    reads_in_turn reads_byte (λ byte. reads_value_by charset at (constant_kind byte))))
-    (λ bytes c is.
-    by_constant_kind charset bytes is.1.back is.0 (constant_kind is.0) c refl
-    (headed bytes is.1.front is.1.back is.0 is.1.split is.1.first) is.1.second)
-    (constant_begun charset)
+    reads_as (reads_kind (IsValue charset) constant_kind constant_code code-constant_kind
+    constant_kind-code fault.Short (reads_value charset)) (valued charset) (begun charset)
+
+-- so many constants of a pool
+abbrev IsPool : ℕ → List ℕ → ℕ × List Constant → Type 0
+IsPool count l pool = IsRow (IsConstant pool.0) l pool.1 × (length pool.1 ≡ count)
 
 -- the pool of constants
 pub reads_constants :
     Reads constants_at (λ bytes pool. AreConstants bytes pool.0 pool.1) RefusesConstants
 unfolding constants_at
 reads_constants =
-    reads_as (reads_in_turn reads_number (λ count.
-    reads_in_turn reads_number (λ charset.
-    reads_told (reads_many (reads_constant charset) count) (λ constants. (charset, constants)))))
-    (λ bytes pool is.
-    let row = is.1.second.1.second in
-    let set : ℕ = is.1.second.0 in
-    subst (λ (p : ℕ × List Constant). AreConstants bytes p.0 p.1) (sym row.2) (record {
-      front = is.1.front;
-      back = is.1.back;
-      split = is.1.split;
-      first = subst (IsMb is.1.front) (sym row.1.1) is.1.first;
-      second = record {
-        front = is.1.second.1.front;
-        back = is.1.second.1.back;
-        split = is.1.second.1.split;
-        first = is.1.second.1.first;
-        second = row.1.0;
-      };
-    }))
-    (λ bytes pool is. (
-      length pool.1,
-      record {
-        front = is.front;
-        back = is.back;
-        split = is.split;
-        first = is.first;
-        second = (
-          pool.0,
-          record {
-            front = is.second.front;
-            back = is.second.back;
-            split = is.second.split;
-            first = is.second.first;
-            second = (pool.1, (is.second.second, refl), refl);
-          },
-        );
-      },
-    ))
+    reads_known reads_number (λ count.
+    reads_known reads_number (λ charset.
+    reads_made (reads_row (reads_constant charset) count) (λ constants. (charset, constants)))
+    (λ pool. pool.0) (λ charset l pool is.
+    subst (λ (p : ℕ × List Constant). (p.0 ≡ charset) × IsPool count l p) (sym is.2) (refl, is.1))
+    (λ l pool is. (pool.1, is, refl)))
+    (λ pool. length pool.1)
+    (λ count l pool is. (is.second.1, parts_of is is.first is.second.0))
+    (λ l pool is. parts_of is is.first (is.second, refl))
 
 -- ---- pragmas
 
@@ -379,55 +267,31 @@ reads_constants =
 reads_pair : Reads pair_at (λ bytes pair. IsPair bytes pair.0 pair.1) RefusesPair
 unfolding pair_at
 reads_pair =
-    reads_as (reads_in_turn reads_number (λ one. reads_told reads_number (λ two. (one, two))))
-    (λ bytes pair is. subst (λ (p : ℕ × ℕ). IsPair bytes p.0 p.1) (sym is.1.second.2) (record {
-      front = is.1.front;
-      back = is.1.back;
-      split = is.1.split;
-      first = is.1.first;
-      second = is.1.second.1;
-    }))
-    (λ bytes pair is. (
-      pair.0,
-      record {
-        front = is.front;
-        back = is.back;
-        split = is.split;
-        first = is.first;
-        second = (pair.1, is.second, refl);
-      },
-    ))
+    reads_known reads_number (λ one. reads_made reads_number (λ two. (one, two))) (λ pair. pair.0)
+    (λ one l pair is.
+    subst (λ (p : ℕ × ℕ). (p.0 ≡ one) × IsMb l p.1) (sym is.2) (refl, is.1))
+    (λ l pair is. (pair.1, is, refl))
 
 -- what follows the first byte of a pragma
 abbrev IsIndexes : PragmaKind → List ℕ → Pragma → Type 0
-IsIndexes pragma.Domain bytes p = (text : ℕ) × IsMb bytes text × (p ≡ Domain text)
-IsIndexes pragma.Path bytes p = (text : ℕ) × IsMb bytes text × (p ≡ Path text)
-IsIndexes pragma.Property bytes p =
-    (pair : ℕ × ℕ) × IsPair bytes pair.0 pair.1 × (p ≡ Property pair.0 pair.1)
-IsIndexes pragma.Scheme bytes p =
-    Then IsMb
-    (λ name l. (pair : ℕ × ℕ) × IsPair l pair.0 pair.1 × (p ≡ Scheme name pair.0 pair.1)) bytes
-
--- the indexes of a pragma of a kind
-reads_indexes : (at : ℕ) (kind : PragmaKind)
-    → Reads (indexes_at kind) (IsIndexes kind) (RefusesIndexes at (Some kind))
-unfolding indexes_at
-reads_indexes at pragma.Domain = reads_told reads_number Domain
-reads_indexes at pragma.Path = reads_told reads_number Path
-reads_indexes at pragma.Property = reads_told reads_pair (λ pair. Property pair.0 pair.1)
-reads_indexes at pragma.Scheme =
-    reads_in_turn reads_number (λ name. reads_told reads_pair (λ pair. Scheme name pair.0 pair.1))
-
--- the indexes after a first byte, where that is of a kind
-abbrev IsIndexesBy : Option PragmaKind → List ℕ → Pragma → Type 0
-IsIndexesBy None bytes p = ⊥
-IsIndexesBy (Some kind) bytes p = IsIndexes kind bytes p
+IsIndexes pragma.Domain = Made Domain IsMb
+IsIndexes pragma.Path = Made Path IsMb
+IsIndexes pragma.Property =
+    Made (λ pair. Property pair.0 pair.1) (λ bytes (pair : ℕ × ℕ). IsPair bytes pair.0 pair.1)
+IsIndexes pragma.Scheme = λ bytes p.
+    Then IsMb (λ name l. Made (λ pair. Scheme name pair.0 pair.1)
+    (λ back (pair : ℕ × ℕ). IsPair back pair.0 pair.1) l p) bytes
 
 -- what follows any first byte
-reads_indexes_by : (at : ℕ) (kind : Option PragmaKind)
-    → Reads (indexes_by at kind) (IsIndexesBy kind) (RefusesIndexes at kind)
-reads_indexes_by at None = reads_failing (fault.PragmaKind at)
-reads_indexes_by at (Some kind) = reads_indexes at kind
+reads_indexes : (at : ℕ) (kind : Option PragmaKind)
+    → Reads (indexes_by at kind) (IsBy IsIndexes kind) (RefusesIndexes at kind)
+unfolding indexes_at
+reads_indexes at None = reads_failing (fault.PragmaKind at)
+reads_indexes at (Some pragma.Domain) = reads_made reads_number Domain
+reads_indexes at (Some pragma.Path) = reads_made reads_number Path
+reads_indexes at (Some pragma.Property) = reads_made reads_pair (λ pair. Property pair.0 pair.1)
+reads_indexes at (Some pragma.Scheme) =
+    reads_in_turn reads_number (λ name. reads_made reads_pair (λ pair. Scheme name pair.0 pair.1))
 
 -- the byte of a kind of pragmas
 abbrev pragma_code : PragmaKind → ℕ
@@ -444,95 +308,52 @@ code-pragma_kind byte pragma.Path e = grind (arith, nat_tests)
 code-pragma_kind byte pragma.Property e = grind (arith, nat_tests)
 code-pragma_kind byte pragma.Scheme e = grind (arith, nat_tests)
 
--- a byte and the indexes after it are a pragma
-indexed : (bytes back : List ℕ) (kind : PragmaKind) (p : Pragma) → bytes ≡ pragma_code kind ∷ back
-    → IsIndexes kind back p → IsPragma bytes p
-indexed bytes back pragma.Domain p spelled is =
-    subst (IsPragma bytes) (sym is.2) (back, spelled, is.1)
-indexed bytes back pragma.Path p spelled is =
-    subst (IsPragma bytes) (sym is.2) (back, spelled, is.1)
-indexed bytes back pragma.Property p spelled is =
-    subst (IsPragma bytes) (sym is.2) (back, spelled, is.1)
-indexed bytes back pragma.Scheme p spelled is =
-    subst (IsPragma bytes) (sym is.1.second.2) (
-      back,
-      spelled,
-      record {
-        front = is.1.front;
-        back = is.1.back;
-        split = is.1.split;
-        first = is.1.first;
-        second = is.1.second.1;
-      },
-    )
+-- and the byte its kind
+pragma_kind-code : (kind : PragmaKind) → pragma_kind (pragma_code kind) ≡ Some kind
+pragma_kind-code pragma.Domain = refl
+pragma_kind-code pragma.Path = refl
+pragma_kind-code pragma.Property = refl
+pragma_kind-code pragma.Scheme = refl
 
--- so are a byte of a known kind and its indexes
-by_pragma_kind : (bytes back : List ℕ) (byte : ℕ) (kind : Option PragmaKind) (p : Pragma)
-    → pragma_kind byte ≡ kind → bytes ≡ byte ∷ back → IsIndexesBy kind back p → IsPragma bytes p
-by_pragma_kind bytes back byte None p known spelled is = absurd is
-by_pragma_kind bytes back byte (Some kind) p known spelled is =
-    indexed bytes back kind p
-    (spelled ∙ ap (λ (b : ℕ). b ∷ back) (code-pragma_kind byte kind known)) is
+-- a byte of a kind, and indexes after it
+abbrev IsIndexed : List ℕ → Pragma → Type 0
+IsIndexed bytes p = (kind : PragmaKind) × After (pragma_code kind) (λ l. IsIndexes kind l p) bytes
 
--- a first byte and the indexes after it
-led : (bytes back : List ℕ) (byte : ℕ) (p : Pragma) → bytes ≡ byte ∷ back
-    → IsIndexesBy (pragma_kind byte) back p
-    → Then IsByte (λ byte l. IsIndexesBy (pragma_kind byte) l p) bytes
-led bytes back byte p spelled is =
-    (byte, record { front = byte ∷ []; back = back; split = spelled; first = refl; second = is })
+-- are a pragma
+indexed : (bytes : List ℕ) (p : Pragma) → IsIndexed bytes p → IsPragma bytes p
+indexed bytes p (pragma.Domain, (back, spelled, (text, is, same))) =
+    subst (IsPragma bytes) (sym same) (back, spelled, is)
+indexed bytes p (pragma.Path, (back, spelled, (text, is, same))) =
+    subst (IsPragma bytes) (sym same) (back, spelled, is)
+indexed bytes p (pragma.Property, (back, spelled, (pair, is, same))) =
+    subst (IsPragma bytes) (sym same) (back, spelled, is)
+indexed bytes p (pragma.Scheme, (back, spelled, (name, is))) =
+    subst (IsPragma bytes) (sym is.second.2) (back, spelled, parts_of is is.first is.second.1)
 
--- a pragma begins with the byte of its kind
-pragma_begun : (bytes : List ℕ) (p : Pragma) → IsPragma bytes p
-    → Then IsByte (λ byte l. IsIndexesBy (pragma_kind byte) l p) bytes
-pragma_begun bytes (Domain text) is = led bytes is.0 DOMAIN (Domain text) is.1 (text, is.2, refl)
-pragma_begun bytes (Path text) is = led bytes is.0 PATH (Path text) is.1 (text, is.2, refl)
-pragma_begun bytes (Property name content) is =
-    led bytes is.0 PROPERTY (Property name content) is.1 ((name, content), is.2, refl)
-pragma_begun bytes (Scheme name content scheme) is =
-    let rest = is.2 in
-    led bytes is.0 SCHEME (Scheme name content scheme) is.1 (
-      name,
-      record {
-        front = rest.front;
-        back = rest.back;
-        split = rest.split;
-        first = rest.first;
-        second = ((content, scheme), rest.second, refl);
-      },
-    )
+-- each pragma is so
+led : (bytes : List ℕ) (p : Pragma) → IsPragma bytes p → IsIndexed bytes p
+led bytes (Domain text) (back, spelled, is) = (pragma.Domain, (back, spelled, (text, is, refl)))
+led bytes (Path text) (back, spelled, is) = (pragma.Path, (back, spelled, (text, is, refl)))
+led bytes (Property name content) (back, spelled, is) =
+    (pragma.Property, (back, spelled, ((name, content), is, refl)))
+led bytes (Scheme name content scheme) (back, spelled, is) = (
+  pragma.Scheme,
+  (back, spelled, (name, parts_of is is.first ((content, scheme), is.second, refl))),
+)
 
 -- one pragma
 reads_pragma : Reads pragma_at IsPragma RefusesPragma
 unfolding pragma_at
 reads_pragma =
-    reads_as
-    (reads_here (λ at. reads_in_turn reads_byte (λ byte. reads_indexes_by at (pragma_kind byte))))
-    (λ bytes p is.
-    by_pragma_kind bytes is.1.back is.0 (pragma_kind is.0) p refl
-    (headed bytes is.1.front is.1.back is.0 is.1.split is.1.first) is.1.second)
-    pragma_begun
+    reads_as (reads_kind IsIndexes pragma_kind pragma_code code-pragma_kind pragma_kind-code
+    fault.Short reads_indexes) indexed led
 
 -- the pragmas
 pub reads_pragmas : Reads pragmas_at (IsCounted IsPragma) (RefusesCounted IsPragma RefusesPragma)
 unfolding pragmas_at
-reads_pragmas = reads_as (reads_in_turn reads_number (λ count. reads_many reads_pragma count))
-    (λ bytes ps is. record {
-      front = is.1.front;
-      back = is.1.back;
-      split = is.1.split;
-      first = subst (IsMb is.1.front) (sym is.1.second.1) is.1.first;
-      second = is.1.second.0;
-    })
-    (λ bytes ps is. (
-      length ps,
-      record {
-        front = is.front;
-        back = is.back;
-        split = is.split;
-        first = is.first;
-        second = (is.second, refl);
-      },
-    ))
+reads_pragmas =
+    reads_known reads_number (reads_row reads_pragma) (λ ps. length ps)
+    (λ count l ps is. (is.1, is.0)) (λ l ps is. (is, refl))
 
 -- ---- functions
 
@@ -549,35 +370,15 @@ reads_name_text at =
     reads_in_turn (reads_taken size) (λ content.
     reads_judged (chars content) (is_utf8 content) (fault.Text at))))
     (λ bytes text is.
-    let size : ℕ = is.0 in
-    let inner = is.1.second in
-    let content : List ℕ = inner.0 in
-    let all =
-    whole (λ l. IsTaken size l content)
-    is.1.back inner.1.front inner.1.back inner.1.split inner.1.second.1.0 inner.1.first in (
-      content,
-      headed bytes is.1.front is.1.back size is.1.split is.1.first
-          ∙ ap (λ (l : List ℕ). size ∷ l) all.0 ∙ ap (λ (n : ℕ). n ∷ content) (sym all.1),
-      record { utf8 = inner.1.second.0; characters = inner.1.second.1.1 },
+    let first = headed is.1 in
+    let one = alone first.0 first.2 in (
+      one.0,
+      first.1 ∙ ap (λ (l : List ℕ). is.0 ∷ l) one.1.0 ∙ ap (λ (n : ℕ). n ∷ one.0) (sym one.1.1),
+      record { utf8 = one.2.0; characters = one.2.1 },
     ))
     (λ bytes text is. (
       length is.0,
-      record {
-        front = length is.0 ∷ [];
-        back = is.0;
-        split = is.1;
-        first = refl;
-        second = (
-          is.0,
-          record {
-            front = is.0;
-            back = [];
-            split = sym (append-nil is.0);
-            first = (refl, refl);
-            second = (is.2.utf8, (refl, is.2.characters));
-          },
-        );
-      },
+      behind (is.0, is.1, added is.0 (is.0, (refl, refl), (is.2.utf8, is.2.characters))),
     ))
 
 -- the name of one of so many functions
@@ -586,28 +387,24 @@ unfolding name_at
 reads_name count =
     reads_as (reads_here (λ at.
     reads_in_turn reads_byte (λ index.
-    reads_passing (reads_told (reads_name_text at) (λ text. (index, text))) (ltb index count)
+    reads_unless (reads_made (reads_name_text at) (λ text. (index, text))) (ltb index count)
     (fault.NameIndex at))))
     (λ bytes name is.
-    let index : ℕ = is.0 in
-    let inner = is.1.second.1 in
+    let first = headed is.1 in
+    let inner = first.2.1 in
     subst (IsName count bytes) (sym inner.2) (record {
       content = inner.1.0;
-      spelled =
-          headed bytes is.1.front is.1.back index is.1.split is.1.first
-          ∙ ap (λ (l : List ℕ). index ∷ l) inner.1.1;
-      within = ltb-true index count is.1.second.0;
+      spelled = first.1 ∙ ap (λ (l : List ℕ). is.0 ∷ l) inner.1.1;
+      within = ltb-true is.0 count first.2.0;
       text = inner.1.2;
     }))
     (λ bytes name is. (
       name.0,
-      record {
-        front = name.0 ∷ [];
-        back = length is.content ∷ is.content;
-        split = is.spelled;
-        first = refl;
-        second = (lt-ltb name.0 count is.within, (name.1, (is.content, refl, is.text), refl));
-      },
+      behind (
+        length is.content ∷ is.content,
+        is.spelled,
+        (lt-ltb name.0 count is.within, (name.1, (is.content, refl, is.text), refl)),
+      ),
     ))
 
 -- one function
@@ -616,38 +413,22 @@ unfolding function_at
 reads_function =
     reads_as (reads_in_turn reads_byte (λ args.
     reads_in_turn reads_byte (λ locals.
-    reads_told reads_sized (λ code. record { args = args; locals = locals; code = code }))))
+    reads_made reads_sized (λ code. record { args = args; locals = locals; code = code }))))
     (λ bytes f is.
-    let args : ℕ = is.0 in
-    let inner = is.1.second in
-    let locals : ℕ = inner.0 in
-    let last = inner.1.second in
-    subst (IsFunction bytes) (sym last.2) (record {
-      rest = inner.1.back;
-      spelled =
-          headed bytes is.1.front is.1.back args is.1.split is.1.first
-          ∙ ap (λ (l : List ℕ). args ∷ l)
-          (headed is.1.back inner.1.front inner.1.back locals inner.1.split inner.1.first);
-      code = last.1;
+    let first = headed is.1 in
+    let second = headed first.2.1 in
+    subst (IsFunction bytes) (sym second.2.2) (record {
+      rest = second.0;
+      spelled = first.1 ∙ ap (λ (l : List ℕ). is.0 ∷ l) second.1;
+      code = second.2.1;
     }))
     (λ bytes f is. (
       f.args,
-      record {
-        front = f.args ∷ [];
-        back = f.locals ∷ is.rest;
-        split = is.spelled;
-        first = refl;
-        second = (
-          f.locals,
-          record {
-            front = f.locals ∷ [];
-            back = is.rest;
-            split = refl;
-            first = refl;
-            second = (f.code, is.code, refl);
-          },
-        );
-      },
+      behind (
+        f.locals ∷ is.rest,
+        is.spelled,
+        (f.locals, behind (is.rest, refl, (f.code, is.code, refl))),
+      ),
     ))
 
 -- names and functions
@@ -668,44 +449,29 @@ reads_named_functions : (count : ℕ)
 unfolding named_functions_at
 reads_named_functions count =
     reads_as (reads_in_turn reads_byte (λ names.
-    reads_in_turn (reads_many (reads_name count) names) (λ row.
-    reads_told (reads_many reads_function count) (λ functions. (row, functions)))))
+    reads_in_turn (reads_row (reads_name count) names) (λ row.
+    reads_made (reads_row reads_function count) (λ functions. (row, functions)))))
     (λ bytes found is.
-    let names : ℕ = is.0 in
-    let inner = is.1.second in
-    let last = inner.1.second in
+    let first = headed is.1 in
+    let inner = first.2.1 in
+    let last = inner.second in
     subst (AreNamed count bytes) (sym last.2) (record {
-      rows = is.1.back;
-      spelled =
-          headed bytes is.1.front is.1.back names is.1.split is.1.first
-          ∙ ap (λ (n : ℕ). n ∷ is.1.back) (sym inner.1.first.1);
-      each = record {
-        front = inner.1.front;
-        back = inner.1.back;
-        split = inner.1.split;
-        first = inner.1.first.0;
-        second = last.1.0;
-      };
+      rows = first.0;
+      spelled = first.1 ∙ ap (λ (n : ℕ). n ∷ first.0) (sym inner.first.1);
+      each = parts_of inner inner.first.0 last.1.0;
       so_many = last.1.1;
     }))
-    (λ bytes found is. (
+    (λ bytes found is.
+    let each = is.each in (
       length found.0,
-      record {
-        front = length found.0 ∷ [];
-        back = is.rows;
-        split = is.spelled;
-        first = refl;
-        second = (
+      behind (
+        is.rows,
+        is.spelled,
+        (
           found.0,
-          record {
-            front = is.each.front;
-            back = is.each.back;
-            split = is.each.split;
-            first = (is.each.first, refl);
-            second = (found.1, (is.each.second, is.so_many), refl);
-          },
-        );
-      },
+          parts_of each (each.first, refl) (found.1, (each.second, is.so_many), refl),
+        ),
+      ),
     ))
 
 -- the names and functions
@@ -715,27 +481,22 @@ unfolding functions_at
 reads_functions =
     reads_as (reads_here (λ at.
     reads_in_turn reads_byte (λ count.
-    reads_passing (reads_named_functions count) (ltb 0 count) (fault.NoFunction at))))
+    reads_unless (reads_named_functions count) (ltb 0 count) (fault.NoFunction at))))
     (λ bytes found is.
-    let count : ℕ = is.0 in
-    let named = is.1.second.1 in
-    let some = ltb-true 0 count is.1.second.0 in
-    let spelled : bytes ≡ count ∷ length found.0 ∷ named.rows =
-    headed bytes is.1.front is.1.back count is.1.split is.1.first
-    ∙ ap (λ (l : List ℕ). count ∷ l) named.spelled in
-    counted bytes found count named.so_many spelled some named.each)
+    let first = headed is.1 in
+    let named = first.2.1 in
+    counted bytes found is.0 named.so_many
+    (first.1 ∙ ap (λ (l : List ℕ). is.0 ∷ l) named.spelled) (ltb-true 0 is.0 first.2.0) named.each)
     (λ bytes found is. (
       length found.1,
-      record {
-        front = length found.1 ∷ [];
-        back = length found.0 ∷ is.rows;
-        split = is.spelled;
-        first = refl;
-        second = (
+      behind (
+        length found.0 ∷ is.rows,
+        is.spelled,
+        (
           lt-ltb 0 (length found.1) is.some,
           record { rows = is.rows; spelled = refl; each = is.each; so_many = refl },
-        );
-      },
+        ),
+      ),
     ))
   where
     counted : (bytes : List ℕ) (found : NamedFunctions) (count : ℕ) → length found.1 ≡ count
@@ -776,48 +537,25 @@ unfolding body_at
 reads_body version =
     reads_as (reads_in_turn reads_constants (λ pool.
     reads_in_turn reads_pragmas (λ pragmas.
-    reads_told reads_functions (unit_of version pool pragmas))))
+    reads_made reads_functions (unit_of version pool pragmas))))
     (λ bytes unit is.
-    let inner = is.1.second in
-    let last = inner.1.second in
+    let inner = is.1.second.1 in
+    let last = inner.second in
     subst (IsBodyOf version bytes) (sym last.2) (record {
       version_is = refl;
-      body = record {
-        front = is.1.front;
-        back = is.1.back;
-        split = is.1.split;
-        first = is.1.first;
-        second = record {
-          front = inner.1.front;
-          back = inner.1.back;
-          split = inner.1.split;
-          first = inner.1.first;
-          second = last.1;
-        };
-      };
+      body = parts_of is.1 is.1.first (parts_of inner inner.first last.1);
     }))
     (λ bytes unit is.
-    let body = is.body in (
+    let body = is.body in
+    let inner = body.second in (
       (unit.charset, unit.constants),
-      record {
-        front = body.front;
-        back = body.back;
-        split = body.split;
-        first = body.first;
-        second = (
-          unit.pragmas,
-          record {
-            front = body.second.front;
-            back = body.second.back;
-            split = body.second.split;
-            first = body.second.first;
-            second = (
-              (unit.names, unit.functions),
-              body.second.second,
-              ap (λ (v : ℕ). unit_of v (unit.charset, unit.constants) unit.pragmas
-                  (unit.names, unit.functions)) is.version_is,
-            );
-          },
-        );
-      },
+      parts_of body body.first (
+        unit.pragmas,
+        parts_of inner inner.first (
+          (unit.names, unit.functions),
+          inner.second,
+          ap (λ (v : ℕ). unit_of v (unit.charset, unit.constants) unit.pragmas
+              (unit.names, unit.functions)) is.version_is,
+        ),
+      ),
     ))

@@ -1,8 +1,7 @@
 -- What is read is a unit, each unit is read, and a fault is the first one from the left, both ways.
-use Rattle.std.proofs.Common.{◌≡◌, ◌≢◌, ℕ, suc, ◌-◌, ◌<◌, ◌≤◌, ◌^◌, Bool, true, false, cond}
-use Rattle.std.proofs.Common.{eqb, ltb, List, [], ◌∷◌, ◌++◌, length, get_or, Result, Ok, Err}
-use Rattle.std.proofs.Common.{refl, sym, ap, subst, ◌∙◌, ◌⊎◌, inl, inr}
-use Rattle.std.proofs.Common.{arith}
+use Rattle.std.proofs.Common.{◌≡◌, ◌≢◌, ℕ, suc, ◌-◌, ◌<◌, ◌≤◌, ◌^◌, Bool, true, false, cond, eqb}
+use Rattle.std.proofs.Common.{ltb, List, [], ◌∷◌, ◌++◌, length, get_or, Result, Ok, Err, refl, sym}
+use Rattle.std.proofs.Common.{ap, subst, ◌∙◌, ◌⊎◌, inl, inr, arith}
 use Rattle.std.specs.List.{AllByRecursion}
 use Rattle.std.specs.Prelude.{IfOk, IfErr}
 use Rattle.std.proofs.lemmas.Bool.{eqb-true, eqb-false, ltb-true, ltb-false, lt-ltb, le-ltb}
@@ -20,8 +19,7 @@ use Rattle.wap_unit.specs.Refusal.{IsRefused, no_version, other_version}
 use Rattle.wap_unit.specs.Refusal.{no_size, other_size, inside, behind}
 use Rattle.wap_unit.specs.reading.ByteReading.{byte_at, number_at}
 use Rattle.wap_unit.specs.reading.UnitReading.{body_at, ended, sized_body, unit_by, unit_at}
-use Rattle.wap_unit.proofs.Readers.{reads_byte, reads_number}
-use Rattle.wap_unit.proofs.UnitItems.{IsBodyOf, reads_body}
+use Rattle.wap_unit.proofs.UnitItems.{IsBodyOf, reads_byte, reads_number, reads_body}
 
 -- what comes of reading the parts of a unit
 abbrev Read : Type 0

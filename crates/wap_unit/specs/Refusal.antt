@@ -2,10 +2,10 @@
 -- refusal speaks of the length of the whole input, of the bytes that are left of it after whole
 -- items, and of a fault; the place of the first byte that is left is the difference of the lengths.
 -- This project's own.
-use Rattle.std.specs.Prelude.{◌≡◌, ◌≢◌, ℕ, ◌-◌, ◌<◌, ◌≤◌, ◌⊎◌, Bool, true, false, nat_lt}
+use Rattle.std.specs.Prelude.{◌≡◌, ◌≢◌, ℕ, ◌-◌, ◌<◌, ◌≤◌, Bool, nat_lt}
 use Rattle.std.specs.Prelude.{List, [], ◌∷◌, ◌++◌, length, Option, Some, None}
 use Rattle.std.specs.Str.{is_utf8}
-use Rattle.wap_base.specs.Numbers.{IsMb, EndsInside, IsTooLong}
+use Rattle.wap_base.specs.Numbers.{IsMb}
 use Rattle.wap_base.specs.declared.charset.Charset.{Charset}
 use Rattle.wap_unit.specs.declared.unit.Unit.{Unit}
 use Rattle.wap_unit.specs.declared.unit.Constant.{Constant}
@@ -18,73 +18,34 @@ use Rattle.wap_unit.specs.declared.kind.ConstantKind.TheVariants as constant
 use Rattle.wap_unit.specs.declared.kind.PragmaKind.{PragmaKind}
 use Rattle.wap_unit.specs.declared.kind.PragmaKind.TheVariants as pragma
 use Rattle.wap_unit.specs.Kinds.{constant_kind, pragma_kind}
+use Rattle.wap_base.specs.formats.Refusal as formats
+pub use Rattle.wap_base.specs.formats.Refusal.{Never, RefusesInTurn, RefusesUnless, RefusesRow}
+pub use Rattle.wap_base.specs.formats.Sequences.{AreBytes as IsTaken}
 use Rattle.wap_unit.specs.Sequences.{IsByte, IsSized, IsRow, IsCounted}
 use Rattle.wap_unit.specs.Units.{IsConstant, AreConstants, IsPragma}
 use Rattle.wap_unit.specs.Units.{IsName, IsFunction, IsHead, IsBody}
 
 -- the length of the input, what is left of it, and the fault
 abbrev pub Refusal : Type 1
-Refusal = ℕ → List ℕ → UnitFault → Type 0
+Refusal = formats.Refusal UnitFault
 
 -- ---- what an item may lack
 
--- nothing is refused
-abbrev pub Never : Refusal
-Never end left found = ⊥
-
 -- nothing is left where a byte has to stand
 abbrev pub LacksByte : Refusal
-LacksByte end left found = (left ≡ []) × (found ≡ fault.Short end)
+LacksByte = formats.LacksByte fault.Short
 
 -- fewer bytes are left than have to follow
 abbrev pub LacksBytes : ℕ → Refusal
-LacksBytes size end left found = (length left < size) × (found ≡ fault.Short end)
+LacksBytes = formats.LacksBytes fault.Short
 
 -- no number stands here: the input ends inside it, or it is too long
 abbrev pub RefusesNumber : Refusal
-RefusesNumber end left found =
-    (EndsInside left × (found ≡ fault.Short end))
-    ⊎ (IsTooLong left × (found ≡ fault.Number (end - length left)))
-
--- ---- one item after the other
-
--- a whole item, after which the next one is refused
-pub record Behind {A : Type 0} (Is : List ℕ → A → Type 0) (Next : A → Refusal) (end : ℕ)
-    (left : List ℕ) (found : UnitFault) : Type 0 where
-  pub value : A
-  pub front : List ℕ
-  pub rest : List ℕ
-  pub split : left ≡ front ++ rest
-  pub whole : Is front value
-  pub refused : Next value end rest found
-
--- the first item is refused, or the next one after it
-abbrev pub RefusesInTurn : {A : Type 0} → Refusal → (List ℕ → A → Type 0) → (A → Refusal) → Refusal
-RefusesInTurn First Is Next end left found = First end left found ⊎ Behind Is Next end left found
-
--- a test isn't passed, or it is and what follows is refused
-abbrev pub RefusesUnless : Bool → UnitFault → Refusal → Refusal
-RefusesUnless test failed Next end left found =
-    ((test ≡ false) × (found ≡ failed)) ⊎ ((test ≡ true) × Next end left found)
-
--- some whole things, fewer than there have to be, and then one that is refused
-pub record RefusesRow {A : Type 0} (count : ℕ) (Is : List ℕ → A → Type 0) (Refuses : Refusal)
-    (end : ℕ) (left : List ℕ) (found : UnitFault) : Type 0 where
-  pub whole : List A
-  pub front : List ℕ
-  pub rest : List ℕ
-  pub split : left ≡ front ++ rest
-  pub row : IsRow Is front whole
-  pub fewer : length whole < count
-  pub refused : Refuses end rest found
+RefusesNumber = formats.RefusesNumber fault.Short fault.Number
 
 -- no number of things stands here, or one of so many things is refused
 abbrev pub RefusesCounted : {A : Type 0} → (List ℕ → A → Type 0) → Refusal → Refusal
 RefusesCounted Is Refuses = RefusesInTurn RefusesNumber IsMb (λ count. RefusesRow count Is Refuses)
-
--- these bytes, so many of them
-abbrev pub IsTaken : ℕ → List ℕ → List ℕ → Type 0
-IsTaken size bytes content = (bytes ≡ content) × (length content ≡ size)
 
 -- no number stands here, or fewer bytes follow than it says
 abbrev pub RefusesSized : Refusal

@@ -1,16 +1,16 @@
 //! The pool of constants.
 ghost use Rattle.wap_base.specs.Outcome.{Meets};
 ghost use Rattle.wap_unit.specs.declared.fault.UnitFault.TheVariants.{NoMemory};
-ghost use Rattle.wap_unit.specs.reading.ByteReading.{many};
+ghost use Rattle.wap_base.specs.formats.ByteReading.{row_at};
 ghost use Rattle.wap_unit.specs.reading.UnitReading.{coded_at, utf8_at, value_at};
 ghost use Rattle.wap_unit.specs.reading.UnitReading.{constant_at, constants_at};
 
 use crate::charset::{coded_text, utf8_text};
-use crate::front::{byte, number, place, take_bytes, take_sized};
+use crate::front::{byte, number, take_bytes, take_sized};
 use crate::kind::{ConstantKind, constant_kind};
 use crate::{Constant, UnitFault};
 use std::alloc::Global;
-use wap_base::{Charset, Rows};
+use wap_base::{Charset, Rows, place};
 
 /// The number of the character set, and the constants.
 #[tactic(auto, unfolding(crate::specs::reading::UnitReading::constants_at))]
@@ -37,7 +37,7 @@ fn read_pool(
     bytes: &[u8],
 ) -> Result<(Rows<Constant>, &[u8]), UnitFault>
     ensures { Meets NoMemory (λ read. (read.0, read.1.now)) result
-        (many (constant_at set) count end bytes.now) }
+        (row_at (constant_at set) count end bytes.now) }
 {
     let mut constants = Rows::new(alloc);
     let mut rest = bytes;

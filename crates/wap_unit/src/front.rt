@@ -1,19 +1,12 @@
 //! What bytes begin with: one byte, so many, a number, and bytes after their number.
-ghost use Rattle.std.specs.Prelude.{◌≡◌, ◌-◌, length, IfOk};
+ghost use Rattle.std.specs.Prelude.{◌≡◌, length, IfOk};
 ghost use Rattle.wap_base.specs.Outcome.{Meets};
 ghost use Rattle.wap_unit.specs.declared.fault.UnitFault.TheVariants.{NoMemory};
 ghost use Rattle.wap_unit.specs.reading.ByteReading.{byte_at, taken_at, number_at};
 ghost use Rattle.wap_unit.specs.reading.UnitReading.{sized_at};
 
 use crate::UnitFault;
-use wap_base::{ReadFault, read_mb};
-
-/// The place of the first of the bytes that are left of an input of this length.
-pub(crate) fn place(end: usize, bytes: &[u8]) -> usize
-    ensures { result ≡ end - length bytes.now }
-{
-    end.saturating_sub(bytes.len())
-}
+use wap_base::{ReadFault, place, read_mb};
 
 /// One byte.
 pub(crate) fn byte(end: usize, bytes: &[u8]) -> Result<(u8, &[u8]), UnitFault>
@@ -38,7 +31,7 @@ pub(crate) fn take_bytes(size: usize, end: usize, bytes: &[u8]) -> Result<(&[u8]
 }
 
 /// A number of several bytes.
-#[tactic(auto, unfolding(crate::specs::reading::ByteReading::number_at))]
+#[tactic(auto, unfolding(wap_base::specs::formats::ByteReading::number_at))]
 pub(crate) fn number(end: usize, bytes: &[u8]) -> Result<(u32, &[u8]), UnitFault>
     ensures { Meets NoMemory (λ read. (read.0, read.1.now)) result (number_at end bytes.now) }
 {

@@ -1,15 +1,15 @@
 //! Functions and their names.
 ghost use Rattle.wap_base.specs.Outcome.{Meets};
 ghost use Rattle.wap_unit.specs.declared.fault.UnitFault.TheVariants.{NoMemory};
-ghost use Rattle.wap_unit.specs.reading.ByteReading.{many};
+ghost use Rattle.wap_base.specs.formats.ByteReading.{row_at};
 ghost use Rattle.wap_unit.specs.reading.UnitReading.{name_text_at, name_at, function_at};
 ghost use Rattle.wap_unit.specs.reading.UnitReading.{named_functions_at, functions_at};
 
 use crate::charset::utf8_text;
-use crate::front::{byte, place, take_bytes, take_sized};
+use crate::front::{byte, take_bytes, take_sized};
 use crate::{Code, UnitFault};
 use std::alloc::Global;
-use wap_base::{Bytes, Rows, Text};
+use wap_base::{Bytes, Rows, Text, place};
 
 /// The names, and the functions.
 #[tactic(auto, unfolding(crate::specs::reading::UnitReading::functions_at))]
@@ -55,7 +55,7 @@ fn read_names(
     bytes: &[u8],
 ) -> Result<(Rows<(u8, Text)>, &[u8]), UnitFault>
     ensures { Meets NoMemory (λ read. (read.0, read.1.now)) result
-        (many (name_at functions) count end bytes.now) }
+        (row_at (name_at functions) count end bytes.now) }
 {
     let mut names = Rows::new(alloc);
     let mut rest = bytes;
@@ -110,7 +110,7 @@ fn read_bodies(
     bytes: &[u8],
 ) -> Result<(Rows<Code>, &[u8]), UnitFault>
     ensures { Meets NoMemory (λ read. (read.0, read.1.now)) result
-        (many function_at count end bytes.now) }
+        (row_at function_at count end bytes.now) }
 {
     let mut functions = Rows::new(alloc);
     let mut rest = bytes;

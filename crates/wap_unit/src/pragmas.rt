@@ -1,14 +1,14 @@
 //! Pragmas.
 ghost use Rattle.wap_base.specs.Outcome.{Meets};
 ghost use Rattle.wap_unit.specs.declared.fault.UnitFault.TheVariants.{NoMemory};
-ghost use Rattle.wap_unit.specs.reading.ByteReading.{many};
+ghost use Rattle.wap_base.specs.formats.ByteReading.{row_at};
 ghost use Rattle.wap_unit.specs.reading.UnitReading.{pair_at, indexes_at, pragma_at, pragmas_at};
 
-use crate::front::{byte, number, place};
+use crate::front::{byte, number};
 use crate::kind::{PragmaKind, pragma_kind};
 use crate::{Pragma, UnitFault};
 use std::alloc::Global;
-use wap_base::Rows;
+use wap_base::{Rows, place};
 
 /// The pragmas, after their number.
 #[tactic(auto, unfolding(crate::specs::reading::UnitReading::pragmas_at))]
@@ -31,7 +31,7 @@ fn read_row(
     bytes: &[u8],
 ) -> Result<(Rows<Pragma>, &[u8]), UnitFault>
     ensures { Meets NoMemory (λ read. (read.0, read.1.now)) result
-        (many pragma_at count end bytes.now) }
+        (row_at pragma_at count end bytes.now) }
 {
     let mut pragmas = Rows::new(alloc);
     let mut rest = bytes;

@@ -9,11 +9,12 @@ ghost use Rattle.wap_unit.specs.Refusal.{IsRefused};
 ghost use Rattle.wap_unit.specs.reading.UnitReading.{body_at, unit_at};
 
 use crate::constants::read_constants;
-use crate::front::{byte, number, place};
+use crate::front::{byte, number};
 use crate::functions::read_functions;
 use crate::pragmas::read_pragmas;
 use crate::{Unit, UnitFault};
 use std::alloc::Global;
+use wap_base::place;
 
 /// The greatest version byte that is read: those of the major number 1, in the upper four bits the
 /// number minus one.

@@ -1,6 +1,5 @@
 -- Reading an image from the left, with the first fault that is met.
-use Rattle.std.specs.Prelude.{ℕ, ◌-◌, nat_lt, if◌then◌else◌, List, [], length}
-use Rattle.std.specs.Prelude.{Result, Ok, Err}
+use Rattle.std.specs.Prelude.{ℕ, ◌-◌, nat_lt, if◌then◌else◌, List, [], length, Result, Ok, Err}
 use Rattle.std.specs.Int.{w64, from_be_bytes}
 use Rattle.wap_base.specs.Outcome.{◌>>=◌}
 use Rattle.wap_base.specs.Charsets.{text_in}
@@ -17,8 +16,8 @@ use Rattle.wap_image.specs.Items.{is_head, is_drawn, is_budget, is_string_limit,
 use Rattle.wap_image.specs.Items.{is_depth_limit, timer_kind, is_time_left, is_variable_count}
 use Rattle.wap_image.specs.Items.{is_value_length, is_next_name, is_entry_count, is_entry_text}
 use Rattle.wap_image.specs.Images.{Saved, saved_of}
-use Rattle.wap_image.specs.inside.ByteReading.{Reader, byte_at, taken_at, number_at, in_turn, given}
-use Rattle.wap_image.specs.inside.ByteReading.{passing, made, made_if, many}
+use Rattle.wap_base.specs.formats.ByteReading.{in_turn, given, passing, made, made_if, many, row_at}
+use Rattle.wap_image.specs.inside.ByteReading.{Reader, byte_at, taken_at, number_at}
 
 -- bytes after their number, and a text of them
 unfoldable pub sized_at : Reader ℕ → Reader (List ℕ)
@@ -92,7 +91,7 @@ entry_count_at limits timer = passing (is_entry_count limits.history timer) faul
 
 unfoldable pub entries_at : Limits → SavedTimer → Reader (List (List ℕ × ℕ))
 entries_at limits timer =
-    in_turn (entry_count_at limits timer) (λ count. many (λ before. entry_at) count [])
+    in_turn (entry_count_at limits timer) (row_at entry_at)
 
 -- the items after the numbers
 unfoldable pub lists_at : ℕ → ℕ → ℕ → ℕ → Reader Saved

@@ -3,19 +3,15 @@ use Rattle.std.specs.Prelude.{⊤, ℕ, ◌<◌, ◌^◌, List, length, encode_u
 use Rattle.std.specs.List.{AllByRecursion}
 use Rattle.wap_unit.specs.declared.unit.Unit.{Unit}
 use Rattle.wap_unit.specs.declared.unit.Constant.{Constant}
-use Rattle.wap_unit.specs.declared.unit.Constant.TheVariants.{Int8, Int16, Int32, Float, Utf8}
-use Rattle.wap_unit.specs.declared.unit.Constant.TheVariants.{Empty, Coded}
+use Rattle.wap_unit.specs.declared.unit.Constant.TheVariants.{Utf8}
+use Rattle.wap_unit.specs.declared.unit.Constant.TheVariants.{Coded}
 use Rattle.wap_unit.specs.declared.unit.Code.{Code}
 use Rattle.wap_unit.specs.Spelling.{body_spelling}
 
 abbrev pub FitsConstant : Constant → Type 0
-FitsConstant (Int8 number) = ⊤
-FitsConstant (Int16 number) = ⊤
-FitsConstant (Int32 number) = ⊤
-FitsConstant (Float number) = ⊤
 FitsConstant (Utf8 text) = length (encode_utf8_all text) < 2 ^ 32
-FitsConstant Empty = ⊤
 FitsConstant (Coded text) = length text < 2 ^ 32
+FitsConstant _ = ⊤
 
 abbrev pub FitsName : ℕ × List ℕ → Type 0
 FitsName name = length (encode_utf8_all name.1) < 2 ^ 8

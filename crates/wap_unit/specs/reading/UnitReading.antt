@@ -21,8 +21,9 @@ use Rattle.wap_unit.specs.declared.kind.ConstantKind.TheVariants as constant
 use Rattle.wap_unit.specs.declared.kind.PragmaKind.{PragmaKind}
 use Rattle.wap_unit.specs.declared.kind.PragmaKind.TheVariants as pragma
 use Rattle.wap_unit.specs.Kinds.{constant_kind, pragma_kind}
-use Rattle.wap_unit.specs.reading.ByteReading.{Reader, byte_at, taken_at, number_at, in_turn}
-use Rattle.wap_unit.specs.reading.ByteReading.{given, judged, failing, passing, told, many}
+use Rattle.wap_base.specs.formats.ByteReading.{in_turn, given, judged, failing, unless, made}
+use Rattle.wap_base.specs.formats.ByteReading.{row_at}
+use Rattle.wap_unit.specs.reading.ByteReading.{Reader, byte_at, taken_at, number_at}
 
 -- bytes after their number
 unfoldable pub sized_at : Reader (List ℕ)
@@ -41,19 +42,19 @@ coded_text set at content = if is_text set content then Ok content else Err (fau
 unfoldable pub coded_at : ℕ → Option Charset → Reader Constant
 coded_at at None = failing (fault.Charset at)
 coded_at at (Some set) =
-    told Coded (in_turn sized_at (λ content. judged (coded_text set at content)))
+    made Coded (in_turn sized_at (λ content. judged (coded_text set at content)))
 
 unfoldable pub utf8_at : ℕ → Reader Constant
-utf8_at at = told Utf8 (in_turn sized_at (λ content. judged (utf8_text at content)))
+utf8_at at = made Utf8 (in_turn sized_at (λ content. judged (utf8_text at content)))
 
 unfoldable pub value_at : Option Charset → ℕ → ConstantKind → Reader Constant
 value_at set at constant.Int8 =
-    told (λ value. Int8 (cast_signed w8 (from_be_bytes w8 value))) (taken_at 1)
+    made (λ value. Int8 (cast_signed w8 (from_be_bytes w8 value))) (taken_at 1)
 value_at set at constant.Int16 =
-    told (λ value. Int16 (cast_signed w16 (from_be_bytes w16 value))) (taken_at 2)
+    made (λ value. Int16 (cast_signed w16 (from_be_bytes w16 value))) (taken_at 2)
 value_at set at constant.Int32 =
-    told (λ value. Int32 (cast_signed w32 (from_be_bytes w32 value))) (taken_at 4)
-value_at set at constant.Float = told (λ value. Float (from_be_bytes w32 value)) (taken_at 4)
+    made (λ value. Int32 (cast_signed w32 (from_be_bytes w32 value))) (taken_at 4)
+value_at set at constant.Float = made (λ value. Float (from_be_bytes w32 value)) (taken_at 4)
 value_at set at constant.Utf8 = utf8_at at
 value_at set at constant.Empty = given Empty
 value_at set at constant.Coded = coded_at at set
@@ -70,19 +71,19 @@ unfoldable pub constants_at : Reader (ℕ × List Constant)
 constants_at =
     in_turn number_at (λ count.
     in_turn number_at (λ charset.
-    told (λ constants. (charset, constants)) (many (constant_at (charset_of charset)) count)))
+    made (λ constants. (charset, constants)) (row_at (constant_at (charset_of charset)) count)))
 
 -- ---- pragmas
 
 unfoldable pub pair_at : Reader (ℕ × ℕ)
-pair_at = in_turn number_at (λ one. told (λ two. (one, two)) number_at)
+pair_at = in_turn number_at (λ one. made (λ two. (one, two)) number_at)
 
 unfoldable pub indexes_at : PragmaKind → Reader Pragma
-indexes_at pragma.Domain = told Domain number_at
-indexes_at pragma.Path = told Path number_at
-indexes_at pragma.Property = told (λ pair. Property pair.0 pair.1) pair_at
+indexes_at pragma.Domain = made Domain number_at
+indexes_at pragma.Path = made Path number_at
+indexes_at pragma.Property = made (λ pair. Property pair.0 pair.1) pair_at
 indexes_at pragma.Scheme =
-    in_turn number_at (λ name. told (λ pair. Scheme name pair.0 pair.1) pair_at)
+    in_turn number_at (λ name. made (λ pair. Scheme name pair.0 pair.1) pair_at)
 
 abbrev pub indexes_by : ℕ → Option PragmaKind → Reader Pragma
 indexes_by at None = failing (fault.PragmaKind at)
@@ -93,7 +94,7 @@ pragma_at end bytes =
     in_turn byte_at (λ byte. indexes_by (end - length bytes) (pragma_kind byte)) end bytes
 
 unfoldable pub pragmas_at : Reader (List Pragma)
-pragmas_at = in_turn number_at (many pragma_at)
+pragmas_at = in_turn number_at (row_at pragma_at)
 
 -- ---- functions
 
@@ -105,32 +106,32 @@ name_text_at at =
 unfoldable pub name_at : ℕ → Reader (ℕ × List ℕ)
 name_at count end bytes =
     in_turn byte_at (λ index.
-    passing (nat_lt index count) (fault.NameIndex (end - length bytes))
-    (told (λ text. (index, text)) (name_text_at (end - length bytes)))) end bytes
+    unless (nat_lt index count) (fault.NameIndex (end - length bytes))
+    (made (λ text. (index, text)) (name_text_at (end - length bytes)))) end bytes
 
 unfoldable pub function_at : Reader Code
 function_at =
     in_turn byte_at (λ args.
     in_turn byte_at (λ locals.
-    told (λ code. record { args = args; locals = locals; code = code }) sized_at))
+    made (λ code. record { args = args; locals = locals; code = code }) sized_at))
 
 unfoldable pub named_functions_at : ℕ → Reader (List (ℕ × List ℕ) × List Code)
 named_functions_at count =
     in_turn byte_at (λ names.
-    in_turn (many (name_at count) names) (λ row.
-    told (λ functions. (row, functions)) (many function_at count)))
+    in_turn (row_at (name_at count) names) (λ row.
+    made (λ functions. (row, functions)) (row_at function_at count)))
 
 unfoldable pub functions_at : Reader (List (ℕ × List ℕ) × List Code)
 functions_at end bytes =
     in_turn byte_at (λ count.
-    passing (nat_lt 0 count) (fault.NoFunction (end - length bytes)) (named_functions_at count))
+    unless (nat_lt 0 count) (fault.NoFunction (end - length bytes)) (named_functions_at count))
     end bytes
 
 -- ---- units
 
 unfoldable pub body_at : ℕ → Reader Unit
 body_at version =
-    in_turn constants_at (λ pool. in_turn pragmas_at (λ pragmas. told (λ functions. record {
+    in_turn constants_at (λ pool. in_turn pragmas_at (λ pragmas. made (λ functions. record {
       version = version;
       charset = pool.0;
       constants = pool.1;

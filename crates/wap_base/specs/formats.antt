@@ -1,0 +1,3 @@
+pub mod Sequences
+pub mod Refusal
+pub mod ByteReading
