@@ -3,4 +3,6 @@ pub mod Joining
 pub mod Strings
 pub mod Values
 pub mod Nodes
+pub mod Characters
+pub mod Together
 pub mod Normality

@@ -1,5 +1,6 @@
 pub mod Layers
 pub mod CardLaw
+pub mod HashLaw
 pub mod Runs
 pub mod Taking
 pub mod Skipping
@@ -21,5 +22,4 @@ pub mod Contents
 pub mod NodeLaw
 pub mod FlatLaw
 pub mod GoodLaw
-pub mod FitLaw
 pub mod DeckLaw

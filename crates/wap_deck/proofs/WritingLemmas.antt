@@ -4,6 +4,4 @@ pub mod Starts
 pub mod Content
 pub mod Emptiness
 pub mod Naming
-pub mod Characters
-pub mod DeckTexts
-pub mod DocumentTexts
+pub mod Told

@@ -2,5 +2,4 @@ pub mod Runs
 pub mod Lent
 pub mod Readers
 pub mod Texts
-pub mod Characters
 pub mod inside

@@ -6,6 +6,7 @@ mod cards;
 mod children;
 mod front;
 mod good;
+mod hashes;
 mod head;
 mod heads;
 mod kids;
@@ -13,7 +14,6 @@ mod laws;
 mod notes;
 mod run;
 mod skip;
-mod texts;
 mod view;
 mod walk;
 

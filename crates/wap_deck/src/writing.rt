@@ -5,7 +5,8 @@ mod decks;
 mod laws;
 mod names;
 mod nodes;
+mod runs;
 mod texts;
 
 pub use decks::spell;
-pub use laws::rewritten_is_read;
+pub use laws::{rewritten_is_read, written_decks_are_meant};

@@ -1,6 +1,5 @@
 -- The decks of a made folder are such as documents mean.
-use Rattle.std.proofs.Common.{◌≡◌, ◌≢◌, ℕ, suc, ◌-◌, List, [], ◌∷◌, ◌++◌, refl, sym, subst, ap}
-use Rattle.std.proofs.Common.{ap₂}
+use Rattle.std.proofs.Common.{◌≡◌, ◌≢◌, ℕ, suc, ◌-◌, List, [], ◌∷◌, ◌++◌, refl, sym, subst, ap, ap₂}
 use Rattle.std.specs.Prelude.{codes}
 use Rattle.wap_base.specs.declared.name.Part.TheVariants.{Lit}
 use Rattle.wap_tokens.specs.declared.markup.document.TheConstants.{LEVEL_LIMIT}

@@ -85,10 +85,7 @@ unfolding start_at RefusedStart
 reads_start input before lead attribute.Coded = reads_given (Code lead.byte, before)
 reads_start input before lead attribute.Named =
     reads_told literal (reads_name input before) (λ a rest u. u) (λ a rest u. u)
-reads_start input before lead attribute.End = reads_no_token input.total
-reads_start input before lead attribute.Value = reads_no_token input.total
-reads_start input before lead (attribute.Leaf mark) = reads_no_token input.total
-reads_start input before lead attribute.Nothing = reads_no_token input.total
+reads_start input before lead _ = reads_no_token input.total
 
 -- ---- parts of values
 
@@ -149,10 +146,7 @@ module _ (input : Input) where
   read_piece : Lead → AttributeMark → List ℕ → Reading Piece
   read_piece lead attribute.Value rest = Ok (piece.Code lead.page lead.byte, rest)
   read_piece lead (attribute.Leaf mark) rest = told piece_of (leaf_at input mark rest)
-  read_piece lead attribute.End rest = no_token input.total rest
-  read_piece lead attribute.Coded rest = no_token input.total rest
-  read_piece lead attribute.Named rest = no_token input.total rest
-  read_piece lead attribute.Nothing rest = no_token input.total rest
+  read_piece lead _ rest = no_token input.total rest
 
   reads_piece : (lead : Lead) (m : AttributeMark) → begins_piece m ≡ true
       → Reads Anything (read_piece lead m) (IsPieceBehind input.strings lead m)
@@ -161,29 +155,20 @@ module _ (input : Input) where
   reads_piece lead attribute.Value e = reads_given (piece.Code lead.page lead.byte)
   reads_piece lead (attribute.Leaf mark) e =
       reads_told piece_of (reads_leaf input mark) (λ a rest u. u) (λ a rest u. u)
-  reads_piece lead attribute.End e = absurd (false_true e)
-  reads_piece lead attribute.Coded e = absurd (false_true e)
-  reads_piece lead attribute.Named e = absurd (false_true e)
-  reads_piece lead attribute.Nothing e = absurd (false_true e)
+  reads_piece lead _ e = absurd (false_true e)
 
   piece_begins : (lead : Lead) (m : AttributeMark) (bytes : List ℕ) (x : Piece)
       → IsPieceBehind input.strings lead m bytes x → begins_piece m ≡ true
   piece_begins lead attribute.Value bytes x is = refl
   piece_begins lead (attribute.Leaf mark) bytes x is = refl
-  piece_begins lead attribute.End bytes x is = absurd is
-  piece_begins lead attribute.Coded bytes x is = absurd is
-  piece_begins lead attribute.Named bytes x is = absurd is
-  piece_begins lead attribute.Nothing bytes x is = absurd is
+  piece_begins lead _ bytes x is = absurd is
 
   refused_begins : (m : AttributeMark) (bytes : List ℕ) (fault : DocFault)
       → RefusedPieceBehind input m bytes fault
       → begins_piece m ≡ true
   refused_begins attribute.Value bytes fault refused = refl
   refused_begins (attribute.Leaf mark) bytes fault refused = refl
-  refused_begins attribute.End bytes fault refused = absurd refused
-  refused_begins attribute.Coded bytes fault refused = absurd refused
-  refused_begins attribute.Named bytes fault refused = absurd refused
-  refused_begins attribute.Nothing bytes fault refused = absurd refused
+  refused_begins _ bytes fault refused = absurd refused
 
   abbrev piece_by : State → Lead → Bool → List ℕ → List ℕ → Reading (Option Piece × State)
   piece_by s lead true bytes rest =
@@ -195,13 +180,9 @@ module _ (input : Input) where
       (cond (begins_piece m) (told (some_piece lead s) (read_piece lead m rest))
       (Ok ((None, s), bytes)))
   unfolding read_piece
-  piece_same s lead attribute.Value bytes rest = refl
   piece_same s lead (attribute.Leaf mark) bytes rest =
       sym (told_told piece_of (some_piece lead s) (leaf_at input mark rest))
-  piece_same s lead attribute.End bytes rest = refl
-  piece_same s lead attribute.Coded bytes rest = refl
-  piece_same s lead attribute.Named bytes rest = refl
-  piece_same s lead attribute.Nothing bytes rest = refl
+  piece_same s lead _ bytes rest = refl
 
   -- by what the bytes begin with
   abbrev seen : State → List ℕ → Option (Lead × List ℕ) → Reading (Option Piece × State)
@@ -439,22 +420,15 @@ module _ (input : Input) where
   start_no_end : (before : State) (lead : Lead) (m : AttributeMark) (bytes : List ℕ)
       (x : Token × State)
       → IsStartBehind input.strings before lead m bytes x → is_end m ≡ false
-  start_no_end before lead attribute.Coded bytes x is = refl
-  start_no_end before lead attribute.Named bytes x is = refl
   start_no_end before lead attribute.End bytes x is = absurd is
-  start_no_end before lead attribute.Value bytes x is = refl
-  start_no_end before lead (attribute.Leaf mark) bytes x is = refl
-  start_no_end before lead attribute.Nothing bytes x is = refl
+  start_no_end before lead _ bytes x is = refl
 
   start_no_piece : (before : State) (lead : Lead) (m : AttributeMark) (bytes : List ℕ)
       (x : Token × State)
       → IsStartBehind input.strings before lead m bytes x → begins_piece m ≡ false
   start_no_piece before lead attribute.Coded bytes x is = refl
   start_no_piece before lead attribute.Named bytes x is = refl
-  start_no_piece before lead attribute.End bytes x is = absurd is
-  start_no_piece before lead attribute.Value bytes x is = absurd is
-  start_no_piece before lead (attribute.Leaf mark) bytes x is = absurd is
-  start_no_piece before lead attribute.Nothing bytes x is = absurd is
+  start_no_piece before lead _ bytes x is = absurd is
 
   ends_before : (y : Attr) (s : State) (front : List ℕ) (x : Attr × State) (rest : List ℕ)
       → Then (IsLead s.attribute_page) (IsBehind s) front x → ValueEnds s (front ++ rest)

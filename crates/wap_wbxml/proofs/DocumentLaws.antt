@@ -360,10 +360,7 @@ module _ (input : Input) where
       → Reads Anything (root_from input before lead m) (IsRootBehind input.strings before lead m)
       (RefusedRootBehind input before lead m)
   reads_root_behind before lead content.Element = reads_element input LEVEL_LIMIT before lead
-  reads_root_behind before lead content.Pi = reads_no_token input.total
-  reads_root_behind before lead (content.Leaf mark) = reads_no_token input.total
-  reads_root_behind before lead content.End = reads_no_token input.total
-  reads_root_behind before lead content.Nothing = reads_no_token input.total
+  reads_root_behind before lead _ = reads_no_token input.total
 
   reads_root : (before : State)
       → Reads Anything (root_at input before) (IsRoot input.strings before)
@@ -379,10 +376,7 @@ module _ (input : Input) where
       → m ≡ content.Pi
       → IsRootBehind input.strings before lead m bytes x → ⊥
   no_root before content.Element lead bytes x same is = absurd cc
-  no_root before content.Pi lead bytes x same is = is
-  no_root before (content.Leaf mark) lead bytes x same is = is
-  no_root before content.End lead bytes x same is = is
-  no_root before content.Nothing lead bytes x same is = is
+  no_root before _ lead bytes x same is = is
 
   pi_mark : (page : ℕ)
       → content_mark (record { switched = false; page = page; byte = PI }) ≡ content.Pi

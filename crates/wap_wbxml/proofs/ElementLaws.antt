@@ -52,10 +52,7 @@ reads_tag input before byte false = reads_given (Code (byte % 64), before)
 
 content_ends : ContentMark → Bool
 content_ends content.End = true
-content_ends content.Element = false
-content_ends content.Pi = false
-content_ends (content.Leaf mark) = false
-content_ends content.Nothing = false
+content_ends _ = false
 
 ends_chain : (a b c : Bool) (o : Option LeafMark)
     → content_ends (cond a content.Element
@@ -121,11 +118,9 @@ module _ (input : Input) (inner : ElementReader) (Is : Elements) (Refused : Elem
   kid_no_end : (s : State) (lead : Lead) (m : ContentMark) (bytes : List ℕ) (x : Kid × State)
       → IsKidBehind input.strings Is s lead m bytes x → content_ends m ≡ false
   unfolding content_ends
-  kid_no_end s lead content.Element bytes x is = refl
-  kid_no_end s lead content.Pi bytes x is = refl
-  kid_no_end s lead (content.Leaf mark) bytes x is = refl
   kid_no_end s lead content.End bytes x is = absurd is
   kid_no_end s lead content.Nothing bytes x is = absurd is
+  kid_no_end s lead _ bytes x is = refl
 
   abbrev picked : State → Lead → ContentMark → Bool → List ℕ → Reading (Option Kid × State)
   picked s lead m true rest = Ok ((None, s), rest)
@@ -163,21 +158,15 @@ module _ (input : Input) (inner : ElementReader) (Is : Elements) (Refused : Elem
       → RefusedUnless (content_ends m) (RefusedKidBehind input Refused s lead m) rest fault
       → RefusedKidBehind input Refused s lead m rest fault
   unfolding content_ends
-  unless_forth s lead content.Element rest fault refused = refused
-  unless_forth s lead content.Pi rest fault refused = refused
-  unless_forth s lead (content.Leaf mark) rest fault refused = refused
   unless_forth s lead content.End rest fault refused = absurd refused
-  unless_forth s lead content.Nothing rest fault refused = refused
+  unless_forth s lead _ rest fault refused = refused
 
   unless_back : (s : State) (lead : Lead) (m : ContentMark) (rest : List ℕ) (fault : DocFault)
       → RefusedKidBehind input Refused s lead m rest fault
       → RefusedUnless (content_ends m) (RefusedKidBehind input Refused s lead m) rest fault
   unfolding content_ends
-  unless_back s lead content.Element rest fault refused = refused
-  unless_back s lead content.Pi rest fault refused = refused
-  unless_back s lead (content.Leaf mark) rest fault refused = refused
   unless_back s lead content.End rest fault refused = absurd refused
-  unless_back s lead content.Nothing rest fault refused = refused
+  unless_back s lead _ rest fault refused = refused
 
   abbrev Unless : State → Refusal
   Unless s =

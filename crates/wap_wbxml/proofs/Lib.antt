@@ -1,7 +1,10 @@
 pub mod Names
 pub mod TextLaws
 pub mod Loops
-pub mod Levels
+pub mod MadeElements
+pub mod MadeContents
+pub mod MadeBodies
+pub mod KeptDocuments
 pub mod Readings
 pub mod Runs
 pub mod FrontLaws

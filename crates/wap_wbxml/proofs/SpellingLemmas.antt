@@ -11,4 +11,5 @@ pub mod Taken
 pub mod TakenElements
 pub mod TakenDocuments
 pub mod NameBounds
+pub mod Kinds
 pub mod DeckLaws

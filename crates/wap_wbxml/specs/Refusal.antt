@@ -1,7 +1,7 @@
 -- What is refused: a prefix of whole parts, and after it what can't stand there. Places are counted
 -- from the beginning of the input, of which these bytes are the last. This project's own.
 use Rattle.std.specs.Prelude.{◌≡◌, ◌≢◌, ℕ, zero, suc, ◌<◌, ◌≤◌, ◌^◌, Bool, true, false}
-use Rattle.std.specs.Prelude.{◌==◌, ◌⊎◌, List, [], ◌∷◌, ◌++◌, length, None}
+use Rattle.std.specs.Prelude.{◌⊎◌, List, [], ◌∷◌, ◌++◌, length, None}
 use Rattle.std.specs.List.{list_all}
 use Rattle.wap_base.specs.Numbers.{IsMb, EndsInside, IsTooLong}
 use Rattle.wap_tokens.specs.declared.markup.codes.TheConstants.{SWITCH_PAGE, PI}
@@ -31,9 +31,8 @@ use Rattle.wap_tokens.specs.markup.Grammar.{IsKid, IsElement, Elements, counted,
 use Rattle.wap_tokens.specs.markup.Grammar.{on_attribute_page, on_tag_page}
 use Rattle.wap_tokens.specs.markup.Documents as documents
 use Rattle.wap_tokens.specs.markup.Documents.{is_version, is_numbered, is_by_name, public_named}
-use Rattle.wap_tokens.specs.markup.Documents.{IsVersion}
-use Rattle.wap_tokens.specs.markup.Documents.{IsIdentifier, IsCharset, IsPublic, IsOuter, IsRoot}
-use Rattle.wap_tokens.specs.markup.Documents.{first_state, into_root, out_of_root}
+use Rattle.wap_tokens.specs.markup.Documents.{IsVersion, IsIdentifier, IsCharset, IsPublic, IsOuter}
+use Rattle.wap_tokens.specs.markup.Documents.{IsRoot, first_state, into_root, out_of_root}
 use Rattle.wap_wbxml.specs.declared.fault.DocFault.{DocFault}
 use Rattle.wap_wbxml.specs.declared.fault.DocFault.TheVariants as doc
 use Rattle.wap_wbxml.specs.Places.{Input, place, place_before, input_of}
@@ -139,19 +138,12 @@ unfoldable pub RefusedStart : Input → State → AttributeMark → Refusal
 RefusedStart input before attribute.Coded bytes = NotRefused bytes
 RefusedStart input before attribute.Named bytes =
     RefusedName input before (place_before input.total bytes) bytes
-RefusedStart input before attribute.End bytes = NoToken input.total bytes
-RefusedStart input before attribute.Value bytes = NoToken input.total bytes
-RefusedStart input before (attribute.Leaf mark) bytes = NoToken input.total bytes
-RefusedStart input before attribute.Nothing bytes = NoToken input.total bytes
+RefusedStart input before _ bytes = NoToken input.total bytes
 
 -- a part of a value after its byte; a byte that begins none is not refused here
 abbrev pub RefusedPieceBehind : Input → AttributeMark → Refusal
 RefusedPieceBehind input (attribute.Leaf mark) = RefusedLeaf input mark
-RefusedPieceBehind input attribute.Value = NotRefused
-RefusedPieceBehind input attribute.End = NotRefused
-RefusedPieceBehind input attribute.Coded = NotRefused
-RefusedPieceBehind input attribute.Named = NotRefused
-RefusedPieceBehind input attribute.Nothing = NotRefused
+RefusedPieceBehind input _ = NotRefused
 
 -- a part of a value
 abbrev pub RefusedPiece : Input → State → Refusal
@@ -320,10 +312,7 @@ RefusedOuters input = RefusedAmong (IsOuter input.strings) Anything (RefusedOute
 -- the root after its byte: an element that is refused, or a byte that begins no element
 abbrev pub RefusedRootBehind : Input → State → Lead → ContentMark → Refusal
 RefusedRootBehind input before lead content.Element = RefusedElement input LEVEL_LIMIT before lead
-RefusedRootBehind input before lead content.Pi = NoToken input.total
-RefusedRootBehind input before lead (content.Leaf mark) = NoToken input.total
-RefusedRootBehind input before lead content.End = NoToken input.total
-RefusedRootBehind input before lead content.Nothing = NoToken input.total
+RefusedRootBehind input before lead _ = NoToken input.total
 
 -- the root is missing, no element begins there, or the element is refused
 unfoldable pub RefusedRoot : Input → State → Refusal

@@ -5,3 +5,4 @@ pub mod Spellable
 pub mod Left
 pub mod Written
 pub mod inside
+pub mod Characters

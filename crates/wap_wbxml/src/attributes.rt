@@ -2,35 +2,37 @@
 ghost use Rattle.std.specs.Prelude.{◌≡◌};
 ghost use Rattle.wap_base.specs.Outcome.{Meets};
 ghost use Rattle.wap_wbxml.specs.declared.fault.DocFault.TheVariants.{NoMemory};
-ghost use Rattle.wap_tokens.specs.markup.Codes.{attribute_mark};
-ghost use Rattle.wap_tokens.specs.markup.Codes.{is_end};
-ghost use Rattle.wap_wbxml.specs.reading.BodyReading.{start_at, next_piece, pieces_at, attribute_behind};
-ghost use Rattle.wap_wbxml.specs.reading.BodyReading.{next_attribute, attributes_at, when, end_at};
-ghost use Rattle.wap_wbxml.specs.reading.BodyReading.{instruction_at};
+ghost use Rattle.wap_tokens.specs.markup.Codes.{attribute_mark, is_end};
+ghost use Rattle.wap_wbxml.specs.reading.BodyReading.{start_at, next_piece, pieces_at, when};
+ghost use Rattle.wap_wbxml.specs.reading.BodyReading.{attribute_behind, next_attribute};
+ghost use Rattle.wap_wbxml.specs.reading.BodyReading.{attributes_at, end_at, instruction_at};
+ghost use Rattle.wap_wbxml.specs.reading.Gathering.{read_as, with_next};
+ghost use Rattle.wap_wbxml.specs.reading.Making.{pieces_added, attribute_made, attribute_added};
+ghost use Rattle.wap_wbxml.specs.reading.Making.{attributes_made};
 
 use crate::DocFault;
+use crate::builder::Builder;
 use crate::fronts::{find_lead, read_lead, read_name};
 use crate::input::Input;
-use crate::leaves::{piece, read_leaf};
+use crate::leaves::read_leaf;
 use crate::marks::attribute_mark;
 use crate::state::State;
 use std::alloc::Global;
-use wap_base::Rows;
-use wap_tokens::markup::{Attr, AttributeMark, Lead, Piece, Token};
+use wap_tokens::markup::{AttributeMark, Lead, Token};
 
 /// A processing instruction after its byte: one attribute and an end.
 #[tactic(auto, unfolding(crate::specs::reading::BodyReading::instruction_at))]
-pub fn read_instruction<'a>(
+pub(crate) fn read_instruction<'a, B: Builder>(
     alloc: Global,
     input: &Input<'_>,
     state: &mut State,
     bytes: &'a [u8],
-) -> Result<(Attr, &'a [u8]), DocFault>
+) -> Result<(B::Attribute, &'a [u8]), DocFault>
     ensures { Meets NoMemory (λ read. ((read.0, state.new), read.1.now)) result
-        (instruction_at input.now state.old bytes.now) }
+        (read_as (attribute_made B.makes) (instruction_at input.now state.old bytes.now)) }
 {
     let (lead, rest) = read_lead(input.total(), state.attribute_page(), bytes)?;
-    let (attribute, rest) = read_attribute(alloc, input, state, lead, rest)?;
+    let (attribute, rest) = read_attribute::<B>(alloc, input, state, lead, rest)?;
     let rest = read_end(input, state, rest)?;
     Ok((attribute, rest))
 }
@@ -51,66 +53,72 @@ fn read_end<'a>(input: &Input<'_>, state: &State, bytes: &'a [u8]) -> Result<&'a
 }
 
 /// Attributes up to their end, where there are any.
-pub fn read_attributes_when<'a>(
+#[inline(always)]
+pub(crate) fn read_attributes_when<'a, B: Builder>(
     alloc: Global,
     input: &Input<'_>,
     state: &mut State,
     has: bool,
     bytes: &'a [u8],
-) -> Result<(Rows<Attr>, &'a [u8]), DocFault>
+) -> Result<(B::Attributes, &'a [u8]), DocFault>
     ensures { Meets NoMemory (λ read. ((read.0, state.new), read.1.now)) result
-        (when has (attributes_at input.now) state.old bytes.now) }
+        (read_as (attributes_made B.makes)
+        (when has (attributes_at input.now) state.old bytes.now)) }
 {
     if !has {
-        return Ok((Rows::new(alloc), bytes));
+        return Ok((B::attributes(alloc, false)?, bytes));
     }
-    read_attributes(alloc, input, state, bytes)
+    read_attributes::<B>(alloc, input, state, bytes)
 }
 
 /// Attributes up to their end.
-fn read_attributes<'a>(
+#[inline(always)]
+fn read_attributes<'a, B: Builder>(
     alloc: Global,
     input: &Input<'_>,
     state: &mut State,
     bytes: &'a [u8],
-) -> Result<(Rows<Attr>, &'a [u8]), DocFault>
+) -> Result<(B::Attributes, &'a [u8]), DocFault>
     ensures { Meets NoMemory (λ read. ((read.0, state.new), read.1.now)) result
-        (attributes_at input.now state.old bytes.now) }
+        (read_as (attributes_made B.makes) (attributes_at input.now state.old bytes.now)) }
 {
-    let mut attributes = Rows::new(alloc);
+    let mut attributes = B::attributes(alloc, true)?;
     let mut rest = bytes;
     for _ in 0..bytes.len() {
-        let (attribute, behind) = next_attribute(alloc, input, state, rest)?;
-        rest = behind;
-        match attribute {
-            Some(attribute) => attributes.add(attribute)?,
-            None => return Ok((attributes, rest)),
+        let (more, after) = add_next_attribute::<B>(alloc, input, state, &mut attributes, rest)?;
+        rest = after;
+        if !more {
+            return Ok((attributes, rest));
         }
     }
     Err(DocFault::Short { at: input.total() })
 }
 
-/// The next attribute, or none after the end.
+/// Adds the next attribute, and says whether there was one before the end.
 #[tactic(auto, unfolding(crate::specs::reading::BodyReading::next_attribute))]
-fn next_attribute<'a>(
+#[inline(always)]
+fn add_next_attribute<'a, B: Builder>(
     alloc: Global,
     input: &Input<'_>,
     state: &mut State,
+    attributes: &mut B::Attributes,
     bytes: &'a [u8],
-) -> Result<(Option<Attr>, &'a [u8]), DocFault>
-    ensures { Meets NoMemory (λ read. ((read.0, state.new), read.1.now)) result
-        (next_attribute input.now state.old bytes.now) }
+) -> Result<(bool, &'a [u8]), DocFault>
+    ensures { Meets NoMemory (λ read. (((read.0, attributes.new), state.new), read.1.now)) result
+        (read_as (with_next (attribute_added B.makes) attributes.old)
+        (next_attribute input.now state.old bytes.now)) }
 {
     let (lead, rest) = read_lead(input.total(), state.attribute_page(), bytes)?;
     if is_end(attribute_mark(lead)) {
-        return Ok((None, rest));
+        return Ok((false, rest));
     }
-    let (attribute, rest) = read_attribute(alloc, input, state, lead, rest)?;
-    Ok((Some(attribute), rest))
+    let (attribute, rest) = read_attribute::<B>(alloc, input, state, lead, rest)?;
+    B::add_attribute(alloc, attributes, attribute)?;
+    Ok((true, rest))
 }
 
 /// Whether a byte ends attributes.
-pub fn is_end(mark: AttributeMark) -> bool
+fn is_end(mark: AttributeMark) -> bool
     ensures { result ≡ is_end mark }
 {
     matches!(mark, AttributeMark::End)
@@ -118,30 +126,28 @@ pub fn is_end(mark: AttributeMark) -> bool
 
 /// An attribute after the byte that it begins with: its start, and its value.
 #[tactic(auto, unfolding(crate::specs::reading::BodyReading::attribute_behind))]
-fn read_attribute<'a>(
+#[inline(always)]
+fn read_attribute<'a, B: Builder>(
     alloc: Global,
     input: &Input<'_>,
     state: &mut State,
     lead: Lead,
     bytes: &'a [u8],
-) -> Result<(Attr, &'a [u8]), DocFault>
+) -> Result<(B::Attribute, &'a [u8]), DocFault>
     ensures { Meets NoMemory (λ read. ((read.0, state.new), read.1.now)) result
-        (attribute_behind input.now state.old lead bytes.now) }
+        (read_as (attribute_made B.makes)
+        (attribute_behind input.now state.old lead bytes.now)) }
 {
     state.go_to_attribute_page(lead.page);
     let (start, rest) = read_start(alloc, input, state, lead, bytes)?;
-    let (value, rest) = read_pieces(alloc, input, state, rest)?;
-    let attribute = Attr {
-        page: lead.page,
-        start,
-        value,
-    };
+    let mut attribute = B::attribute(alloc, lead.page, start)?;
+    let rest = add_pieces::<B>(alloc, input, state, &mut attribute, rest)?;
     Ok((attribute, rest))
 }
 
 /// An attribute's start after the byte that it begins with.
 #[tactic(auto, unfolding(crate::specs::reading::BodyReading::start_at))]
-pub fn read_start<'a>(
+fn read_start<'a>(
     alloc: Global,
     input: &Input<'_>,
     state: &mut State,
@@ -166,54 +172,61 @@ pub fn read_start<'a>(
     }
 }
 
-/// The parts of a value.
-pub fn read_pieces<'a>(
+/// Adds the parts of a value.
+#[inline(always)]
+fn add_pieces<'a, B: Builder>(
     alloc: Global,
     input: &Input<'_>,
     state: &mut State,
+    attribute: &mut B::Attribute,
     bytes: &'a [u8],
-) -> Result<(Rows<Piece>, &'a [u8]), DocFault>
-    ensures { Meets NoMemory (λ read. ((read.0, state.new), read.1.now)) result
-        (pieces_at input.now state.old bytes.now) }
+) -> Result<&'a [u8], DocFault>
+    ensures { Meets NoMemory (λ rest. ((attribute.new, state.new), rest.now)) result
+        (read_as (pieces_added B.makes attribute.old)
+        (pieces_at input.now state.old bytes.now)) }
 {
-    let mut value = Rows::new(alloc);
     let mut rest = bytes;
     for _ in 0..bytes.len() {
-        let (piece, behind) = next_piece(alloc, input, state, rest)?;
-        rest = behind;
-        match piece {
-            Some(piece) => value.add(piece)?,
-            None => return Ok((value, rest)),
+        let (more, after) = add_next_piece::<B>(alloc, input, state, attribute, rest)?;
+        rest = after;
+        if !more {
+            return Ok(rest);
         }
     }
-    Ok((value, rest))
+    Ok(rest)
 }
 
-/// The next part of a value, or none before an end, an attribute or what can't stand here.
+/// Adds the next part of a value, and says whether there was one before an end, an attribute or
+/// what can't stand here.
 #[tactic(auto, unfolding(crate::specs::reading::BodyReading::next_piece))]
-fn next_piece<'a>(
+#[inline(always)]
+fn add_next_piece<'a, B: Builder>(
     alloc: Global,
     input: &Input<'_>,
     state: &mut State,
+    attribute: &mut B::Attribute,
     bytes: &'a [u8],
-) -> Result<(Option<Piece>, &'a [u8]), DocFault>
-    ensures { Meets NoMemory (λ read. ((read.0, state.new), read.1.now)) result
-        (next_piece input.now state.old bytes.now) }
+) -> Result<(bool, &'a [u8]), DocFault>
+    ensures { Meets NoMemory (λ read. (((read.0, attribute.new), state.new), read.1.now)) result
+        (read_as (with_next B.makes.piece_added attribute.old)
+        (next_piece input.now state.old bytes.now)) }
 {
     let Some((lead, rest)) = find_lead(state.attribute_page(), bytes) else {
-        return Ok((None, bytes));
+        return Ok((false, bytes));
     };
     match attribute_mark(lead) {
         AttributeMark::Value => {
             state.go_to_attribute_page(lead.page);
-            Ok((Some(Piece::Code(lead.page, lead.byte)), rest))
+            B::add_code(alloc, attribute, lead.page, lead.byte)?;
+            Ok((true, rest))
         }
         AttributeMark::Leaf(mark) => {
             let (leaf, rest) = read_leaf(alloc, input, mark, rest)?;
             state.go_to_attribute_page(lead.page);
-            Ok((Some(piece(leaf)), rest))
+            B::add_piece(alloc, attribute, leaf)?;
+            Ok((true, rest))
         }
         AttributeMark::End | AttributeMark::Coded | AttributeMark::Named | AttributeMark::Nothing =>
-            Ok((None, bytes)),
+            Ok((false, bytes)),
     }
 }

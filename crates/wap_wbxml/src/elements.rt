@@ -1,76 +1,77 @@
 //! Elements and their content.
-ghost use Rattle.std.specs.Prelude.{◌≡◌};
+ghost use Rattle.std.specs.Prelude.{◌≡◌, suc};
 ghost use Rattle.wap_base.specs.Outcome.{Meets};
 ghost use Rattle.wap_wbxml.specs.declared.fault.DocFault.TheVariants.{NoMemory};
 ghost use Rattle.wap_tokens.specs.markup.Codes.{is_named};
 ghost use Rattle.wap_wbxml.specs.reading.BodyReading.{tag_at, when, next_kid, kids_at};
 ghost use Rattle.wap_wbxml.specs.reading.BodyReading.{element_by, element_at};
+ghost use Rattle.wap_wbxml.specs.reading.Gathering.{read_as, with_next};
+ghost use Rattle.wap_wbxml.specs.reading.Making.{element_added, kid_added, kids_added};
+ghost use Rattle.wap_wbxml.specs.reading.Making.{node_at, content_at};
 
 use crate::DocFault;
 use crate::attributes::{read_attributes_when, read_instruction};
+use crate::builder::Builder;
 use crate::fronts::{read_lead, read_name};
 use crate::input::Input;
-use crate::leaves::{kid, read_leaf};
+use crate::leaves::read_leaf;
 use crate::marks::{content_mark, has_attributes, has_content, is_named};
 use crate::state::State;
 use std::alloc::Global;
-use wap_base::Rows;
-use wap_tokens::markup::{ContentMark, Element, Kid, Lead, Token};
+use wap_tokens::markup::{ContentMark, Lead, Token};
 
-/// An element of so many levels at most, after the byte of its tag.
-#[cycle(elements)]
+/// Adds an element of so many levels at most, after the byte of its tag.
+#[cycle(content)]
 #[tactic(auto, unfolding(crate::specs::reading::BodyReading::element_at))]
-pub(crate) fn read_element<'a>(
+fn add_element<'a, B: Builder>(
     alloc: Global,
     input: &Input<'_>,
     state: &mut State,
     levels: u32,
+    content: &mut B::Content,
     lead: Lead,
     bytes: &'a [u8],
-) -> Result<(Element, &'a [u8]), DocFault>
-    ensures { Meets NoMemory (λ read. ((read.0, state.new), read.1.now)) result
-        (element_at input.now levels state.old lead bytes.now) }
+) -> Result<&'a [u8], DocFault>
+    ensures { Meets NoMemory (λ rest. ((content.new, state.new), rest.now)) result
+        (read_as (element_added B.makes levels content.old)
+        (element_at input.now levels state.old lead bytes.now)) }
 {
     if levels == 0 {
         return Err(DocFault::Depth {
             at: input.place_before(bytes),
         });
     }
-    read_parts(alloc, input, state, levels - 1, lead, bytes)
+    add_parts::<B>(alloc, input, state, levels - 1, content, lead, bytes)
 }
 
-/// An element in which elements of so many levels may stand, after the byte of its tag.
-#[cycle(elements)]
+/// Adds an element in which elements of so many levels may stand, after the byte of its tag: what
+/// is made of it, or its content where the tag isn't known.
+#[cycle(content)]
 #[tactic(auto, unfolding(crate::specs::reading::BodyReading::element_by))]
-fn read_parts<'a>(
+fn add_parts<'a, B: Builder>(
     alloc: Global,
     input: &Input<'_>,
     state: &mut State,
     levels: u32,
+    content: &mut B::Content,
     lead: Lead,
     bytes: &'a [u8],
-) -> Result<(Element, &'a [u8]), DocFault>
-    ensures { Meets NoMemory (λ read. ((read.0, state.new), read.1.now)) result
-        (element_by input.now (element_at input.now levels) state.old lead bytes.now) }
+) -> Result<&'a [u8], DocFault>
+    ensures { Meets NoMemory (λ rest. ((content.new, state.new), rest.now)) result
+        (read_as (element_added B.makes (suc levels) content.old)
+        (element_by input.now (element_at input.now levels) state.old lead bytes.now)) }
 {
     state.go_to_tag_page(lead.page);
-    let (tag, rest) = read_tag(alloc, input, state, lead.byte, bytes)?;
-    let has = has_attributes(lead.byte);
-    let (attrs, rest) = read_attributes_when(alloc, input, state, has, rest)?;
-    let has = has_content(lead.byte);
-    let (kids, rest) = read_kids_when(alloc, input, state, levels, has, rest)?;
-    let element = Element {
-        page: lead.page,
-        tag,
-        attrs,
-        kids,
-    };
-    Ok((element, rest))
+    let (token, rest) = read_tag(alloc, input, state, lead.byte, bytes)?;
+    match B::tag(lead.page, token) {
+        Some(tag) => add_node::<B>(alloc, input, state, levels, content, tag, lead, rest),
+        None => add_content::<B>(alloc, input, state, levels, content, lead, rest),
+    }
 }
 
 /// A tag after its byte.
 #[tactic(auto, unfolding(crate::specs::reading::BodyReading::tag_at))]
-pub fn read_tag<'a>(
+pub(crate) fn read_tag<'a>(
     alloc: Global,
     input: &Input<'_>,
     state: &mut State,
@@ -87,78 +88,152 @@ pub fn read_tag<'a>(
     Ok((Token::Literal(name), rest))
 }
 
+/// Adds a node of this tag, after the byte and the name of the tag.
+#[cycle(content)]
+fn add_node<'a, B: Builder>(
+    alloc: Global,
+    input: &Input<'_>,
+    state: &mut State,
+    levels: u32,
+    content: &mut B::Content,
+    tag: B::Tag,
+    lead: Lead,
+    bytes: &'a [u8],
+) -> Result<&'a [u8], DocFault>
+    ensures { Meets NoMemory (λ rest. ((content.new, state.new), rest.now)) result
+        (read_as (B.makes.node_added content.old)
+        (node_at B.makes input.now levels tag lead state.old bytes.now)) }
+{
+    let (node, rest) = read_node::<B>(alloc, input, state, levels, tag, lead, bytes)?;
+    B::add_node(alloc, content, node)?;
+    Ok(rest)
+}
+
+/// A node of this tag, after the byte and the name of the tag.
+#[cycle(content)]
+#[tactic(auto, unfolding(crate::specs::reading::Making::node_at))]
+pub(crate) fn read_node<'a, B: Builder>(
+    alloc: Global,
+    input: &Input<'_>,
+    state: &mut State,
+    levels: u32,
+    tag: B::Tag,
+    lead: Lead,
+    bytes: &'a [u8],
+) -> Result<(B::Node, &'a [u8]), DocFault>
+    ensures { Meets NoMemory (λ read. ((read.0, state.new), read.1.now)) result
+        (node_at B.makes input.now levels tag lead state.old bytes.now) }
+{
+    let has = has_attributes(lead.byte);
+    let (attributes, rest) = read_attributes_when::<B>(alloc, input, state, has, bytes)?;
+    let has = has_content(lead.byte);
+    let (content, rest) = read_content_when::<B>(alloc, input, state, levels, has, rest)?;
+    Ok((B::node(tag, attributes, content), rest))
+}
+
+/// Adds the content of an element whose tag isn't known, after the byte and the name of the tag.
+/// Its attributes are read and left out.
+#[cycle(content)]
+#[tactic(auto, unfolding(crate::specs::reading::Making::content_at))]
+fn add_content<'a, B: Builder>(
+    alloc: Global,
+    input: &Input<'_>,
+    state: &mut State,
+    levels: u32,
+    content: &mut B::Content,
+    lead: Lead,
+    bytes: &'a [u8],
+) -> Result<&'a [u8], DocFault>
+    ensures { Meets NoMemory (λ rest. ((content.new, state.new), rest.now)) result
+        (content_at B.makes input.now levels content.old lead state.old bytes.now) }
+{
+    let has = has_attributes(lead.byte);
+    let (_, rest) = read_attributes_when::<B>(alloc, input, state, has, bytes)?;
+    if !has_content(lead.byte) {
+        return Ok(rest);
+    }
+    add_kids::<B>(alloc, input, state, levels, content, rest)
+}
+
 /// Content up to its end, where there is any.
-#[cycle(elements)]
-fn read_kids_when<'a>(
+#[cycle(content)]
+fn read_content_when<'a, B: Builder>(
     alloc: Global,
     input: &Input<'_>,
     state: &mut State,
     levels: u32,
     has: bool,
     bytes: &'a [u8],
-) -> Result<(Rows<Kid>, &'a [u8]), DocFault>
+) -> Result<(B::Content, &'a [u8]), DocFault>
     ensures { Meets NoMemory (λ read. ((read.0, state.new), read.1.now)) result
-        (when has (kids_at input.now (element_at input.now levels)) state.old bytes.now) }
+        (read_as (kids_added B.makes levels B.makes.no_content)
+        (when has (kids_at input.now (element_at input.now levels)) state.old bytes.now)) }
 {
+    let mut content = B::content(alloc, has)?;
     if !has {
-        return Ok((Rows::new(alloc), bytes));
+        return Ok((content, bytes));
     }
-    read_kids(alloc, input, state, levels, bytes)
+    let rest = add_kids::<B>(alloc, input, state, levels, &mut content, bytes)?;
+    Ok((content, rest))
 }
 
-/// Content up to its end.
-#[cycle(elements)]
-fn read_kids<'a>(
+/// Adds content up to its end.
+#[cycle(content)]
+fn add_kids<'a, B: Builder>(
     alloc: Global,
     input: &Input<'_>,
     state: &mut State,
     levels: u32,
+    content: &mut B::Content,
     bytes: &'a [u8],
-) -> Result<(Rows<Kid>, &'a [u8]), DocFault>
-    ensures { Meets NoMemory (λ read. ((read.0, state.new), read.1.now)) result
-        (kids_at input.now (element_at input.now levels) state.old bytes.now) }
+) -> Result<&'a [u8], DocFault>
+    ensures { Meets NoMemory (λ rest. ((content.new, state.new), rest.now)) result
+        (read_as (kids_added B.makes levels content.old)
+        (kids_at input.now (element_at input.now levels) state.old bytes.now)) }
 {
-    let mut kids = Rows::new(alloc);
     let mut rest = bytes;
     for _ in 0..bytes.len() {
-        let (kid, behind) = next_kid(alloc, input, state, levels, rest)?;
-        rest = behind;
-        match kid {
-            Some(kid) => kids.add(kid)?,
-            None => return Ok((kids, rest)),
+        let (more, after) = add_next_kid::<B>(alloc, input, state, levels, content, rest)?;
+        rest = after;
+        if !more {
+            return Ok(rest);
         }
     }
     Err(DocFault::Short { at: input.total() })
 }
 
-/// The next part of some content, or none after its end.
-#[cycle(elements)]
+/// Adds the next part of some content, and says whether there was one before the end.
+#[cycle(content)]
 #[tactic(auto, unfolding(crate::specs::reading::BodyReading::next_kid))]
-fn next_kid<'a>(
+fn add_next_kid<'a, B: Builder>(
     alloc: Global,
     input: &Input<'_>,
     state: &mut State,
     levels: u32,
+    content: &mut B::Content,
     bytes: &'a [u8],
-) -> Result<(Option<Kid>, &'a [u8]), DocFault>
-    ensures { Meets NoMemory (λ read. ((read.0, state.new), read.1.now)) result
-        (next_kid input.now (element_at input.now levels) state.old bytes.now) }
+) -> Result<(bool, &'a [u8]), DocFault>
+    ensures { Meets NoMemory (λ read. (((read.0, content.new), state.new), read.1.now)) result
+        (read_as (with_next (kid_added B.makes levels) content.old)
+        (next_kid input.now (element_at input.now levels) state.old bytes.now)) }
 {
     let (lead, rest) = read_lead(input.total(), state.tag_page(), bytes)?;
     match content_mark(lead) {
-        ContentMark::End => Ok((None, rest)),
+        ContentMark::End => Ok((false, rest)),
         ContentMark::Element => {
-            let (element, rest) = read_element(alloc, input, state, levels, lead, rest)?;
-            Ok((Some(Kid::Element(element)), rest))
+            let rest = add_element::<B>(alloc, input, state, levels, content, lead, rest)?;
+            Ok((true, rest))
         }
         ContentMark::Pi => {
-            let (instruction, rest) = read_instruction(alloc, input, state, rest)?;
-            Ok((Some(Kid::Pi(instruction)), rest))
+            let (instruction, rest) = read_instruction::<B>(alloc, input, state, rest)?;
+            B::add_instruction(alloc, content, instruction)?;
+            Ok((true, rest))
         }
         ContentMark::Leaf(mark) => {
             let (leaf, rest) = read_leaf(alloc, input, mark, rest)?;
             state.go_to_tag_page(lead.page);
-            Ok((Some(kid(leaf)), rest))
+            B::add_leaf(alloc, content, leaf)?;
+            Ok((true, rest))
         }
         ContentMark::Nothing => Err(DocFault::Token {
             at: input.place_before(rest),

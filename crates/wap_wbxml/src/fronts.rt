@@ -18,7 +18,7 @@ use wap_tokens::markup::{Lead, SWITCH_PAGE};
 
 /// The byte that an item begins with, if there is one, with its page: this one, or the one after a
 /// switch.
-pub fn find_lead(page: u8, bytes: &[u8]) -> Option<(Lead, &[u8])>
+pub(crate) fn find_lead(page: u8, bytes: &[u8]) -> Option<(Lead, &[u8])>
     ensures { MatchOption result (lead_in page bytes.now ≡ None)
         (λ read. lead_in page bytes.now ≡ Some (read.0, read.1.now)) }
 {
@@ -43,7 +43,7 @@ pub fn find_lead(page: u8, bytes: &[u8]) -> Option<(Lead, &[u8])>
 
 /// The same, where there has to be one.
 #[tactic(auto, unfolding(crate::specs::reading::Fronts::lead_at))]
-pub fn read_lead(total: usize, page: u8, bytes: &[u8]) -> Result<(Lead, &[u8]), DocFault>
+pub(crate) fn read_lead(total: usize, page: u8, bytes: &[u8]) -> Result<(Lead, &[u8]), DocFault>
     ensures { Meets NoMemory (λ read. (read.0, read.1.now)) result (lead_at total page bytes.now) }
 {
     match find_lead(page, bytes) {
@@ -68,7 +68,7 @@ pub(crate) fn read_number(total: usize, bytes: &[u8]) -> Result<(u32, &[u8]), Do
 
 /// As many bytes as the number before them says.
 #[tactic(auto, unfolding(crate::specs::reading::Fronts::opaque_at))]
-pub fn read_opaque(total: usize, bytes: &[u8]) -> Result<(&[u8], &[u8]), DocFault>
+pub(crate) fn read_opaque(total: usize, bytes: &[u8]) -> Result<(&[u8], &[u8]), DocFault>
     ensures { Meets NoMemory (λ read. (read.0.now, read.1.now)) result (opaque_at total bytes.now) }
 {
     let (count, rest) = read_number(total, bytes)?;

@@ -15,7 +15,7 @@ use wap_tokens::markup::{DocumentType, Identifier, VERSION, WML_1_1, WML_1_2, WM
 
 /// The version.
 #[tactic(auto, unfolding(crate::specs::reading::Whole::version_at))]
-pub fn read_version(total: usize, bytes: &[u8]) -> Result<(u8, &[u8]), DocFault>
+pub(crate) fn read_version(total: usize, bytes: &[u8]) -> Result<(u8, &[u8]), DocFault>
     ensures { Meets NoMemory (λ read. (read.0, read.1.now)) result (version_at total bytes.now) }
 {
     let Some((version, rest)) = bytes.split_first() else {
@@ -29,7 +29,7 @@ pub fn read_version(total: usize, bytes: &[u8]) -> Result<(u8, &[u8]), DocFault>
 
 /// The public identifier, by its number or by the index of its name.
 #[tactic(auto, unfolding(crate::specs::reading::Whole::identifier_at))]
-pub fn read_identifier(
+pub(crate) fn read_identifier(
     kind: DocumentType,
     total: usize,
     bytes: &[u8],
@@ -76,7 +76,7 @@ fn is_public(number: u32) -> bool
 
 /// The character set, with its number.
 #[tactic(auto, unfolding(crate::specs::reading::Whole::charset_at))]
-pub fn read_charset(total: usize, bytes: &[u8]) -> Result<((u32, Charset), &[u8]), DocFault>
+pub(crate) fn read_charset(total: usize, bytes: &[u8]) -> Result<((u32, Charset), &[u8]), DocFault>
     ensures { Meets NoMemory (λ read. (read.0, read.1.now)) result (charset_at total bytes.now) }
 {
     let (number, rest) = read_number(total, bytes)?;
@@ -88,7 +88,7 @@ pub fn read_charset(total: usize, bytes: &[u8]) -> Result<((u32, Charset), &[u8]
 
 /// The number of a public identifier, whose name the string table may have.
 #[tactic(auto, unfolding(crate::specs::reading::Whole::public_of))]
-pub fn find_public(table: &[u8], identifier: Identifier) -> Result<u32, DocFault>
+pub(crate) fn find_public(table: &[u8], identifier: Identifier) -> Result<u32, DocFault>
     ensures { Meets NoMemory (λ number. number) result (public_of table.now identifier) }
 {
     match identifier {

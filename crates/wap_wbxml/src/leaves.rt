@@ -14,7 +14,7 @@ use wap_tokens::markup::{Kid, Leaf, LeafMark, Piece, Role};
 
 /// A string, a character, a reference, an extension or opaque data, after the byte that says so.
 #[tactic(auto, unfolding(crate::specs::reading::BodyReading::leaf_at))]
-pub fn read_leaf<'a>(
+pub(crate) fn read_leaf<'a>(
     alloc: Global,
     input: &Input<'_>,
     mark: LeafMark,

@@ -12,7 +12,7 @@ use wap_tokens::markup::{
 
 /// What a byte says in content.
 #[tactic(auto, unfolding(wap_tokens::specs::markup::Codes::content_mark))]
-pub fn content_mark(lead: Lead) -> ContentMark
+pub(crate) fn content_mark(lead: Lead) -> ContentMark
     ensures { result ≡ content_mark lead }
 {
     if lead.byte % 64 >= LITERAL {
@@ -32,7 +32,7 @@ pub fn content_mark(lead: Lead) -> ContentMark
 
 /// What a byte says in attributes.
 #[tactic(auto, unfolding(wap_tokens::specs::markup::Codes::attribute_mark))]
-pub fn attribute_mark(lead: Lead) -> AttributeMark
+pub(crate) fn attribute_mark(lead: Lead) -> AttributeMark
     ensures { result ≡ attribute_mark lead }
 {
     if lead.byte % 64 > LITERAL {
@@ -105,14 +105,14 @@ pub(crate) fn is_named(tag: u8) -> bool
 }
 
 /// Whether attributes stand after a tag.
-pub fn has_attributes(tag: u8) -> bool
+pub(crate) fn has_attributes(tag: u8) -> bool
     ensures { result ≡ has_attributes tag }
 {
     tag >= 128
 }
 
 /// Whether content stands after a tag, and after its attributes if it has them.
-pub fn has_content(tag: u8) -> bool
+pub(crate) fn has_content(tag: u8) -> bool
     ensures { result ≡ has_content tag }
 {
     tag % 128 >= 64

@@ -27,8 +27,7 @@ use Rattle.wap_tokens.specs.markup.Decks.{kids_marks, element_from, element_mark
 use Rattle.wap_tokens.specs.markup.Normal.{IsPart, marks_in, marks_of, IsItem, IsContent, IsNode}
 use Rattle.wap_tokens.specs.markup.Normal.{IsNormal}
 use Rattle.wap_tokens.specs.markup.Writing.{runs_of, run_kid, part_kids, kids_from, item_kids}
-use Rattle.wap_tokens.specs.markup.Writing.{items_kids}
-use Rattle.wap_tokens.specs.markup.Writing.{element_of, node_kids, document_of, attr_of}
+use Rattle.wap_tokens.specs.markup.Writing.{items_kids, element_of, node_kids, document_of, attr_of}
 use Rattle.wap_tokens.proofs.TagTable as table
 use Rattle.wap_deck.proofs.DocumentsLemmas.Items.{words_of-Text}
 use Rattle.wap_deck.proofs.DocumentsLemmas.Strings.{run_part, put_by, Joins, put_runs, before-joins}

@@ -1,9 +1,10 @@
--- Decks that documents mean are normal.
-use Rattle.std.proofs.Common.{◌≡◌, ◌≢◌, ℕ, zero, suc, ◌-◌, List, [], ◌∷◌, ◌++◌, map, Option}
-use Rattle.std.proofs.Common.{Some, None, refl, sym, ap, ◌∙◌, subst, inl, inr}
+-- Decks that documents mean are normal, and of texts where the documents' strings are texts.
+use Rattle.std.proofs.Common.{◌≡◌, ◌≢◌, ℕ, zero, suc, ◌-◌, List, [], ◌∷◌, ◌++◌, Option}
+use Rattle.std.proofs.Common.{Some, None, refl, sym, subst, inl, inr}
 use Rattle.std.specs.List.{filter_map, cons_option, AllByRecursion}
 use Rattle.std.specs.Option.{option_and_then}
-use Rattle.std.proofs.lemmas.Bool.{cases_Bool, cond-true, cond-false}
+use Rattle.std.specs.Str.{all_scalars}
+use Rattle.std.proofs.lemmas.Bool.{cases_Bool, cond-true, cond-false, and_from}
 use lib.Utf8.{scalar}
 use Rattle.wap_tokens.specs.declared.markup.document.TheConstants.{LEVEL_LIMIT}
 use Rattle.wap_base.specs.Names.{is_name}
@@ -29,254 +30,68 @@ use Rattle.wap_tokens.specs.declared.markup.name.Tag.TheVariants as tags
 use Rattle.wap_tokens.specs.declared.markup.name.AttrName.{AttrName}
 use Rattle.wap_tokens.specs.markup.Tables.{Start, attr_value}
 use Rattle.wap_tokens.specs.markup.Trees.{ItemLevel, words_from}
-use Rattle.wap_tokens.specs.markup.Decks.{
-  literal,
-  character,
-  reference,
-  before,
-  joined,
-  piece_part,
-  value_after,
-  start_of,
-  attribute_from,
-  attribute,
-  Mark,
-  part,
-  node,
-  text_before,
-  part_before,
-  items_of,
-  part_marks,
-  marks_from,
-  KidLevel,
-  kid_marks,
-  kids_marks,
-  tag_in,
-  element_from,
-  element_marks,
-  deck_of,
-}
-use Rattle.wap_tokens.specs.markup.Normal.{IsPart, IsValue, IsAttribute, marks_in, marks_of}
-use Rattle.wap_tokens.specs.markup.Normal.{IsItem, IsContent, IsElement, IsNode, IsNormal}
+use Rattle.wap_tokens.specs.markup.Decks.{literal, character, reference, before, joined, piece_part}
+use Rattle.wap_tokens.specs.markup.Decks.{value_after, start_of, attribute_from, attribute, Mark}
+use Rattle.wap_tokens.specs.markup.Decks.{part, node, text_before, part_before, items_of}
+use Rattle.wap_tokens.specs.markup.Decks.{part_marks, marks_from, KidLevel, kid_marks, kids_marks}
+use Rattle.wap_tokens.specs.markup.Decks.{tag_in, element_from, element_marks, deck_of}
+use Rattle.wap_tokens.specs.markup.Normal.{IsPart, IsAttribute, IsItem, IsElement, IsNode, IsNormal}
 use Rattle.wap_tokens.proofs.TagTable.{tag_of-known, tag_named-known}
-use Rattle.wap_deck.proofs.DocumentsLemmas.Strings.{before-joins}
-use Rattle.wap_deck.proofs.DocumentsLemmas.Nodes.{put_marks, put_marks-append, items_of-put}
-use Rattle.wap_deck.proofs.DocumentsLemmas.Nodes.{part_before-joins}
+use Rattle.wap_wbxml.specs.spelling.Characters.{OfPart, OfAttr, OfItem, OfOpened, OfNode}
+use Rattle.wap_wbxml.specs.spelling.Spellable.{IsString, FitsPiece, FitsAttr, FitsOpened, FitsKid}
+use Rattle.wap_wbxml.specs.spelling.Spellable.{FitsElementOf, FitsElement, HasTexts}
+use Rattle.wap_deck.proofs.DocumentsLemmas.Characters.{OfCharacters, text_append, value_text}
+use Rattle.wap_deck.proofs.DocumentsLemmas.Characters.{start_text}
+use Rattle.wap_deck.proofs.DocumentsLemmas.Together.{joined-joined, items_together}
 
--- ---- parts
+-- ---- lists
 
-abbrev IsAny : Option Part → Type 0
-IsAny None = Unit {0}
-IsAny (Some one) = IsPart one
+all_map : {A : Type 0} (P R : A → Type 0) → ((x : A) → P x → R x) → (xs : List A)
+    → AllByRecursion P xs → AllByRecursion R xs
+all_map P R gives [] each = tt
+all_map P R gives (x ∷ xs) each = (gives x each.0, all_map P R gives xs each.1)
 
-literal_any : (text : List ℕ) → IsAny (literal text)
-literal_any [] = tt
-literal_any (c ∷ cs) = λ none. absurd (cc none)
+each_append : {A : Type 0} (P : A → Type 0) (xs more : List A) → AllByRecursion P xs
+    → AllByRecursion P more → AllByRecursion P (xs ++ more)
+each_append P [] more each others = others
+each_append P (x ∷ xs) more each others = (each.0, each_append P xs more each.1 others)
 
-character_any : (number : ℕ) → IsAny (character number)
-character_any number = elim (cases_Bool (scalar number)) [
-  | inl is ↦
-      subst IsAny (sym (cond-true (scalar number) (Some (Lit (number ∷ []))) None is))
-      (λ none. absurd (cc none))
-  | inr isnt ↦
-      subst IsAny (sym (cond-false (scalar number) (Some (Lit (number ∷ []))) None isnt)) tt
-]
+-- ---- nodes of characters at all levels
 
-reference_any : (name : List ℕ) (conv : Conv) → IsAny (reference name conv)
-reference_any name conv = elim (cases_Bool (is_name name)) [
-  | inl is ↦ subst IsAny (sym (cond-true (is_name name) (Some (Var name conv)) None is)) is
-  | inr isnt ↦ subst IsAny (sym (cond-false (is_name name) (Some (Var name conv)) None isnt)) tt
-]
+abbrev OfAll : Node → Type 0
+OfAll one = (levels : ℕ) → OfNode levels one
 
-coded_any : (found : Option (List ℕ)) → IsAny (option_and_then literal found)
-coded_any None = tt
-coded_any (Some text) = literal_any text
+of_item : (levels : ℕ) (level : ItemLevel) → OfItem OfAll level → OfItem (OfNode levels) level
+of_item levels (Item-F.Text parts) of = of
+of_item levels (Item-F.Node one) of = of levels
 
-piece_any : (one : Piece) → IsAny (piece_part one)
-piece_any (piece.Code page code) = coded_any (attr_value page code)
-piece_any (piece.Str text) = literal_any text
-piece_any (piece.Entity number) = character_any number
-piece_any (piece.Var name conv) = reference_any name conv
-piece_any (piece.Ext index) = tt
-piece_any (piece.Opaque bytes) = tt
-
-cons_any : (first : Option Part) (parts : List Part) → IsAny first → AllByRecursion IsPart parts →
-    AllByRecursion IsPart (cons_option first parts)
-cons_any None parts is each = each
-cons_any (Some first) parts is each = (is, each)
-
-pieces_are_parts : (pieces : List Piece) → AllByRecursion IsPart (filter_map piece_part pieces)
-pieces_are_parts [] = tt
-pieces_are_parts (one ∷ pieces) =
-    cons_any (piece_part one) (filter_map piece_part pieces) (piece_any one)
-    (pieces_are_parts pieces)
-
-no_part : (a b : List ℕ) → a ≢ [] → a ++ b ≢ []
-no_part [] b some none = absurd (some refl)
-no_part (c ∷ a) b some none = absurd (cc none)
-
-before_each : (first : Part) (parts : List Part) → IsPart first → AllByRecursion IsPart parts →
-    AllByRecursion IsPart (before first parts)
-before_each (Lit a) [] is each = (is, tt)
-before_each (Lit a) (Lit b ∷ parts) is each = (no_part a b is, each.1)
-before_each (Lit a) (Var name conv ∷ parts) is each = (is, each)
-before_each (Var name conv) parts is each = (is, each)
-
-joined_each : (parts : List Part) → AllByRecursion IsPart parts →
-    AllByRecursion IsPart (joined parts)
-joined_each [] each = tt
-joined_each (first ∷ parts) each =
-    before_each first (joined parts) each.0 (joined_each parts each.1)
-
-joined-before : (first : Part) (parts : List Part) →
-    joined (before first parts) ≡ before first (joined parts)
-joined-before (Lit a) [] = refl
-joined-before (Lit a) (Lit b ∷ parts) = sym (before-joins a b (joined parts))
-joined-before (Lit a) (Var name conv ∷ parts) = refl
-joined-before (Var name conv) parts = refl
-
-joined-joined : (parts : List Part) → joined (joined parts) ≡ joined parts
-joined-joined [] = refl
-joined-joined (first ∷ parts) =
-    joined-before first (joined parts) ∙ ap (before first) (joined-joined parts)
-
-value_is : (parts : List Part) → AllByRecursion IsPart parts → IsValue (joined parts)
-value_is parts each = record { each = joined_each parts each; together = joined-joined parts }
-
--- ---- attributes
-
-begun_is : (text : List ℕ) (value : List Piece) → IsValue (value_after text value)
-begun_is text value =
-    value_is (cons_option (literal text) (filter_map piece_part value)) (cons_any (literal text)
-    (filter_map piece_part value) (literal_any text) (pieces_are_parts value))
-
-attribute_more : (start : Option Start) (value : List Piece)
-    (others : List (AttrName × List Part)) → AllByRecursion IsAttribute others →
-    AllByRecursion IsAttribute (cons_option (attribute_from start value) others)
-attribute_more None value others each = each
-attribute_more (Some start) value others each = (begun_is start.1 value, each)
-
-attributes_are : (attrs : List Attr) → AllByRecursion IsAttribute (filter_map attribute attrs)
-attributes_are [] = tt
-attributes_are (attr ∷ attrs) =
-    attribute_more (start_of attr.page attr.start) attr.value (filter_map attribute attrs)
-    (attributes_are attrs)
-
--- ---- content that is put together again
-
-put_before : (first : Part) (parts : List Part) (rest : List Item) →
-    put_marks (map part (before first parts)) rest
-    ≡ part_before first (put_marks (map part parts) rest)
-put_before (Lit a) [] rest = refl
-put_before (Lit a) (Lit b ∷ parts) rest =
-    sym (part_before-joins a b (put_marks (map part parts) rest))
-put_before (Lit a) (Var name conv ∷ parts) rest = refl
-put_before (Var name conv) parts rest = refl
-
--- a part before items is before their marks
-marks_before : (first : Part) (level : ItemLevel) (next : Item) (items : List Item) →
-    out-Item next ≡ level → (rest : List Item) →
-    put_marks (marks_of (text_before first next (words_from level) items)) rest
-    ≡ part_before first (put_marks (marks_of (next ∷ items)) rest)
-marks_before first (Item-F.Text parts) next items opened rest =
-    let marks = marks_of items in
-    ap (λ level. put_marks (marks_in level ++ marks) rest) (outs-Text (before first parts))
-    ∙ put_marks-append (map part (before first parts)) marks rest ∙
-    put_before first parts (put_marks marks rest) ∙
-    ap (part_before first) (sym (put_marks-append (map part parts) marks rest)
-    ∙ ap (λ level. put_marks (marks_in level ++ marks) rest) (sym opened))
-marks_before first (Item-F.Node one) next items opened rest =
-    ap (λ level. put_marks (marks_in level ++ marks_of (next ∷ items)) rest)
-    (outs-Text (first ∷ []))
-
-marks_of-before : (first : Part) (items rest : List Item) →
-    put_marks (marks_of (part_before first items)) rest
-    ≡ part_before first (put_marks (marks_of items) rest)
-marks_of-before first [] rest =
-    ap (λ level. put_marks (marks_in level ++ []) rest) (outs-Text (first ∷ []))
-marks_of-before first (next ∷ items) rest = marks_before first (out-Item next) next items refl rest
-
-marks_of-items : (marks : List Mark) (rest : List Item) →
-    put_marks (marks_of (items_of marks)) rest ≡ put_marks marks rest
-marks_of-items [] rest = refl
-marks_of-items (part first ∷ marks) rest =
-    marks_of-before first (items_of marks) rest ∙ ap (part_before first) (marks_of-items marks rest)
-marks_of-items (node first ∷ marks) rest =
-    ap (λ level. put_marks (marks_in level ++ marks_of (items_of marks)) rest) (outs-Node first)
-    ∙ ap (λ items. item.Node first ∷ items) (marks_of-items marks rest)
-
-items_together : (marks : List Mark) → items_of (marks_of (items_of marks)) ≡ items_of marks
-items_together marks =
-    items_of-put (marks_of (items_of marks)) ∙ marks_of-items marks [] ∙ sym (items_of-put marks)
-
--- ---- each item
-
-abbrev IsMark : (Node → Type 0) → Mark → Type 0
-IsMark inner (part first) = IsPart first
-IsMark inner (node first) = inner first
-
-abbrev IsOpened : (Node → Type 0) → Item → Type 0
-IsOpened inner one = IsItem inner (out-Item one)
-
-text_opened : (inner : Node → Type 0) (parts : List Part) → AllByRecursion IsPart parts →
-    IsOpened inner (item.Text parts)
-text_opened inner parts each = subst (IsItem inner) (sym (outs-Text parts)) each
-
-node_opened : (inner : Node → Type 0) (one : Node) → inner one → IsOpened inner (item.Node one)
-node_opened inner one is = subst (IsItem inner) (sym (outs-Node one)) is
-
-before_opened : (inner : Node → Type 0) (first : Part) (level : ItemLevel) (next : Item)
-    (items : List Item) → out-Item next ≡ level → IsPart first → IsItem inner level →
-    AllByRecursion (IsOpened inner) (next ∷ items) →
-    AllByRecursion (IsOpened inner) (text_before first next (words_from level) items)
-before_opened inner first (Item-F.Text parts) next items opened is parts_are each =
-    (text_opened inner (before first parts) (before_each first parts is parts_are), each.1)
-before_opened inner first (Item-F.Node one) next items opened is one_is each =
-    (text_opened inner (first ∷ []) (is, tt), each)
-
-part_before_each : (inner : Node → Type 0) (first : Part) (items : List Item) → IsPart first →
-    AllByRecursion (IsOpened inner) items →
-    AllByRecursion (IsOpened inner) (part_before first items)
-part_before_each inner first [] is each = (text_opened inner (first ∷ []) (is, tt), tt)
-part_before_each inner first (next ∷ items) is each =
-    before_opened inner first (out-Item next) next items refl is each.0 each
-
-items_each : (inner : Node → Type 0) (marks : List Mark) → AllByRecursion (IsMark inner) marks →
-    AllByRecursion (IsOpened inner) (items_of marks)
-items_each inner [] each = tt
-items_each inner (part first ∷ marks) each =
-    part_before_each inner first (items_of marks) each.0 (items_each inner marks each.1)
-items_each inner (node first ∷ marks) each =
-    (node_opened inner first each.0, items_each inner marks each.1)
-
-content_is : (inner : Node → Type 0) (marks : List Mark) → AllByRecursion (IsMark inner) marks →
-    IsContent inner (items_of marks)
-content_is inner marks each =
-    record { each = items_each inner marks each; together = items_together marks }
+of_all : (one : Node) → AllByRecursion OfAttr one.attrs → AllByRecursion (OfOpened OfAll) one.kids
+    → (levels : ℕ) → OfNode levels one
+unfolding OfNode
+of_all one attrs kids zero = tt
+of_all one attrs kids (suc levels) = record {
+  attrs = attrs;
+  kids =
+      all_map (OfOpened OfAll) (OfOpened (OfNode levels)) (λ one. of_item levels (out-Item one))
+      one.kids kids;
+}
 
 -- ---- what holds of fewer levels holds of more
 
-item_grown : (inner outer : Node → Type 0) → ((one : Node) → inner one → outer one) →
-    (level : ItemLevel) → IsItem inner level → IsItem outer level
+item_grown : (inner outer : Node → Type 0) → ((one : Node) → inner one → outer one)
+    → (level : ItemLevel) → IsItem inner level → IsItem outer level
 item_grown inner outer grows (Item-F.Text parts) is = is
 item_grown inner outer grows (Item-F.Node one) is = grows one is
 
-items_grown : (inner outer : Node → Type 0) → ((one : Node) → inner one → outer one) →
-    (items : List Item) → AllByRecursion (IsOpened inner) items →
-    AllByRecursion (IsOpened outer) items
-items_grown inner outer grows [] each = tt
-items_grown inner outer grows (first ∷ items) each = (
-  item_grown inner outer grows (out-Item first) each.0,
-  items_grown inner outer grows items each.1,
-)
-
-element_grown : (inner outer : Node → Type 0) → ((one : Node) → inner one → outer one) →
-    (one : Node) → IsElement inner one → IsElement outer one
+element_grown : (inner outer : Node → Type 0) → ((one : Node) → inner one → outer one)
+    → (one : Node) → IsElement inner one → IsElement outer one
 element_grown inner outer grows one is = record {
   known = is.known;
   attributes = is.attributes;
   content = record {
-    each = items_grown inner outer grows one.kids is.content.each;
+    each =
+        all_map (λ item. IsItem inner (out-Item item)) (λ item. IsItem outer (out-Item item))
+        (λ item. item_grown inner outer grows (out-Item item)) one.kids is.content.each;
     together = is.content.together;
   };
 }
@@ -286,83 +101,279 @@ node_grown zero one is = absurd is
 node_grown (suc levels) one is =
     element_grown (IsNode levels) (IsNode (suc levels)) (node_grown levels) one is
 
-mark_grown : (levels : ℕ) (mark : Mark) → IsMark (IsNode levels) mark →
-    IsMark (IsNode (suc levels)) mark
-mark_grown levels (part first) is = is
-mark_grown levels (node first) is = node_grown levels first is
-
-marks_grown : (levels : ℕ) (marks : List Mark) → AllByRecursion (IsMark (IsNode levels)) marks →
-    AllByRecursion (IsMark (IsNode (suc levels))) marks
-marks_grown levels [] each = tt
-marks_grown levels (mark ∷ marks) each =
-    (mark_grown levels mark each.0, marks_grown levels marks each.1)
-
 -- ---- elements
-
-each_append : (P : Mark → Type 0) (marks more : List Mark) → AllByRecursion P marks →
-    AllByRecursion P more → AllByRecursion P (marks ++ more)
-each_append P [] more each others = others
-each_append P (mark ∷ marks) more each others = (each.0, each_append P marks more each.1 others)
-
-any_mark : (inner : Node → Type 0) (one : Option Part) → IsAny one →
-    AllByRecursion (IsMark inner) (part_marks one)
-any_mark inner None is = tt
-any_mark inner (Some one) is = (is, tt)
-
-kid_marks_are : (P : Node → Type 0) (inner : Element → List Mark) →
-    ((element : Element) → AllByRecursion (IsMark P) (inner element)) → (level : KidLevel) →
-    AllByRecursion (IsMark P) (marks_from inner level)
-kid_marks_are P inner are (Kid-F.Element element) = are element
-kid_marks_are P inner are (Kid-F.Str text) = any_mark P (literal text) (literal_any text)
-kid_marks_are P inner are (Kid-F.Entity number) =
-    any_mark P (character number) (character_any number)
-kid_marks_are P inner are (Kid-F.Var name conv) =
-    any_mark P (reference name conv) (reference_any name conv)
-kid_marks_are P inner are (Kid-F.Ext index) = tt
-kid_marks_are P inner are (Kid-F.Opaque bytes) = tt
-kid_marks_are P inner are (Kid-F.Pi attr) = tt
-
-kids_marks_are : (P : Node → Type 0) (inner : Element → List Mark) →
-    ((element : Element) → AllByRecursion (IsMark P) (inner element)) → (kids : List Kid) →
-    AllByRecursion (IsMark P) (kids_marks inner kids)
-kids_marks_are P inner are [] = tt
-kids_marks_are P inner are (kid ∷ kids) =
-    each_append (IsMark P) (kid_marks inner kid) (kids_marks inner kids)
-    (kid_marks_are P inner are (out-Kid kid)) (kids_marks_are P inner are kids)
 
 tag_known : (page : ℕ) (token : Token) (tag : Tag) → tag_in page token ≡ Some tag → tag ≢ tags.Other
 tag_known page (Code code) tag found = tag_of-known page code tag found
 tag_known page (Literal name) tag found = tag_named-known name tag found
 
-element_are : (levels : ℕ) (attrs : List Attr) (content : List Mark) (found : Option Tag) →
-    ((tag : Tag) → found ≡ Some tag → tag ≢ tags.Other) →
-    AllByRecursion (IsMark (IsNode levels)) content →
-    AllByRecursion (IsMark (IsNode (suc levels))) (element_from found attrs content)
-element_are levels attrs content None known each = marks_grown levels content each
-element_are levels attrs content (Some tag) known each = (
-  record {
-    known = known tag refl;
-    attributes = attributes_are attrs;
-    content = content_is (IsNode levels) content each;
-  },
-  tt,
-)
+fits_inside : (levels : ℕ) (element : Element) → FitsElement IsString (suc levels) element
+    → FitsElementOf IsString (FitsElement IsString levels) element
+unfolding FitsElement
+fits_inside levels element fits = fits
 
-element_marks_are : (levels : ℕ) (element : Element) →
-    AllByRecursion (IsMark (IsNode levels)) (element_marks levels element)
-element_marks_are zero element = tt
-element_marks_are (suc levels) element =
-    element_are levels element.attrs (kids_marks (element_marks levels) element.kids)
-    (tag_in element.page element.tag) (tag_known element.page element.tag)
-    (kids_marks_are (IsNode levels) (element_marks levels) (element_marks_are levels) element.kids)
+no_part : (a b : List ℕ) → a ≢ [] → a ++ b ≢ []
+no_part [] b some none = absurd (some refl)
+no_part (c ∷ a) b some none = absurd (cc none)
+
+-- ---- documents whose strings are texts where some Q holds
+
+module _ (Q : Type 0) where
+  -- what holds of each, and more of it where Q holds
+  abbrev Both : {A : Type 0} → (A → Type 0) → (A → Type 0) → A → Type 0
+  Both P R x = P x × (Q → R x)
+
+  both : {A : Type 0} (P R : A → Type 0) (xs : List A) → AllByRecursion (Both P R) xs
+      → AllByRecursion P xs × (Q → AllByRecursion R xs)
+  both P R [] each = (tt, λ q. tt)
+  both P R (x ∷ xs) each =
+      let rest = both P R xs each.1 in ((each.0.0, rest.0), λ q. (each.0.1 q, rest.1 q))
+
+  both_each : {A : Type 0} (P R : A → Type 0) (xs : List A) → AllByRecursion P xs
+      → (Q → AllByRecursion R xs) → AllByRecursion (Both P R) xs
+  both_each P R [] each of = tt
+  both_each P R (x ∷ xs) each of =
+      ((each.0, λ q. (of q).0), both_each P R xs each.1 (λ q. (of q).1))
+
+  -- ---- parts
+
+  abbrev IsOne : Part → Type 0
+  IsOne one = Both IsPart OfPart one
+
+  abbrev IsAny : Option Part → Type 0
+  IsAny None = Unit {0}
+  IsAny (Some one) = IsOne one
+
+  literal_any : (text : List ℕ) → (Q → OfCharacters text) → IsAny (literal text)
+  literal_any [] of = tt
+  literal_any (c ∷ cs) of = (λ none. absurd (cc none), of)
+
+  character_any : (number : ℕ) → IsAny (character number)
+  character_any number = elim (cases_Bool (scalar number)) [
+    | inl is ↦
+        subst IsAny (sym (cond-true (scalar number) (Some (Lit (number ∷ []))) None is))
+        (λ none. absurd (cc none), λ q. and_from (scalar number) (all_scalars []) is refl)
+    | inr isnt ↦
+        subst IsAny (sym (cond-false (scalar number) (Some (Lit (number ∷ []))) None isnt)) tt
+  ]
+
+  reference_any : (name : List ℕ) (conv : Conv) → IsAny (reference name conv)
+  reference_any name conv = elim (cases_Bool (is_name name)) [
+    | inl is ↦
+        subst IsAny (sym (cond-true (is_name name) (Some (Var name conv)) None is)) (is, λ q. tt)
+    | inr isnt ↦
+        subst IsAny (sym (cond-false (is_name name) (Some (Var name conv)) None isnt)) tt
+  ]
+
+  coded_any : (found : Option (List ℕ))
+      → ((text : List ℕ) → found ≡ Some text → OfCharacters text)
+      → IsAny (option_and_then literal found)
+  coded_any None are = tt
+  coded_any (Some text) are = literal_any text (λ q. are text refl)
+
+  piece_any : (one : Piece) → (Q → FitsPiece IsString one) → IsAny (piece_part one)
+  piece_any (piece.Code page code) fits = coded_any (attr_value page code) (value_text page code)
+  piece_any (piece.Str text) fits = literal_any text (λ q. (fits q).1)
+  piece_any (piece.Entity number) fits = character_any number
+  piece_any (piece.Var name conv) fits = reference_any name conv
+  piece_any (piece.Ext index) fits = tt
+  piece_any (piece.Opaque bytes) fits = tt
+
+  cons_any : (first : Option Part) (parts : List Part) → IsAny first → AllByRecursion IsOne parts
+      → AllByRecursion IsOne (cons_option first parts)
+  cons_any None parts is each = each
+  cons_any (Some first) parts is each = (is, each)
+
+  pieces_are_parts : (pieces : List Piece) → (Q → AllByRecursion (FitsPiece IsString) pieces)
+      → AllByRecursion IsOne (filter_map piece_part pieces)
+  pieces_are_parts [] fit = tt
+  pieces_are_parts (one ∷ pieces) fit =
+      cons_any (piece_part one) (filter_map piece_part pieces) (piece_any one (λ q. (fit q).0))
+      (pieces_are_parts pieces (λ q. (fit q).1))
+
+  before_each : (first : Part) (parts : List Part) → IsOne first → AllByRecursion IsOne parts
+      → AllByRecursion IsOne (before first parts)
+  before_each (Lit a) [] is each = (is, tt)
+  before_each (Lit a) (Lit b ∷ parts) is each =
+      ((no_part a b is.0, λ q. text_append a b (is.1 q) (each.0.1 q)), each.1)
+  before_each (Lit a) (Var name conv ∷ parts) is each = (is, each)
+  before_each (Var name conv) parts is each = (is, each)
+
+  joined_each : (parts : List Part) → AllByRecursion IsOne parts
+      → AllByRecursion IsOne (joined parts)
+  joined_each [] each = tt
+  joined_each (first ∷ parts) each =
+      before_each first (joined parts) each.0 (joined_each parts each.1)
+
+  -- ---- attributes
+
+  abbrev IsAttr : AttrName × List Part → Type 0
+  IsAttr attr = Both IsAttribute OfAttr attr
+
+  begun_is : (attr : AttrName) (text : List ℕ) → (Q → OfCharacters text) → (value : List Piece)
+      → (Q → AllByRecursion (FitsPiece IsString) value) → IsAttr (attr, value_after text value)
+  begun_is attr text of value fit =
+      let parts = cons_option (literal text) (filter_map piece_part value) in
+      let are =
+      both IsPart OfPart (joined parts)
+      (joined_each parts (cons_any (literal text) (filter_map piece_part value)
+      (literal_any text of) (pieces_are_parts value fit))) in
+      (record { each = are.0; together = joined-joined parts }, are.1)
+
+  attribute_more : (start : Option Start)
+      → ((found : Start) → start ≡ Some found → OfCharacters found.1) → (value : List Piece)
+      → (Q → AllByRecursion (FitsPiece IsString) value) → (others : List (AttrName × List Part))
+      → AllByRecursion IsAttr others
+      → AllByRecursion IsAttr (cons_option (attribute_from start value) others)
+  attribute_more None are value fit others each = each
+  attribute_more (Some start) are value fit others each =
+      (begun_is start.0 start.1 (λ q. are start refl) value fit, each)
+
+  attributes_are : (attrs : List Attr) → (Q → AllByRecursion (FitsAttr IsString) attrs)
+      → AllByRecursion IsAttr (filter_map attribute attrs)
+  attributes_are [] fit = tt
+  attributes_are (attr ∷ attrs) fit =
+      attribute_more (start_of attr.page attr.start) (start_text attr.page attr.start) attr.value
+      (λ q. (fit q).0.value) (filter_map attribute attrs) (attributes_are attrs (λ q. (fit q).1))
+
+  -- ---- items
+
+  abbrev IsLevel : ℕ → ItemLevel → Type 0
+  IsLevel levels level = Both (IsItem (IsNode levels)) (OfItem OfAll) level
+
+  abbrev IsOpened : ℕ → Item → Type 0
+  IsOpened levels one = IsLevel levels (out-Item one)
+
+  abbrev IsMark : ℕ → Mark → Type 0
+  IsMark levels (part first) = IsOne first
+  IsMark levels (node first) = IsNode levels first × (Q → OfAll first)
+
+  text_opened : (levels : ℕ) (parts : List Part) → AllByRecursion IsOne parts
+      → IsOpened levels (item.Text parts)
+  text_opened levels parts each =
+      subst (IsLevel levels) (sym (outs-Text parts)) (both IsPart OfPart parts each)
+
+  before_opened : (levels : ℕ) (first : Part) (level : ItemLevel) (next : Item) (items : List Item)
+      → IsOne first → IsLevel levels level → AllByRecursion (IsOpened levels) (next ∷ items)
+      → AllByRecursion (IsOpened levels) (text_before first next (words_from level) items)
+  before_opened levels first (Item-F.Text parts) next items is are each = (
+    text_opened levels (before first parts)
+        (before_each first parts is (both_each IsPart OfPart parts are.0 are.1)),
+    each.1,
+  )
+  before_opened levels first (Item-F.Node one) next items is one_is each =
+      (text_opened levels (first ∷ []) (is, tt), each)
+
+  part_before_each : (levels : ℕ) (first : Part) (items : List Item) → IsOne first
+      → AllByRecursion (IsOpened levels) items
+      → AllByRecursion (IsOpened levels) (part_before first items)
+  part_before_each levels first [] is each = (text_opened levels (first ∷ []) (is, tt), tt)
+  part_before_each levels first (next ∷ items) is each =
+      before_opened levels first (out-Item next) next items is each.0 each
+
+  items_each : (levels : ℕ) (marks : List Mark) → AllByRecursion (IsMark levels) marks
+      → AllByRecursion (IsOpened levels) (items_of marks)
+  items_each levels [] each = tt
+  items_each levels (part first ∷ marks) each =
+      part_before_each levels first (items_of marks) each.0 (items_each levels marks each.1)
+  items_each levels (node first ∷ marks) each =
+      (subst (IsLevel levels) (sym (outs-Node first)) each.0, items_each levels marks each.1)
+
+  content_are : (levels : ℕ) (marks : List Mark) → AllByRecursion (IsMark levels) marks
+      → AllByRecursion (λ one. IsItem (IsNode levels) (out-Item one)) (items_of marks)
+      × (Q → AllByRecursion (OfOpened OfAll) (items_of marks))
+  content_are levels marks each =
+      both (λ one. IsItem (IsNode levels) (out-Item one)) (OfOpened OfAll) (items_of marks)
+      (items_each levels marks each)
+
+  mark_grown : (levels : ℕ) (mark : Mark) → IsMark levels mark → IsMark (suc levels) mark
+  mark_grown levels (part first) is = is
+  mark_grown levels (node first) is = (node_grown levels first is.0, is.1)
+
+  -- ---- elements
+
+  any_mark : (levels : ℕ) (one : Option Part) → IsAny one
+      → AllByRecursion (IsMark levels) (part_marks one)
+  any_mark levels None is = tt
+  any_mark levels (Some one) is = (is, tt)
+
+  module _ (levels : ℕ) (Fits : Element → Type 0) (inner : Element → List Mark)
+      (are : (element : Element) → (Q → Fits element)
+      → AllByRecursion (IsMark levels) (inner element)) where
+    kid_marks_are : (level : KidLevel) → (Q → FitsOpened IsString Fits level)
+        → AllByRecursion (IsMark levels) (marks_from inner level)
+    kid_marks_are (Kid-F.Element element) fits = are element fits
+    kid_marks_are (Kid-F.Str text) fits =
+        any_mark levels (literal text) (literal_any text (λ q. (fits q).1))
+    kid_marks_are (Kid-F.Entity number) fits =
+        any_mark levels (character number) (character_any number)
+    kid_marks_are (Kid-F.Var name conv) fits =
+        any_mark levels (reference name conv) (reference_any name conv)
+    kid_marks_are _ fits = tt
+
+    kids_marks_are : (kids : List Kid) → (Q → AllByRecursion (FitsKid IsString Fits) kids)
+        → AllByRecursion (IsMark levels) (kids_marks inner kids)
+    kids_marks_are [] fit = tt
+    kids_marks_are (kid ∷ kids) fit =
+        each_append (IsMark levels) (kid_marks inner kid) (kids_marks inner kids)
+        (kid_marks_are (out-Kid kid) (λ q. (fit q).0)) (kids_marks_are kids (λ q. (fit q).1))
+
+  element_are : (levels : ℕ) (attrs : List Attr) → (Q → AllByRecursion (FitsAttr IsString) attrs)
+      → (content : List Mark) (found : Option Tag)
+      → ((tag : Tag) → found ≡ Some tag → tag ≢ tags.Other)
+      → AllByRecursion (IsMark levels) content
+      → AllByRecursion (IsMark (suc levels)) (element_from found attrs content)
+  element_are levels attrs fit content None known each =
+      all_map (IsMark levels) (IsMark (suc levels)) (mark_grown levels) content each
+  element_are levels attrs fit content (Some tag) known each =
+      let attributes =
+      both IsAttribute OfAttr (filter_map attribute attrs) (attributes_are attrs fit) in
+      let items = content_are levels content each in
+      let one : Node =
+      record { tag = tag; attrs = filter_map attribute attrs; kids = items_of content } in
+      let is : IsNode (suc levels) one =
+      record {
+        known = known tag refl;
+        attributes = attributes.0;
+        content = record { each = items.0; together = items_together content };
+      } in
+      ((is, λ q. of_all one (attributes.1 q) (items.1 q)), tt)
+
+  element_marks_are : (levels : ℕ) (element : Element) → (Q → FitsElement IsString levels element)
+      → AllByRecursion (IsMark levels) (element_marks levels element)
+  element_marks_are zero element fits = tt
+  element_marks_are (suc levels) element fits =
+      element_are levels element.attrs (λ q. (fits_inside levels element (fits q)).attrs)
+      (kids_marks (element_marks levels) element.kids)
+      (tag_in element.page element.tag) (tag_known element.page element.tag)
+      (kids_marks_are levels (FitsElement IsString levels) (element_marks levels)
+      (element_marks_are levels) element.kids
+      (λ q. (fits_inside levels element (fits q)).kids))
+
+  deck_is : (document : Document) → (Q → HasTexts document)
+      → IsNormal (deck_of document) × (Q → OfAll (deck_of document).root)
+  deck_is document texts =
+      let levels = LEVEL_LIMIT - 1 in
+      let root = document.root in
+      let content = kids_marks (element_marks levels) root.kids in
+      let attributes =
+      both IsAttribute OfAttr (filter_map attribute root.attrs)
+      (attributes_are root.attrs (λ q. (fits_inside levels root (texts q)).attrs)) in
+      let items =
+      content_are levels content
+      (kids_marks_are levels (FitsElement IsString levels) (element_marks levels)
+      (element_marks_are levels) root.kids (λ q. (fits_inside levels root (texts q)).kids)) in
+      let normal : IsNormal (deck_of document) =
+      record {
+        attributes = attributes.0;
+        content = record { each = items.0; together = items_together content };
+      } in
+      (normal, λ q. of_all (deck_of document).root (attributes.1 q) (items.1 q))
 
 pub deck_is_normal : (document : Document) → IsNormal (deck_of document)
-deck_is_normal document =
-    let levels = LEVEL_LIMIT - 1 in
-    let content = kids_marks (element_marks levels) document.root.kids in
-    record {
-      attributes = attributes_are document.root.attrs;
-      content =
-          content_is (IsNode levels) content (kids_marks_are (IsNode levels) (element_marks levels)
-          (element_marks_are levels) document.root.kids);
-    }
+deck_is_normal document = (deck_is ⊥ document (λ q. absurd q)).0
+
+-- the deck's texts are of characters, as the document's strings are
+pub deck_texts : (document : Document) → HasTexts document
+    → OfNode LEVEL_LIMIT (deck_of document).root
+deck_texts document texts = (deck_is (Unit {0}) document (λ q. texts)).1 tt LEVEL_LIMIT

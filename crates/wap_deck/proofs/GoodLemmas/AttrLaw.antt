@@ -35,11 +35,11 @@ use Rattle.wap_wbxml.specs.spelling.Writings.{◌⨾◌, plain, each, on_attribu
 use Rattle.wap_wbxml.specs.spelling.Spelling.{start_spelling, piece_spelling, attr_spelling}
 use Rattle.wap_wbxml.specs.spelling.Spelling.{first_pages}
 use Rattle.wap_wbxml.proofs.SpellingLemmas.Strings.{indexed_read}
-use Rattle.wap_deck.proofs.WritingLemmas.Characters.{known_name}
+use Rattle.wap_wbxml.proofs.SpellingLemmas.Kinds.{known_name}
 use Rattle.wap_deck.specs.good.Readers.{◌>>=◌, number_from, number_at, all_of}
 use Rattle.wap_deck.specs.good.Texts.{part_at, value_at, behind_value}
 use Rattle.wap_deck.specs.good.inside.Nodes.{named_at, start_at, attr_at}
-use Rattle.wap_deck.specs.good.Characters.{OfAttr}
+use Rattle.wap_wbxml.specs.spelling.Characters.{OfAttr}
 use Rattle.wap_deck.proofs.GoodLemmas.Runs.{all_on, all_end}
 use Rattle.wap_deck.proofs.GoodLemmas.Taking.{attr_takes}
 use Rattle.wap_deck.proofs.GoodLemmas.Flat.{Flat, flat_on, flat_each}

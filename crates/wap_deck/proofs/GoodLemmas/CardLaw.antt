@@ -4,6 +4,7 @@ use Rattle.std.proofs.Common.{[], ◌∷◌, ◌++◌, length, drop, Option, Som
 use Rattle.std.proofs.Common.{refl, sym, ap, subst, ◌∙◌, append_assoc, arith}
 use Rattle.std.specs.Prelude.{if◌then◌else◌, is_some, slice_get, find, IfOk}
 use Rattle.std.specs.List.{filter_map, cons_option, position_from}
+use Rattle.std.specs.Option.{option_and_then}
 use Rattle.std.proofs.lemmas.Iterator.Adapters.{position_from-zero}
 use Rattle.wap_base.specs.declared.name.Part.{Part}
 use Rattle.wap_tokens.specs.declared.markup.document.TheConstants.{LEVEL_LIMIT}
@@ -278,18 +279,18 @@ module _ (deck : Deck) (id : List ℕ) where
         so ∙ ap (position_from has_id number) (drop_get (cards_of deck) number card (sym is)
         ∙ ap (λ (n : ℕ). card ∷ drop n (cards_of deck)) next)
 
-    pub found_here : has_id card ≡ true → Some number ≡ card_numbered id deck
+    found_here : has_id card ≡ true → Some number ≡ card_numbered id deck
     found_here same =
         sym (numbered ∙ here ∙ ap (λ b. cond b (Some number)
         (position_from has_id (number + 1) (drop (number + 1) (cards_of deck)))) same)
 
-    pub found_behind : has_id card ≡ false → Left (number + 1)
+    found_behind : has_id card ≡ false → Left (number + 1)
     found_behind other =
         here ∙ ap (λ b. cond b (Some number)
         (position_from has_id (number + 1) (drop (number + 1) (cards_of deck)))) other
 
   -- there is no card of this number
-  pub no_card_behind : (number : ℕ) → Left number → None ≡ slice_get (cards_of deck) number
+  no_card_behind : (number : ℕ) → Left number → None ≡ slice_get (cards_of deck) number
       → Left (number + 1)
   no_card_behind number so none =
       let past = past_none (cards_of deck) number (sym none) in
@@ -298,6 +299,19 @@ module _ (deck : Deck) (id : List ℕ) where
       drop_past (cards_of deck) (number + 1) (omega arith) in
       so ∙ ap (position_from has_id number) here
       ∙ sym (ap (position_from has_id (number + 1)) after)
+
+  -- what is seen of the id at a number
+  pub found_by : (number : ℕ) → Left number → (seen : Option Node)
+      → seen ≡ slice_get (cards_of deck) number → is_text id (option_and_then id_of seen) ≡ true
+      → Some number ≡ card_numbered id deck
+  found_by number so None is same = absurd cc
+  found_by number so (Some card) is same = found_here number card so is same
+
+  pub passed_by : (number : ℕ) → Left number → (seen : Option Node)
+      → seen ≡ slice_get (cards_of deck) number → is_text id (option_and_then id_of seen) ≡ false
+      → Left (number + 1)
+  passed_by number so None is other = no_card_behind number so is
+  passed_by number so (Some card) is other = found_behind number card so is other
 
   pub found_nowhere : (number : ℕ) → Left number → length (cards_of deck) ≤ number
       → None ≡ card_numbered id deck

@@ -13,10 +13,9 @@ use Rattle.wap_deck.proofs.GoodLemmas.Runs.{turn, all_on, all_end}
 use Rattle.wap_deck.proofs.GoodLemmas.Taking.{part_takes, item_takes}
 use Rattle.wap_deck.proofs.GoodLemmas.Seen.{read_front}
 use Rattle.wap_deck.proofs.GoodLemmas.Ending.{behind_on, part_followed, end_behind, ends_on}
-use Rattle.wap_deck.proofs.GoodLemmas.Ending.{ends_here}
-use Rattle.wap_deck.proofs.GoodLemmas.Ending.{ends_some, end_no_part, no_node_at, nothing_read}
-use Rattle.wap_deck.proofs.GoodLemmas.Ending.{item_lists}
-use Rattle.wap_deck.proofs.GoodLemmas.Ending.{text_followed, node_followed}
+use Rattle.wap_deck.proofs.GoodLemmas.Ending.{ends_here, ends_some, end_no_part, no_node_at}
+use Rattle.wap_deck.proofs.GoodLemmas.Ending.{nothing_read, item_lists, text_followed}
+use Rattle.wap_deck.proofs.GoodLemmas.Ending.{node_followed}
 
 pub part_behind : (bytes : List ℕ) (part : Part) (rest end : List ℕ)
     → part_at bytes ≡ Some (part, rest) → IsBehind end rest → IsBehind end (drop 1 bytes)

@@ -19,18 +19,17 @@ use Rattle.wap_tokens.specs.markup.Normal.{IsNormal}
 use Rattle.wap_tokens.specs.markup.Writing.{items_kids, node_kids, element_of, document_of}
 use Rattle.wap_wbxml.specs.spelling.Names.{table_of, with_element, names_of}
 use Rattle.wap_wbxml.specs.spelling.Spelling.{header_spelling, root_spelling, spelling}
-use Rattle.wap_wbxml.specs.spelling.Spelling.{element_spelling, first_pages}
-use Rattle.wap_wbxml.specs.spelling.Spelling.{canon}
+use Rattle.wap_wbxml.specs.spelling.Spelling.{element_spelling, first_pages, canon}
 use Rattle.wap_wbxml.specs.spelling.Spellable.{IsSpellable, HasTexts}
 use Rattle.wap_deck.specs.good.inside.Nodes.{node_at}
-use Rattle.wap_deck.specs.good.Characters.{OfNode}
+use Rattle.wap_wbxml.specs.spelling.Characters.{OfNode}
 use Rattle.wap_deck.specs.good.inside.Header.{HasTable}
 use Rattle.wap_deck.specs.good.inside.KeptBytes.{table_in, deck_in, IsHeld}
 use Rattle.wap_wbxml.proofs.SpellingLemmas.Growing.{grows_same}
 use Rattle.wap_wbxml.proofs.SpellingLemmas.Tables.{length-table}
 use Rattle.wap_deck.proofs.GoodLemmas.Opening.{seen}
 use Rattle.wap_deck.proofs.GoodLemmas.NodeLaw.{node_bytes, node_read, IsGoodElement, IsGoodNode}
-use Rattle.wap_deck.proofs.GoodLemmas.FitLaw.{deck_fits}
+use Rattle.wap_wbxml.proofs.SpellingLemmas.DeckLaws.{deck_fits}
 use Rattle.wap_deck.proofs.GoodLemmas.FlatLaw.{root_flat}
 use Rattle.wap_deck.proofs.GoodLemmas.GoodLaw.{root_good}
 

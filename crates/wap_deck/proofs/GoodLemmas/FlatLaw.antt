@@ -26,9 +26,8 @@ use Rattle.wap_tokens.specs.markup.Writing.{kids_from, item_kids, items_kids, no
 use Rattle.wap_wbxml.specs.spelling.Writings.{Writing, plain, ◌⨾◌, each, ended, on_tag_page}
 use Rattle.wap_wbxml.specs.spelling.Names.{KidLevel}
 use Rattle.wap_wbxml.specs.spelling.Spelling.{bit, bits, tag_spelling, attr_spelling}
-use Rattle.wap_wbxml.specs.spelling.Spelling.{opened_spelling}
-use Rattle.wap_wbxml.specs.spelling.Spelling.{kid_spelling, element_by, element_spelling}
-use Rattle.wap_wbxml.specs.spelling.Spelling.{first_pages}
+use Rattle.wap_wbxml.specs.spelling.Spelling.{opened_spelling, kid_spelling, element_by}
+use Rattle.wap_wbxml.specs.spelling.Spelling.{element_spelling, first_pages}
 use Rattle.wap_deck.proofs.GoodLemmas.Flat.{Flat, flat_on, flat_both, flat_one, Filled, flat_ended}
 use Rattle.wap_deck.proofs.GoodLemmas.PartLaw.{piece_bytes, runs_filled}
 use Rattle.wap_deck.proofs.GoodLemmas.AttrLaw.{IsGoodAttr, attr_bytes, attr_flat}

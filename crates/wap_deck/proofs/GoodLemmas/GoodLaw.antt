@@ -19,7 +19,7 @@ use Rattle.wap_tokens.specs.markup.Writing.{attr_of, kids_from, item_kids}
 use Rattle.wap_tokens.specs.markup.Writing.{items_kids, node_kids, element_of}
 use Rattle.wap_wbxml.specs.spelling.Names.{KidLevel, with_token, with_attr}
 use Rattle.wap_wbxml.specs.spelling.Names.{with_opened, with_kid, with_element}
-use Rattle.wap_deck.specs.good.Characters.{OfAttr, OfItem, OfOpened, OfNode}
+use Rattle.wap_wbxml.specs.spelling.Characters.{OfAttr, OfItem, OfOpened, OfNode}
 use Rattle.wap_wbxml.proofs.SpellingLemmas.Growing.{Grows, grows_on, grows-has, with_name-has}
 use Rattle.wap_wbxml.proofs.SpellingLemmas.Growing.{grows-with_attr, grows-fold, grows-with_kid}
 use Rattle.wap_wbxml.proofs.SpellingLemmas.Growing.{grows-with_element}

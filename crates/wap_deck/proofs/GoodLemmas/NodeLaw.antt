@@ -30,7 +30,7 @@ use Rattle.wap_wbxml.specs.spelling.Spelling.{bit}
 use Rattle.wap_deck.specs.good.Readers.{Reader, ◌>>=◌, after, all_of, closed, closed_if}
 use Rattle.wap_deck.specs.good.Texts.{part_at, value_at, behind_value}
 use Rattle.wap_deck.specs.good.inside.Nodes.{attr_at, node, node_by, item_by, node_at, item_at}
-use Rattle.wap_deck.specs.good.Characters.{OfPart}
+use Rattle.wap_wbxml.specs.spelling.Characters.{OfPart}
 use Rattle.wap_deck.proofs.GoodLemmas.Runs.{Takes, all_on, all_end}
 use Rattle.wap_deck.proofs.GoodLemmas.Taking.{item_takes}
 use Rattle.wap_deck.proofs.GoodLemmas.Contents.{IsNoText, BeginNoText}

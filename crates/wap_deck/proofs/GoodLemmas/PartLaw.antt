@@ -24,11 +24,11 @@ use Rattle.wap_wbxml.specs.spelling.Names.{string}
 use Rattle.wap_wbxml.specs.spelling.Spellable.{IsString}
 use Rattle.wap_wbxml.specs.spelling.Spelling.{variable, piece_spelling, first_pages}
 use Rattle.wap_wbxml.proofs.SpellingLemmas.Strings.{and_parts, text_bytes}
-use Rattle.wap_deck.proofs.WritingLemmas.Characters.{name_string, RunFits, runs_fit}
+use Rattle.wap_wbxml.proofs.SpellingLemmas.Kinds.{of_characters, name_string, RunFits, runs_fit}
 use Rattle.wap_deck.specs.good.Readers.{◌>>=◌, after, zero_place, ended_at, all_of}
 use Rattle.wap_deck.specs.good.Texts.{string_part, name_part, string_at, reference_at}
 use Rattle.wap_deck.specs.good.Texts.{character_at, part_at, value_at, behind_value}
-use Rattle.wap_deck.specs.good.Characters.{OfPart}
+use Rattle.wap_wbxml.specs.spelling.Characters.{OfPart}
 use Rattle.wap_deck.proofs.GoodLemmas.Runs.{all_on, all_end}
 use Rattle.wap_deck.proofs.GoodLemmas.Taking.{part_takes}
 use Rattle.wap_deck.proofs.GoodLemmas.Flat.{Flat, Filled}
@@ -68,23 +68,19 @@ utf8 text scalars = is_utf8-from_IsUtf8 (encode_utf8_all text) (text, (scalars, 
 -- ---- the pieces that decks have
 
 abbrev pub IsPlain : Piece → Type 0
-IsPlain (piece.Code page code) = ⊥
 IsPlain (piece.Str text) = IsString text × (text ≢ [])
 IsPlain (piece.Entity number) = number ≡ 0
 IsPlain (piece.Var name conv) = is_name name ≡ true
-IsPlain (piece.Ext number) = ⊥
-IsPlain (piece.Opaque bytes) = ⊥
+IsPlain _ = ⊥
 
 abbrev pub piece_bytes : Piece → List ℕ
 piece_bytes one = (piece_spelling one first_pages).0
 
 pub piece_flat : (one : Piece) → IsPlain one → Flat (piece_spelling one) (piece_bytes one)
-piece_flat (piece.Code page code) is = absurd is
 piece_flat (piece.Str text) is = refl
 piece_flat (piece.Entity number) is = refl
 piece_flat (piece.Var name conv) is = refl
-piece_flat (piece.Ext number) is = absurd is
-piece_flat (piece.Opaque bytes) is = absurd is
+piece_flat _ is = absurd is
 
 -- a piece is read as what it gives
 pub record PieceRead (one : Piece) (rest : List ℕ) : Type 0 where
@@ -197,7 +193,7 @@ runs_some [] = tt
 runs_some (zero ∷ cs) = (tt, runs_some cs)
 runs_some (suc c ∷ cs) = before_some (suc c) (runs_of cs) (runs_some cs)
 
-runs_plain : (runs : List (Option (List ℕ))) → AllByRecursion RunFits runs
+runs_plain : (runs : List (Option (List ℕ))) → AllByRecursion (RunFits IsString) runs
     → AllByRecursion IsSome runs → AllByRecursion IsPlain (map run_piece runs)
 runs_plain [] fit some = tt
 runs_plain (None ∷ runs) fit some = (refl, runs_plain runs fit.1 some.1)
@@ -209,7 +205,9 @@ all_append P [] b one two = two
 all_append P (x ∷ a) b one two = (one.0, all_append P a b one.1 two)
 
 part_plain : (one : Part) → IsPart one → OfPart one → AllByRecursion IsPlain (part_pieces one)
-part_plain (Lit text) is of = runs_plain (runs_of text) (runs_fit text of) (runs_some text)
+part_plain (Lit text) is of =
+    runs_plain (runs_of text) (runs_fit IsString (Unit {0}) of_characters text (λ q. of))
+    (runs_some text)
 part_plain (Var name conv) is of = (is, tt)
 
 pub parts_plain : (parts : List Part) → AllByRecursion IsPart parts → AllByRecursion OfPart parts

@@ -2,4 +2,5 @@ pub mod Header
 pub mod Nodes
 pub mod Starts
 pub mod Notes
+pub mod Hashes
 pub mod KeptBytes

@@ -9,6 +9,7 @@ use wap_tokens::markup::{AttrName, Token};
 use wap_tokens::{attr_named, attr_start};
 
 /// The attribute that a token starts, and the text with which its value begins.
+#[inline(always)]
 pub fn start_of(page: u8, token: &Token) -> Option<(AttrName, &'static str)>
     ensures start { option_map lent_start result ≡ start_of page token.now }
     ensures characters { IfSome result (λ start. chars start.1.now ≡ start.1.now) }

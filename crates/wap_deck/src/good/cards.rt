@@ -9,13 +9,14 @@ ghost use Rattle.wap_deck.specs.good.inside.Notes.{AreNotes, AreLent};
 ghost use Rattle.wap_deck.specs.good.inside.KeptBytes.{deck_in, IsHeld, StandAt, tagged, IsKept};
 
 use crate::good::children::next_child;
+use crate::good::hashes::hashes_of;
 use crate::good::head::kids_begin;
 use crate::good::kids::Child;
 use crate::good::notes::{Note, notes_from, notes_left};
 use crate::good::view::View;
 use std::alloc::Global;
 use wap_base::{Bytes, NoMemory, Rows};
-use wap_tokens::markup::{LEVEL_LIMIT, Tag};
+use wap_tokens::markup::{Deck, LEVEL_LIMIT, Tag};
 
 /// The child as a node of this tag, if it is one.
 fn node_with(child: Child<'_>, tag: Tag) -> Option<View<'_>>
@@ -38,6 +39,8 @@ pub struct Place {
 #[derive(Drop)]
 pub struct Cards {
     pub places: Rows<Place>,
+    /// The hashes of the cards' ids.
+    pub hashes: Rows<u32>,
     pub templates: Rows<Place>,
 }
 
@@ -89,21 +92,28 @@ fn places_of(
     places_in(alloc, table, bytes, notes, content, tag)
 }
 
-/// Where the cards and the templates of a deck begin.
+/// Where the cards and the templates of the deck begin.
 pub(crate) fn card_places(
     alloc: Global,
     table: &Bytes,
     root: usize,
     bytes: &[u8],
     notes: &[Note],
+    deck: &Deck,
 ) -> Result<Cards, NoMemory>
     requires held { IsHeld table.now root bytes.now }
     requires noted { AreNotes bytes.now notes.now }
+    requires same { deck_in table.now root bytes.now ≡ deck.now }
     ensures { IfOk result (λ cards. IsKept table.now root bytes.now cards notes.now) }
 {
     let places = places_of(alloc, table, root, bytes, notes, Tag::Card)?;
     let templates = places_of(alloc, table, root, bytes, notes, Tag::Template)?;
-    Ok(Cards { places, templates })
+    let hashes = hashes_of(alloc, deck)?;
+    Ok(Cards {
+        places,
+        hashes,
+        templates,
+    })
 }
 
 /// The view of the node in the root's content that begins at a place.

@@ -1,7 +1,9 @@
 //! Good decks.
-ghost use Rattle.std.specs.Prelude.{◌≡◌, ◌≤◌, ◌-◌, length, slice_get, Ok, IfOk, IfErr};
+ghost use Rattle.std.specs.Prelude.{◌≡◌, ◌≤◌, ◌-◌, length, slice_get, Ok, IfOk, IfErr, OnOk};
+ghost use Rattle.std.specs.Option.{option_and_then};
 ghost use Rattle.wap_base.specs.Numbers.{mb_at};
 ghost use Rattle.wap_tokens.specs.markup.Writing.{document_of};
+ghost use Rattle.wap_wbxml.specs.spelling.Characters.{OfNode};
 ghost use Rattle.wap_wbxml.specs.spelling.Spelling.{spelling};
 ghost use Rattle.wap_wbxml.specs.spelling.Spellable.{IsSpellable};
 ghost use Rattle.wap_tokens.specs.markup.Cards.{cards_of, id_of, card_numbered};
@@ -10,11 +12,12 @@ ghost use Rattle.wap_tokens.specs.markup.Good.{IsGood};
 ghost use Rattle.wap_tokens.specs.markup.Normal.{IsNormal};
 ghost use Rattle.wap_deck.specs.declared.good.laws.TheConstants.{HEADER_LENGTH};
 ghost use Rattle.wap_deck.specs.good.inside.Header.{HasTable};
+ghost use Rattle.wap_deck.specs.good.inside.Hashes.{hash_of};
 
 use crate::good::cards::{Cards, card_places, view_at};
+use crate::good::hashes::hash_of;
 use crate::good::laws::{HEADER_LENGTH, decks_are_read};
 use crate::good::notes::{Note, notes_of};
-use crate::good::texts::tell_node;
 use crate::good::view::View;
 use crate::reading::read_deck;
 use crate::writing::spell;
@@ -34,7 +37,7 @@ pub struct GoodDeck {
     table: Bytes,
     /// Where the root begins in the bytes.
     root: usize,
-    /// Where each card begins, and the template.
+    /// Where each card begins, the hashes of their ids, and where the template begins.
     cards: Cards,
     /// Where nodes end, and what they begin with.
     notes: Rows<Note>,
@@ -72,7 +75,8 @@ fn places(bytes: &[u8]) -> (usize, usize)
 /// The bytes that spell a deck's document, in no more memory than they take.
 fn spelled(alloc: Global, deck: &Deck) -> Result<Bytes, NoMemory>
     requires { IsSpellable (document_of deck.now) }
-    ensures { IfOk result (λ bytes. bytes ≡ spelling (document_of deck.now)) }
+    ensures spelled { IfOk result (λ bytes. bytes ≡ spelling (document_of deck.now)) }
+    ensures characters { OnOk result (OfNode LEVEL_LIMIT deck.now.root) }
 {
     let mut bytes = spell(alloc, deck)?.into_vec();
     bytes.shrink_to_fit();
@@ -85,8 +89,6 @@ fn keep(alloc: Global, deck: &Deck) -> Result<GoodDeck, NoMemory>
     requires normal { IsNormal deck.now }
     ensures { IfOk result (λ good. good ≡ deck.now) }
 {
-    // A walk without effect, in which is proved that each text of the deck is of characters.
-    tell_node(LEVEL_LIMIT, &deck.root);
     decks_are_spellable();
     decks_are_read();
     let bytes = spelled(alloc, deck)?;
@@ -94,7 +96,7 @@ fn keep(alloc: Global, deck: &Deck) -> Result<GoodDeck, NoMemory>
     let (table, root) = places(whole);
     let names = Bytes::of(alloc, &whole[table..root])?;
     let notes = notes_of(alloc, whole, root)?;
-    let cards = card_places(alloc, &names, root, whole, notes.as_slice())?;
+    let cards = card_places(alloc, &names, root, whole, notes.as_slice(), deck)?;
     Ok(GoodDeck {
         bytes,
         table: names,
@@ -176,14 +178,33 @@ impl GoodDeck {
     pub fn find_card(&self, id: &Text) -> Option<usize>
         ensures { result ≡ card_numbered id.now self.now }
     {
+        let hash = hash_of(id);
         for number in 0..self.card_count() {
-            if let Some(card) = self.card(number) {
-                if has_id(&card, id) {
-                    return Some(number);
-                }
+            if self.is_numbered(id, hash, number) {
+                return Some(number);
             }
         }
         None
+    }
+
+    /// Whether the card of a number has this id, whose hash is given. The id of a card of another
+    /// hash isn't looked at.
+    #[inline(always)]
+    fn is_numbered(&self, id: &Text, hash: u32, number: usize) -> bool
+        requires { hash ≡ hash_of id.now }
+        ensures { result
+            ≡ is_text id.now (option_and_then id_of (slice_get (cards_of self.now) number)) }
+    {
+        let Some(other) = self.cards.hashes.get(number) else {
+            return false;
+        };
+        if *other != hash {
+            return false;
+        }
+        match self.card(number) {
+            Some(card) => has_id(&card, id),
+            None => false,
+        }
     }
 
     /// The card of a number, from 0.

@@ -8,7 +8,7 @@ ghost use Rattle.wap_tokens.specs.markup.Normal.{IsNormal};
 ghost use Rattle.wap_tokens.specs.markup.Writing.{document_of};
 ghost use Rattle.wap_wbxml.specs.spelling.Spelling.{spelling};
 ghost use Rattle.wap_wbxml.specs.spelling.Spellable.{IsSpellable};
-ghost use Rattle.wap_deck.specs.good.Characters.{OfNode};
+ghost use Rattle.wap_wbxml.specs.spelling.Characters.{OfNode};
 ghost use Rattle.wap_deck.specs.declared.good.laws.TheConstants.{HEADER_LENGTH};
 ghost use Rattle.wap_deck.specs.good.inside.Header.{HasTable};
 ghost use Rattle.wap_deck.specs.good.inside.KeptBytes.{IsHeld, table_in, deck_in};

@@ -17,6 +17,7 @@ fn add_second<T: Drop>(alloc: Global, rows: &mut Rows<T>, item: T) -> Result<(),
 }
 
 /// Adds an item. Rows of one item get room for one more, since most have no third.
+#[inline(always)]
 pub(crate) fn add_to_few<T: Drop>(
     alloc: Global,
     rows: &mut Rows<T>,

@@ -1,12 +1,13 @@
 //! Attributes.
 ghost use Rattle.std.specs.Prelude.{◌≡◌, [], map, OnOk};
+ghost use Rattle.std.specs.List.{AllByRecursion};
 ghost use Rattle.wap_tokens.specs.markup.Tables.{code_of_start};
-ghost use Rattle.wap_tokens.specs.markup.Writing.{attr_of};
+ghost use Rattle.wap_tokens.specs.markup.Writing.{attr_of, whole_code};
+ghost use Rattle.wap_wbxml.specs.spelling.Characters.{OfAttr};
 ghost use Rattle.wap_wbxml.specs.spelling.Writings.{ended};
 ghost use Rattle.wap_wbxml.specs.spelling.Spelling.{attr_spelling};
 ghost use Rattle.wap_wbxml.specs.spelling.Written.{written};
 
-use crate::documents::whole_code;
 use crate::writing::texts::write_parts;
 use std::alloc::Global;
 use wap_base::{NoMemory, Part, Rows, Text};
@@ -21,6 +22,17 @@ pub(crate) fn own_code(name: AttrName) -> Option<u8>
     code_of_start(name, "")
 }
 
+/// The code of an attribute and its whole value, if there is one.
+pub(crate) fn whole_code(name: AttrName, parts: &[Part]) -> Option<u8>
+    ensures { result ≡ whole_code name parts.now }
+{
+    match parts {
+        [] => code_of_start(name, ""),
+        [Part::Lit(text)] => code_of_start(name, text.as_str()),
+        _ => None,
+    }
+}
+
 /// Writes an attribute: by its own code and its value, by the code of its whole value, or by its
 /// name and its value.
 fn write_attribute(
@@ -29,8 +41,9 @@ fn write_attribute(
     table: &Table,
     attribute: &(AttrName, Rows<Part>),
 ) -> Result<(), NoMemory>
-    ensures { let writing = attr_spelling table.now (attr_of attribute.now) in
+    ensures written { let writing = attr_spelling table.now (attr_of attribute.now) in
         OnOk result (output.new ≡ written writing output.old) }
+    ensures characters { OnOk result (OfAttr attribute.now) }
 {
     output.go_to_attribute_page(0)?;
     let name = attribute.0;
@@ -57,8 +70,9 @@ pub(crate) fn write_attributes(
     table: &Table,
     attributes: &[(AttrName, Rows<Part>)],
 ) -> Result<(), NoMemory>
-    ensures { let writing = ended (attr_spelling table.now) (map attr_of attributes.now) in
+    ensures written { let writing = ended (attr_spelling table.now) (map attr_of attributes.now) in
         OnOk result (output.new ≡ written writing output.old) }
+    ensures characters { OnOk result (AllByRecursion OfAttr attributes.now) }
 {
     for attribute in attributes {
         write_attribute(alloc, output, table, attribute)?;

@@ -1,6 +1,7 @@
 //! Writing a deck.
-ghost use Rattle.std.specs.Prelude.{◌≡◌, IfOk};
+ghost use Rattle.std.specs.Prelude.{◌≡◌, IfOk, OnOk};
 ghost use Rattle.wap_tokens.specs.markup.Writing.{document_of};
+ghost use Rattle.wap_wbxml.specs.spelling.Characters.{OfNode};
 ghost use Rattle.wap_wbxml.specs.spelling.Spelling.{spelling};
 ghost use Rattle.wap_wbxml.specs.spelling.Spellable.{IsSpellable};
 
@@ -11,10 +12,11 @@ use wap_base::{Bytes, NoMemory};
 use wap_tokens::markup::{Deck, LEVEL_LIMIT, WML_1_3};
 use wap_wbxml::spelling::{Output, Pages, Table, write_header};
 
-/// The one spelling of a deck's document, which isn't built.
+/// The one spelling of a deck's document, which isn't built. What is written is of characters.
 pub fn spell(alloc: Global, deck: &Deck) -> Result<Bytes, NoMemory>
     requires { IsSpellable (document_of deck.now) }
-    ensures { IfOk result (λ bytes. bytes ≡ spelling (document_of deck.now)) }
+    ensures spelled { IfOk result (λ bytes. bytes ≡ spelling (document_of deck.now)) }
+    ensures characters { OnOk result (OfNode LEVEL_LIMIT deck.now.root) }
 {
     let table = Table::new(alloc, names_of(alloc, deck)?)?;
     let mut output = Output {

@@ -4,8 +4,7 @@ ghost use Rattle.wap_tokens.specs.markup.Writing.{attr_of, item_kids, items_kids
 ghost use Rattle.wap_tokens.specs.markup.Writing.{node_kids, element_of, document_of};
 ghost use Rattle.wap_wbxml.specs.spelling.Names.{with_attr, with_kid, with_element, names_of};
 
-use crate::documents::whole_code;
-use crate::writing::attributes::own_code;
+use crate::writing::attributes::{own_code, whole_code};
 use indexmap::IndexSet;
 use std::alloc::Global;
 use wap_base::{NoMemory, Part, Rows, Text};

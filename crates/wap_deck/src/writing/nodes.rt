@@ -1,6 +1,8 @@
 //! Nodes and their content.
 ghost use Rattle.std.specs.Prelude.{◌≡◌, ◌+◌, suc, OnOk};
+ghost use Rattle.std.specs.List.{AllByRecursion};
 ghost use Rattle.wap_tokens.specs.markup.Writing.{item_kids, items_kids, node_kids, element_of};
+ghost use Rattle.wap_wbxml.specs.spelling.Characters.{OfOpened, OfNode};
 ghost use Rattle.wap_wbxml.specs.spelling.Writings.{each, ended};
 ghost use Rattle.wap_wbxml.specs.spelling.Spelling.{bit, kid_spelling, element_spelling};
 ghost use Rattle.wap_wbxml.specs.spelling.Written.{written};
@@ -54,9 +56,10 @@ pub(crate) fn write_node(
     levels: u32,
     node: &Node,
 ) -> Result<(), NoMemory>
-    ensures { let element = element_of node.now (items_kids (node_kids levels) node.now.kids) in
-        let writing = element_spelling table.now (suc levels) element in
+    ensures written { let kids = items_kids (node_kids levels) node.now.kids in
+        let writing = element_spelling table.now (suc levels) (element_of node.now kids) in
         OnOk result (output.new ≡ written writing output.old) }
+    ensures characters { OnOk result (OfNode (suc levels) node.now) }
 {
     let items = node.kids.as_slice();
     output.go_to_tag_page(0)?;
@@ -75,9 +78,10 @@ fn write_content(
     levels: u32,
     items: &[Item],
 ) -> Result<(), NoMemory>
-    ensures { let spell = kid_spelling table.now (element_spelling table.now levels) in
+    ensures written { let spell = kid_spelling table.now (element_spelling table.now levels) in
         let writing = ended spell (items_kids (node_kids levels) items.now) in
         OnOk result (output.new ≡ written writing output.old) }
+    ensures characters { OnOk result (AllByRecursion (OfOpened (OfNode levels)) items.now) }
 {
     write_items(alloc, output, table, levels, items)?;
     if !give_content(levels, items) {
@@ -96,9 +100,10 @@ fn write_item(
     levels: u32,
     item: &Item,
 ) -> Result<(), NoMemory>
-    ensures { let spell = kid_spelling table.now (element_spelling table.now levels) in
+    ensures written { let spell = kid_spelling table.now (element_spelling table.now levels) in
         let writing = each spell (item_kids (node_kids levels) item.now) in
         OnOk result (output.new ≡ written writing output.old) }
+    ensures characters { OnOk result (OfOpened (OfNode levels) item.now) }
 {
     match item {
         Item::Text(parts) => {
@@ -124,9 +129,10 @@ fn write_items(
     levels: u32,
     items: &[Item],
 ) -> Result<(), NoMemory>
-    ensures { let spell = kid_spelling table.now (element_spelling table.now levels) in
+    ensures written { let spell = kid_spelling table.now (element_spelling table.now levels) in
         let writing = each spell (items_kids (node_kids levels) items.now) in
         OnOk result (output.new ≡ written writing output.old) }
+    ensures characters { OnOk result (AllByRecursion (OfOpened (OfNode levels)) items.now) }
 {
     for item in items {
         write_item(alloc, output, table, levels, item)?;

@@ -1,12 +1,14 @@
 //! Parts of texts and of values.
-ghost use Rattle.std.specs.Prelude.{◌≡◌, OnOk};
-ghost use Rattle.std.specs.List.{flat_map};
+ghost use Rattle.std.specs.Prelude.{◌≡◌, true, OnOk};
+ghost use Rattle.std.specs.List.{flat_map, AllByRecursion};
+ghost use Rattle.std.specs.Str.{all_scalars};
 ghost use Rattle.wap_tokens.specs.markup.Writing.{runs_of, part_kids};
+ghost use Rattle.wap_wbxml.specs.spelling.Characters.{OfPart};
 ghost use Rattle.wap_wbxml.specs.spelling.Writings.{each};
 ghost use Rattle.wap_wbxml.specs.spelling.Written.{written};
 ghost use Rattle.wap_deck.specs.writing.inside.WrittenTexts.{run_spelling, part_spelling, has_any};
 
-use crate::documents::{is_string, runs_of};
+use crate::writing::runs::{is_string, runs_in};
 use std::alloc::Global;
 use wap_base::{NoMemory, Part, Text};
 use wap_wbxml::spelling::Output;
@@ -33,21 +35,24 @@ fn write_runs(output: &mut Output, runs: &[Option<Text>]) -> Result<(), NoMemory
 
 /// Writes a literal, which mostly is one string.
 fn write_literal(alloc: Global, output: &mut Output, text: &Text) -> Result<(), NoMemory>
-    ensures { OnOk result
+    ensures written { OnOk result
         (output.new ≡ written (each run_spelling (runs_of text.now)) output.old) }
+    ensures characters { all_scalars text.now ≡ true }
 {
+    let characters = text.as_str();
     if is_string(text) {
         output.write_text(text)?;
         return Ok(());
     }
-    let runs = runs_of(alloc, text)?;
+    let runs = runs_in(alloc, characters)?;
     write_runs(output, runs.as_slice())?;
     Ok(())
 }
 
 /// Writes a part.
 fn write_part(alloc: Global, output: &mut Output, part: &Part) -> Result<(), NoMemory>
-    ensures { OnOk result (output.new ≡ written (part_spelling part.now) output.old) }
+    ensures written { OnOk result (output.new ≡ written (part_spelling part.now) output.old) }
+    ensures characters { OfPart part.now }
 {
     match part {
         Part::Lit(text) => write_literal(alloc, output, text),
@@ -61,7 +66,9 @@ pub(crate) fn write_parts(
     output: &mut Output,
     parts: &[Part],
 ) -> Result<(), NoMemory>
-    ensures { OnOk result (output.new ≡ written (each part_spelling parts.now) output.old) }
+    ensures written { OnOk result
+        (output.new ≡ written (each part_spelling parts.now) output.old) }
+    ensures characters { OnOk result (AllByRecursion OfPart parts.now) }
 {
     for part in parts {
         write_part(alloc, output, part)?;

@@ -38,15 +38,13 @@ use Rattle.wap_wbxml.specs.spelling.Names.{KidLevel, string, table_of, place_of,
 use Rattle.wap_wbxml.specs.spelling.Names.{with_attr}
 use Rattle.wap_wbxml.specs.spelling.Names.{with_opened, with_kid, with_element_of, with_element}
 use Rattle.wap_wbxml.specs.spelling.Spelling.{sized, variable, attr_spelling, instruction_spelling}
-use Rattle.wap_wbxml.specs.spelling.Spelling.{bit}
-use Rattle.wap_wbxml.specs.spelling.Spelling.{bits, tag_spelling, opened_spelling, kid_spelling}
-use Rattle.wap_wbxml.specs.spelling.Spelling.{element_by, element_spelling}
+use Rattle.wap_wbxml.specs.spelling.Spelling.{bit, bits, tag_spelling, opened_spelling}
+use Rattle.wap_wbxml.specs.spelling.Spelling.{kid_spelling, element_by, element_spelling}
 use Rattle.wap_wbxml.specs.spelling.Spellable.{IsString, FitsTag, FitsAttr, FitsOpened}
 use Rattle.wap_wbxml.specs.spelling.Spellable.{FitsKid, FitsElementOf, FitsElement}
 use Rattle.wap_wbxml.proofs.SpellingLemmas.Strings.{in_utf8}
 use Rattle.wap_wbxml.proofs.SpellingLemmas.Growing.{Grows, grows_on, grows-with_attr}
-use Rattle.wap_wbxml.proofs.SpellingLemmas.Growing.{grows-with_kid}
-use Rattle.wap_wbxml.proofs.SpellingLemmas.Growing.{grows-with_element, grows-fold}
+use Rattle.wap_wbxml.proofs.SpellingLemmas.Growing.{grows-with_kid, grows-with_element, grows-fold}
 use Rattle.wap_wbxml.proofs.SpellingLemmas.States.{state_at, some_of, ended_read}
 use Rattle.wap_wbxml.proofs.SpellingLemmas.AttributeLaws.{lead_read, text_leaf, variable_leaf}
 use Rattle.wap_wbxml.proofs.SpellingLemmas.AttributeLaws.{entity_leaf, opaque_leaf, extension_by}

@@ -109,11 +109,7 @@ grows_opened : (inner : Naming) → AllGrow inner → (names : List (List ℕ)) 
     → Grows names (with_opened inner names kid)
 grows_opened inner grow names (Kid-F.Element element) = grow names element
 grows_opened inner grow names (Kid-F.Pi attr) = grows-with_attr names attr
-grows_opened inner grow names (Kid-F.Str text) = grows_same names
-grows_opened inner grow names (Kid-F.Entity number) = grows_same names
-grows_opened inner grow names (Kid-F.Var name conv) = grows_same names
-grows_opened inner grow names (Kid-F.Ext number) = grows_same names
-grows_opened inner grow names (Kid-F.Opaque bytes) = grows_same names
+grows_opened inner grow names _ = grows_same names
 
 pub grows-with_kid : (inner : Naming) → AllGrow inner → (names : List (List ℕ)) (kid : Kid)
     → Grows names (with_kid inner names kid)

@@ -6,10 +6,9 @@ use Rattle.std.specs.Prelude.{not, ◌&&◌}
 use Rattle.std.specs.List.{fold, AllByRecursion, list_all, take_while, prefix_len}
 use Rattle.std.proofs.lemmas.Bool.{ltb-false}
 use Rattle.wap_tokens.specs.declared.markup.codes.TheConstants.{END, ENTITY, STR_I, LITERAL}
-use Rattle.wap_tokens.specs.declared.markup.codes.TheConstants.{EXT_I_0}
-use Rattle.wap_tokens.specs.declared.markup.codes.TheConstants.{EXT_I_1, EXT_I_2, EXT_T_0, EXT_T_1}
-use Rattle.wap_tokens.specs.declared.markup.codes.TheConstants.{EXT_T_2, STR_T, EXT_0, EXT_1, EXT_2}
-use Rattle.wap_tokens.specs.declared.markup.codes.TheConstants.{OPAQUE}
+use Rattle.wap_tokens.specs.declared.markup.codes.TheConstants.{EXT_I_0, EXT_I_1, EXT_I_2, EXT_T_0}
+use Rattle.wap_tokens.specs.declared.markup.codes.TheConstants.{EXT_T_1, EXT_T_2, STR_T, EXT_0}
+use Rattle.wap_tokens.specs.declared.markup.codes.TheConstants.{EXT_1, EXT_2, OPAQUE}
 use Rattle.wap_base.specs.declared.name.Conv.TheVariants.{Escape, Unescape, Plain}
 use Rattle.wap_tokens.specs.declared.markup.document.Attr.{Attr}
 use Rattle.wap_tokens.specs.declared.markup.document.Token.{Token}
@@ -29,8 +28,7 @@ use Rattle.wap_tokens.specs.markup.Codes.{attribute_leaf, attribute_mark}
 use Rattle.wap_tokens.specs.markup.Spellings.{Many, none, more}
 use Rattle.wap_tokens.specs.markup.Strings.{Strings, IsInline, IsIndexed, is_not_zero, string_from}
 use Rattle.wap_tokens.specs.markup.Grammar.{State, on_attribute_page, counted, table_size, IsLeaf}
-use Rattle.wap_tokens.specs.markup.Grammar.{IsName}
-use Rattle.wap_tokens.specs.markup.Grammar.{IsStartBehind, IsPieceBehind, piece_of, IsPiece}
+use Rattle.wap_tokens.specs.markup.Grammar.{IsName, IsStartBehind, IsPieceBehind, piece_of, IsPiece}
 use Rattle.wap_tokens.specs.markup.Grammar.{IsAttribute}
 use Rattle.wap_wbxml.specs.spelling.Names.{with_token, with_attr}
 use Rattle.wap_wbxml.specs.spelling.Spellable.{FitsStart, FitsPiece, FitsAttr}
@@ -137,11 +135,8 @@ module _ (Byte : ℕ → Type 0) where
 
 -- an extension is one of three
 abbrev pub SmallLeaf : LeafMark → Type 0
-SmallLeaf (mark.Inline role) = Unit {0}
-SmallLeaf (mark.Indexed role) = Unit {0}
-SmallLeaf mark.Entity = Unit {0}
-SmallLeaf mark.Opaque = Unit {0}
 SmallLeaf (mark.Extension number) = number < 3
+SmallLeaf _ = Unit {0}
 
 abbrev Small : Option LeafMark → Type 0
 Small (Some mark) = SmallLeaf mark
@@ -193,11 +188,7 @@ leaf_small switched byte = small_behind switched (leaf_mark byte) (small_mark by
 
 abbrev SmallMark : AttributeMark → Type 0
 SmallMark (attribute.Leaf mark) = SmallLeaf mark
-SmallMark attribute.End = Unit {0}
-SmallMark attribute.Coded = Unit {0}
-SmallMark attribute.Named = Unit {0}
-SmallMark attribute.Value = Unit {0}
-SmallMark attribute.Nothing = Unit {0}
+SmallMark _ = Unit {0}
 
 small_leaf : (o : Option LeafMark) → Small o → SmallMark (attribute_leaf o)
 small_leaf (Some mark) small = small
@@ -342,10 +333,7 @@ module _ (Byte : ℕ → Type 0) (Is : List ℕ → Type 0) (strings : Strings)
   piece_behind lead (attribute.Leaf m) e bytes p all is =
       subst (FitsPiece Is) (sym is.made)
       (piece_of_leaf is.a (leaf_taken m (subst SmallMark e (mark_small lead)) bytes is.a all is.is))
-  piece_behind lead attribute.End e bytes p all is = absurd is
-  piece_behind lead attribute.Coded e bytes p all is = absurd is
-  piece_behind lead attribute.Named e bytes p all is = absurd is
-  piece_behind lead attribute.Nothing e bytes p all is = absurd is
+  piece_behind lead _ e bytes p all is = absurd is
 
   on_page : (page : ℕ) (before : State)
       → Went (λ names. names) before (on_attribute_page page before)
@@ -395,10 +383,7 @@ module _ (Byte : ℕ → Type 0) (Is : List ℕ → Type 0) (strings : Strings)
       subst (λ (x : Token × State).
       FitsStart Is x.0 × Went (λ names. with_token names x.0) before x.1) (sym is.made)
       (name_taken before bytes is.a.0 is.a.1 is.is)
-  start_behind before lead attribute.End e bytes token after is = absurd is
-  start_behind before lead attribute.Value e bytes token after is = absurd is
-  start_behind before lead (attribute.Leaf m) e bytes token after is = absurd is
-  start_behind before lead attribute.Nothing e bytes token after is = absurd is
+  start_behind before lead _ e bytes token after is = absurd is
 
   keep_names : (names : List (List ℕ)) (pieces : List Piece)
       → fold (λ (n : List (List ℕ)) (p : Piece). n) names pieces ≡ names

@@ -24,10 +24,9 @@ use Rattle.wap_tokens.specs.markup.Codes.{content_mark}
 use Rattle.wap_tokens.specs.markup.Charsets.{IsText}
 use Rattle.wap_tokens.specs.markup.Strings.{Strings, is_not_zero}
 use Rattle.wap_tokens.specs.markup.Grammar.{State, table_size}
-use Rattle.wap_tokens.specs.markup.Documents.{is_public, public_named, IsIdentifierBehind}
-use Rattle.wap_tokens.specs.markup.Documents.{IsPublic, IsOuter, IsRootBehind, IsRoot}
-use Rattle.wap_tokens.specs.markup.Documents.{first_state, into_root, IsBody, IsDocument}
-use Rattle.wap_tokens.specs.markup.Documents.{IsDocumentOf}
+use Rattle.wap_tokens.specs.markup.Documents.{is_public, public_named, IsIdentifierBehind, IsPublic}
+use Rattle.wap_tokens.specs.markup.Documents.{IsOuter, IsRootBehind, IsRoot, first_state, into_root}
+use Rattle.wap_tokens.specs.markup.Documents.{IsBody, IsDocument, IsDocumentOf}
 use Rattle.wap_wbxml.specs.spelling.Names.{with_attr, with_element, names_of}
 use Rattle.wap_wbxml.specs.spelling.Spellable.{HasNoZero, IsString, FitsElement, IsSpellable}
 use Rattle.wap_wbxml.specs.spelling.Spellable.{HasTexts}
@@ -144,10 +143,7 @@ module _ (Byte : ℕ → Type 0) (Is : List ℕ → Type 0)
     root_behind before lead content.Element e bytes root after all is =
         element_taken Byte Is strings in_table
         (right strings.charset) LEVEL_LIMIT before lead bytes root after all e is
-    root_behind before lead content.Pi e bytes root after all is = absurd is
-    root_behind before lead (content.Leaf m) e bytes root after all is = absurd is
-    root_behind before lead content.End e bytes root after all is = absurd is
-    root_behind before lead content.Nothing e bytes root after all is = absurd is
+    root_behind before lead _ e bytes root after all is = absurd is
 
     body_taken : (bytes : List ℕ) (root : Element) → AllByRecursion Byte bytes
         → IsBody strings bytes root

@@ -29,9 +29,8 @@ use Rattle.wap_wbxml.specs.spelling.Names.{with_kid, with_element_of, with_eleme
 use Rattle.wap_wbxml.specs.spelling.Spellable.{FitsTag, FitsAttr, FitsOpened, FitsKid}
 use Rattle.wap_wbxml.specs.spelling.Spellable.{FitsElementOf, FitsElement}
 use Rattle.wap_wbxml.proofs.SpellingLemmas.Taken.{Went, went_same, went_on, split_of, many_taken}
-use Rattle.wap_wbxml.proofs.SpellingLemmas.Taken.{SmallLeaf}
-use Rattle.wap_wbxml.proofs.SpellingLemmas.Taken.{leaf_small, FitsLeaf, leaf_taken, name_taken}
-use Rattle.wap_wbxml.proofs.SpellingLemmas.Taken.{attribute_taken}
+use Rattle.wap_wbxml.proofs.SpellingLemmas.Taken.{SmallLeaf, leaf_small, FitsLeaf, leaf_taken}
+use Rattle.wap_wbxml.proofs.SpellingLemmas.Taken.{name_taken, attribute_taken}
 
 -- ---- marks
 
@@ -41,10 +40,7 @@ Small None = Unit {0}
 
 abbrev SmallMark : ContentMark → Type 0
 SmallMark (content.Leaf mark) = SmallLeaf mark
-SmallMark content.End = Unit {0}
-SmallMark content.Element = Unit {0}
-SmallMark content.Pi = Unit {0}
-SmallMark content.Nothing = Unit {0}
+SmallMark _ = Unit {0}
 
 small_leaf : (o : Option LeafMark) → Small o → SmallMark (content_leaf o)
 small_leaf (Some mark) small = small

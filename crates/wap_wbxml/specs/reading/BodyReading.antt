@@ -57,10 +57,7 @@ leaf_at input (mark.Extension number) bytes = Ok (leaf.Ext number, bytes)
 unfoldable pub start_at : Input → State → Lead → AttributeMark → List ℕ → Reading (Token × State)
 start_at input before lead attribute.Coded bytes = Ok ((Code lead.byte, before), bytes)
 start_at input before lead attribute.Named bytes = told literal (name_at input before bytes)
-start_at input before lead attribute.End bytes = no_token input.total bytes
-start_at input before lead attribute.Value bytes = no_token input.total bytes
-start_at input before lead (attribute.Leaf mark) bytes = no_token input.total bytes
-start_at input before lead attribute.Nothing bytes = no_token input.total bytes
+start_at input before lead _ bytes = no_token input.total bytes
 
 -- the next part of a value, or none
 abbrev pub some_piece : Lead → State → Piece → Option Piece × State
@@ -74,10 +71,7 @@ piece_from input before lead attribute.Value bytes rest =
     Ok (some_piece lead before (piece.Code lead.page lead.byte), rest)
 piece_from input before lead (attribute.Leaf mark) bytes rest =
     told (λ leaf. some_piece lead before (piece_of leaf)) (leaf_at input mark rest)
-piece_from input before lead attribute.End bytes rest = Ok ((None, before), bytes)
-piece_from input before lead attribute.Coded bytes rest = Ok ((None, before), bytes)
-piece_from input before lead attribute.Named bytes rest = Ok ((None, before), bytes)
-piece_from input before lead attribute.Nothing bytes rest = Ok ((None, before), bytes)
+piece_from input before lead _ bytes rest = Ok ((None, before), bytes)
 
 -- the same by the byte that it begins with, if there is one
 abbrev pub piece_led : Input → State → List ℕ → Option (Lead × List ℕ)

@@ -88,10 +88,7 @@ outers_at input = all_by (next_outer input) as_none
 -- the root after its byte, which has to begin an element
 abbrev pub root_from : Input → State → Lead → ContentMark → List ℕ → Reading (Element × State)
 root_from input before lead content.Element rest = element_at input LEVEL_LIMIT before lead rest
-root_from input before lead content.Pi rest = no_token input.total rest
-root_from input before lead (content.Leaf mark) rest = no_token input.total rest
-root_from input before lead content.End rest = no_token input.total rest
-root_from input before lead content.Nothing rest = no_token input.total rest
+root_from input before lead _ rest = no_token input.total rest
 
 -- the root, of so many levels as elements may have
 unfoldable pub root_at : Input → State → List ℕ → Reading (Element × State)
@@ -125,9 +122,9 @@ whole_at kind total bytes =
     (body_at (input_of total charset.0 table.0) table.1)
 
 -- nothing may follow it
-abbrev pub all_of_it : ℕ → Document × List ℕ → Result Document DocFault
-all_of_it total (document, []) = Ok document
-all_of_it total (document, byte ∷ rest) = Err (fault.Rest (place total (byte ∷ rest)))
+abbrev pub all_of_it : {A : Type 0} → ℕ → A × List ℕ → Result A DocFault
+all_of_it total (whole, []) = Ok whole
+all_of_it total (whole, byte ∷ rest) = Err (fault.Rest (place total (byte ∷ rest)))
 
 -- the document of a type that the bytes spell, or the first fault from the left
 unfoldable pub typed_at : DocumentType → List ℕ → Result Document DocFault

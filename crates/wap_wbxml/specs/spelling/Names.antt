@@ -38,11 +38,7 @@ KidLevel = Kid-F Kid Element
 abbrev pub with_opened : Naming → List (List ℕ) → KidLevel → List (List ℕ)
 with_opened inner names (Kid-F.Element element) = inner names element
 with_opened inner names (Kid-F.Pi attr) = with_attr names attr
-with_opened inner names (Kid-F.Str text) = names
-with_opened inner names (Kid-F.Entity number) = names
-with_opened inner names (Kid-F.Var name conv) = names
-with_opened inner names (Kid-F.Ext number) = names
-with_opened inner names (Kid-F.Opaque bytes) = names
+with_opened inner names _ = names
 
 -- names, and those of a part of content
 abbrev pub with_kid : Naming → List (List ℕ) → Kid → List (List ℕ)

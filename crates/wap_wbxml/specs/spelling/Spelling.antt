@@ -7,9 +7,8 @@ use Rattle.wap_base.specs.Numbers.{mb_spelling}
 use Rattle.wap_base.specs.declared.name.Conv.{Conv}
 use Rattle.wap_base.specs.declared.name.Conv.TheVariants.{Escape, Unescape, Plain}
 use Rattle.wap_tokens.specs.declared.markup.codes.TheConstants.{END, ENTITY, STR_I, LITERAL}
-use Rattle.wap_tokens.specs.declared.markup.codes.TheConstants.{EXT_I_0}
-use Rattle.wap_tokens.specs.declared.markup.codes.TheConstants.{EXT_I_1, EXT_I_2, PI, EXT_0, OPAQUE}
-use Rattle.wap_tokens.specs.declared.markup.codes.TheConstants.{VERSION, CHARSET}
+use Rattle.wap_tokens.specs.declared.markup.codes.TheConstants.{EXT_I_0, EXT_I_1, EXT_I_2, PI}
+use Rattle.wap_tokens.specs.declared.markup.codes.TheConstants.{EXT_0, OPAQUE, VERSION, CHARSET}
 use Rattle.wap_tokens.specs.declared.markup.document.TheConstants.{LEVEL_LIMIT}
 use Rattle.wap_tokens.specs.declared.markup.document.Document.{Document}
 use Rattle.wap_tokens.specs.declared.markup.document.Element.{Element}

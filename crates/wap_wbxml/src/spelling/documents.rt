@@ -7,6 +7,7 @@ ghost use Rattle.wap_tokens.specs.markup.Documents.{IsDocument};
 ghost use Rattle.wap_tokens.specs.markup.Normal.{IsNormal};
 ghost use Rattle.wap_tokens.specs.markup.Writing.{document_of};
 ghost use Rattle.wap_wbxml.specs.spelling.Spelling.{header_spelling, spelling, canon};
+ghost use Rattle.wap_wbxml.specs.spelling.Characters.{OfNode};
 ghost use Rattle.wap_wbxml.specs.spelling.Spellable.{IsSpellable, HasTexts};
 
 use crate::spelling::elements::write_element;
@@ -63,10 +64,12 @@ pub fn documents_are_spellable(_bytes: &[u8])
     ensures texts { (d : Document) → IsDocument _bytes.now d → HasTexts d }
 {}
 
-/// The document of each deck that a document can mean can be written, and it is its own canon. The
-/// function does nothing.
+/// The document of each deck that a document can mean can be written, its strings are texts where
+/// those of the deck are, and it is its own canon. The function does nothing.
 pub fn decks_are_spellable()
     ensures spellable { (deck : Deck) → IsNormal deck → deck.root.tag ≢ Tag.Other
         → IsSpellable (document_of deck) }
+    ensures texts { (deck : Deck) → IsNormal deck → deck.root.tag ≢ Tag.Other
+        → OfNode LEVEL_LIMIT deck.root → HasTexts (document_of deck) }
     ensures same { (deck : Deck) → canon (document_of deck) ≡ document_of deck }
 {}

@@ -12,10 +12,11 @@ use Rattle.wap_tokens.specs.markup.Good.{IsGood}
 use Rattle.wap_tokens.specs.markup.Normal.{IsNormal}
 use Rattle.wap_tokens.specs.markup.Writing.{document_of}
 use Rattle.wap_wbxml.specs.spelling.Spelling.{spelling}
-use Rattle.wap_deck.specs.good.Characters.{OfNode}
+use Rattle.wap_wbxml.specs.spelling.Characters.{OfNode}
 use Rattle.wap_deck.specs.declared.good.cards.Place.{Place}
 use Rattle.wap_deck.specs.declared.good.cards.Cards.{Cards}
 use Rattle.wap_deck.specs.declared.good.notes.Note.{Note}
+use Rattle.wap_deck.specs.good.inside.Hashes.{hashes_in}
 use Rattle.wap_deck.specs.good.inside.Nodes.{node_at, front_node, IsRead}
 use Rattle.wap_deck.specs.good.inside.Notes.{AreNotes}
 
@@ -57,11 +58,13 @@ StandAt table bytes (place ∷ places) (card ∷ cards) =
 abbrev pub tagged : Tag → Deck → List Node
 tagged tag deck = filter_map (node_with tag) deck.root.kids
 
--- a deck that is held, where its cards and templates begin, and notes of its nodes
+-- a deck that is held, where its cards and templates begin, the hashes of its cards' ids, and notes
+-- of its nodes
 pub record IsKept (table : List ℕ) (root : ℕ) (bytes : List ℕ) (cards : Cards)
     (notes : List Note) : Type 0 where
   pub held : IsHeld table root bytes
   pub noted : AreNotes bytes notes
   pub placed : StandAt table bytes cards.places (tagged tags.Card (deck_in table root bytes))
+  pub hashed : cards.hashes ≡ hashes_in (deck_in table root bytes)
   pub templates : StandAt table bytes cards.templates
       (tagged tags.Template (deck_in table root bytes))

@@ -1,26 +1,30 @@
-use Rattle.std.proofs.Common.{subst, Result}
-use Rattle.wap_base.specs.Outcome.{Meets}
-use Rattle.wap_tokens.specs.declared.markup.document.Document.{Document}
 use Rattle.wap_tokens.specs.declared.markup.mark.DocumentType.TheVariants.{Other}
-use Rattle.wap_wbxml.specs.declared.fault.DocFault.{DocFault}
-use Rattle.wap_wbxml.specs.declared.fault.DocFault.TheVariants.{NoMemory}
-use Rattle.wap_wbxml.proofs.Answering.{found_is, refused_is}
-use Rattle.wap_wbxml.proofs.DocumentLaws.{document_again, document_fails}
+use Rattle.wap_wbxml.proofs.Answering.{as_it_is, exactly, spelled}
+use Rattle.wap_wbxml.proofs.Answering.{found_is, only_is, refused_is, first_is}
 use Rattle.wap_wbxml.proofs.documents.decode_with.Goals as goal
 
 pub returns-clause-found : goal.returns-clause-found
-returns-clause-found c = found_is (Other c.args.public) c.args.bytes.now c.read_document.result c.read_document.ensures
+returns-clause-found c =
+    spelled (Other c.args.public) c.args.bytes.now c.read.result
+    (found_is (λ d. d) (Other c.args.public) c.args.bytes.now c.read.result
+    (as_it_is (Other c.args.public) c.args.bytes.now c.read.result c.read.ensures))
 
 pub returns-clause-only : goal.returns-clause-only
-returns-clause-only c = λ document is.
-    subst (λ (r : Result Document DocFault). Meets NoMemory (λ d. d) c.read_document.result r)
-    (document_again (Other c.args.public) c.args.bytes.now document is) c.read_document.ensures
+returns-clause-only c =
+    only_is (λ d. d) (Other c.args.public) c.args.bytes.now c.read.result
+    (as_it_is (Other c.args.public) c.args.bytes.now c.read.result c.read.ensures)
 
 pub returns-clause-refused : goal.returns-clause-refused
 returns-clause-refused c =
-    refused_is (Other c.args.public) c.args.bytes.now c.read_document.result c.read_document.ensures
+    refused_is (λ d. d) (Other c.args.public) c.args.bytes.now c.read.result
+    (as_it_is (Other c.args.public) c.args.bytes.now c.read.result c.read.ensures)
 
 pub returns-clause-first : goal.returns-clause-first
-returns-clause-first c = λ fault refused.
-    subst (λ (r : Result Document DocFault). Meets NoMemory (λ d. d) c.read_document.result r)
-    (document_fails (Other c.args.public) c.args.bytes.now fault refused) c.read_document.ensures
+returns-clause-first c =
+    first_is (λ d. d) (Other c.args.public) c.args.bytes.now c.read.result
+    (as_it_is (Other c.args.public) c.args.bytes.now c.read.result c.read.ensures)
+
+pub returns-clause-exact : goal.returns-clause-exact
+returns-clause-exact c =
+    exactly (Other c.args.public) c.args.bytes.now c.read.result
+    (as_it_is (Other c.args.public) c.args.bytes.now c.read.result c.read.ensures)

@@ -2,7 +2,7 @@ use Rattle.std.proofs.Common.{sym, subst, ap, ◌∙◌, ℕ, List, Some, Option
 use Rattle.wap_tokens.specs.markup.Tables.{Start}
 use Rattle.wap_wbxml.specs.spelling.Spellable.{HasNoZero}
 use Rattle.wap_deck.proofs.GoodLemmas.HeadLaw.{coded_start}
-use Rattle.wap_deck.proofs.WritingLemmas.Characters.{coded_text}
+use Rattle.wap_deck.proofs.DocumentsLemmas.Characters.{coded_text}
 use Rattle.wap_deck.proofs.good.attrs.coded_start.Goals as goal
 
 pub returns-clause-exact : goal.returns-clause-exact

@@ -1,6 +1,6 @@
 use Rattle.std.proofs.Common.{sym, subst}
 use Rattle.wap_wbxml.specs.spelling.Spellable.{HasNoZero}
-use Rattle.wap_deck.proofs.WritingLemmas.Characters.{coded_text}
+use Rattle.wap_deck.proofs.DocumentsLemmas.Characters.{coded_text}
 use Rattle.wap_deck.proofs.good.attrs.next_start.Goals as goal
 
 pub returns-clause-text : goal.returns-clause-text

@@ -2,8 +2,7 @@ use Rattle.std.proofs.Common.{◌∙◌, sym, subst}
 use Rattle.wap_deck.specs.good.Readers.{IsBehind, Leaves, closed}
 use Rattle.wap_deck.specs.good.inside.Nodes.{attr_at}
 use Rattle.wap_deck.proofs.GoodLemmas.Ending.{behind_all, behind_on, behind_drop, attr_lists}
-use Rattle.wap_deck.proofs.GoodLemmas.Ending.{closes_ends}
-use Rattle.wap_deck.proofs.GoodLemmas.Ending.{closes_on, closed_leaves}
+use Rattle.wap_deck.proofs.GoodLemmas.Ending.{closes_ends, closes_on, closed_leaves}
 use Rattle.wap_deck.proofs.GoodLemmas.HeadLaw.{none_passed, one_passed, all_passed, lacks_none}
 use Rattle.wap_deck.proofs.good.heads.names_in.Goals as goal
 

@@ -3,10 +3,9 @@ use Rattle.wap_tokens.specs.markup.Codes.{has_content}
 use Rattle.wap_deck.specs.good.Readers.{IsBehind, Leaves, closed, is_end}
 use Rattle.wap_deck.specs.good.inside.Nodes.{item_at}
 use Rattle.wap_deck.proofs.GoodLemmas.Ending.{behind_all, behind_on, drop_behind, behind_drop}
-use Rattle.wap_deck.proofs.GoodLemmas.Ending.{end_behind}
-use Rattle.wap_deck.proofs.GoodLemmas.Ending.{behind_of_first, item_text, item_node, node_leaves}
-use Rattle.wap_deck.proofs.GoodLemmas.Ending.{none_leaves, list_leaves, no_list_leaves, item_lists}
-use Rattle.wap_deck.proofs.GoodLemmas.Ending.{closes_turn, closed_leaves, rest_shorter}
+use Rattle.wap_deck.proofs.GoodLemmas.Ending.{end_behind, behind_of_first, item_text, item_node}
+use Rattle.wap_deck.proofs.GoodLemmas.Ending.{node_leaves, none_leaves, list_leaves, no_list_leaves}
+use Rattle.wap_deck.proofs.GoodLemmas.Ending.{item_lists, closes_turn, closed_leaves, rest_shorter}
 use Rattle.wap_deck.proofs.good.skip.+skip.Goals as goal
 
 pub after_kids-loop-rest-init : goal.after_kids-loop-rest-init
