@@ -33,38 +33,26 @@ pub only_by : (src : List ℕ) (a : List Lexeme) (r : Result Program ParseFault)
 only_by src a r met p is =
     subst (Meets fault.NoMemory (λ (p : Program). p) r) (program_again src 64 a p is) met
 
+fault_by : (src : List ℕ) (a : List Lexeme) (f g : ParseFault) → IsRead src a (Err f) → f ≡ g →
+    g ≢ fault.NoMemory → program_at src (statement_at src 64) a ≡ Err g
+fault_by src a f g met is other = subst (λ (h : ParseFault). h ≢ fault.NoMemory →
+    program_at src (statement_at src 64) a ≡ Err h) is met other
+
 pub syntax_by : (src : List ℕ) (a : List Lexeme) (r : Result Program ParseFault) → IsRead src a r
     → IfErr r (λ f. (at : ℕ) → f ≡ fault.Syntax at → (p : Program) → Spells src p a → ⊥)
 syntax_by src a (Ok p) met = tt
-syntax_by src a (Err f) met =
-    λ at is p spells. program_none src a at 64 (read_at at is) p spells where
-      read_at : (at : ℕ) → f ≡ fault.Syntax at →
-          program_at src (statement_at src 64) a ≡ Err (fault.Syntax at)
-      read_at at is =
-          subst (λ (g : ParseFault). g ≢ fault.NoMemory →
-          program_at src (statement_at src 64) a ≡ Err g) is met
-          (no_memory at)
+syntax_by src a (Err f) met = λ at is p spells.
+    program_none src a at 64 (fault_by src a f (fault.Syntax at) met is (no_memory at)) p spells
 
 pub nested_by : (src : List ℕ) (a : List Lexeme) (r : Result Program ParseFault) → IsRead src a r
     → IfErr r (λ f. (at : ℕ) → f ≡ fault.Nested at → IsPast src 64 a at)
 nested_by src a (Ok p) met = tt
-nested_by src a (Err f) met =
-    λ at is. program_past src a 64 0 at (read_at at is) where
-      read_at : (at : ℕ) → f ≡ fault.Nested at →
-          program_at src (statement_at src 64) a ≡ Err (fault.Nested at)
-      read_at at is =
-          subst (λ (g : ParseFault). g ≢ fault.NoMemory →
-          program_at src (statement_at src 64) a ≡ Err g) is met
-          (no_memory_nested at)
+nested_by src a (Err f) met = λ at is.
+    program_past src a 64 0 at (fault_by src a f (fault.Nested at) met is (no_memory_nested at))
 
 pub first_by : (src : List ℕ) (a : List Lexeme) (r : Result Program ParseFault) → IsRead src a r
     → IfErr r (λ f. (at : ℕ) → f ≡ fault.Nested at → (p : Program) → Spells src p a →
     IsFirstBelow src 64 a p at)
 first_by src a (Ok p) met = tt
-first_by src a (Err f) met =
-    λ at is p spells. first_spelled src a 64 at p (read_at at is) spells where
-      read_at : (at : ℕ) → f ≡ fault.Nested at →
-          program_at src (statement_at src 64) a ≡ Err (fault.Nested at)
-      read_at at is =
-          subst (λ (g : ParseFault). g ≢ fault.NoMemory →
-          program_at src (statement_at src 64) a ≡ Err g) is met (no_memory_nested at)
+first_by src a (Err f) met = λ at is p spells. first_spelled src a 64 at p
+    (fault_by src a f (fault.Nested at) met is (no_memory_nested at)) spells

@@ -1,9 +1,9 @@
 -- What stands first where a reading goes on, and what a token's word settles.
 use Rattle.std.proofs.Common.{◌≡◌, ℕ, suc, ◌<◌, ◌≤◌, Bool, true, false, List, [], ◌∷◌, Option, Some}
 use Rattle.std.proofs.Common.{None, Ok, Err, refl, sym, ap, subst, ◌∙◌, inl, inr, eq-eqb, arith}
-use Rattle.std.specs.Prelude.{nat_eq}
-use Rattle.std.proofs.lemmas.Bool.{eqb-true, cases_Bool}
-use Rattle.wap_base.proofs.Choices.{chosen, bind_ok, ok_same, some_same}
+use Rattle.std.proofs.lemmas.Grind.{common_steps}
+use Rattle.std.proofs.lemmas.Bool.{cases_Bool}
+use Rattle.wap_base.proofs.Choices.{bind_ok, ok_same}
 use Rattle.wap_value.specs.declared.operator.BinOp.{BinOp}
 use Rattle.wap_value.specs.declared.operator.BinOp.TheVariants as op
 use Rattle.wap_value.specs.declared.operator.UnOp.{UnOp}
@@ -20,7 +20,7 @@ use Rattle.wap_grammar.specs.Lexemes.{precedence, sign_of, unary_of, step_of, as
 use Rattle.wap_grammar.specs.Lexemes.{operator_of, is_same_sign, is_sign, is_name, is_comma}
 use Rattle.wap_grammar.specs.Values.{id_of, literal_of}
 use Rattle.wap_grammar.specs.Spellings.{token, name, sign}
-use Rattle.wap_grammar.specs.reading.TokenReading.{Reading, word_of, span_of, after, syntax}
+use Rattle.wap_grammar.specs.reading.TokenReading.{Reading, word_of, span_of, after}
 use Rattle.wap_grammar.specs.reading.TokenReading.{told, expect_at, closed, id_at}
 use denote.Enum.Bare.{same_true}
 
@@ -46,18 +46,7 @@ told_ok make (Err f) y b e = absurd cc
 pub sign_is : (s : Sign) (w : Word) → is_sign s w ≡ true → w ≡ word.Sign s
 sign_is s (word.Sign other) e = ap word.Sign (sym (same_true type.the_type tt s other e))
 sign_is s word.End e = absurd cc
-sign_is s word.Name e = absurd cc
-sign_is s word.Int e = absurd cc
-sign_is s word.Float e = absurd cc
-sign_is s word.Str e = absurd cc
-sign_is s word.True e = absurd cc
-sign_is s word.False e = absurd cc
-sign_is s word.Invalid e = absurd cc
-sign_is s (word.Operator o) e = absurd cc
-sign_is s (word.Unary o) e = absurd cc
-sign_is s (word.Step up) e = absurd cc
-sign_is s (word.Assign o) e = absurd cc
-sign_is s word.Unused e = absurd cc
+sign_is s w e = absurd cc
 
 pub name_is : (w : Word) → is_name w ≡ true → w ≡ word.Name
 name_is word.Name e = refl
@@ -76,15 +65,8 @@ assignment_is w o e = absurd cc
 
 pub operator_is : (level : ℕ) (w : Word) (o : BinOp) → operator_of level w ≡ Some o →
     (w ≡ word.Operator o) × (precedence o ≡ level)
-operator_is level (word.Operator p) o e = elim (chosen (nat_eq (precedence p) level) (Some p) None
-    (Some o) e) [
-      | inl so ↦ (let same = some_same p o so.1 in (
-        ap word.Operator same,
-        subst (λ
-            (q : BinOp). precedence q ≡ level) same (eqb-true (precedence p) level so.0),
-      ))
-      | inr not_so ↦ absurd cc
-    ]
+operator_is level (word.Operator p) o e =
+    (grind (arith, common_steps), grind (arith, common_steps))
 operator_is level (word.Sign other) o e = absurd cc
 operator_is level w o e = absurd cc
 
@@ -102,12 +84,8 @@ pub literal_plain : (src : List ℕ) (span : Span) (w : Word) (l : Literal) →
     literal_of src span w ≡ Some l → (unary_of w ≡ None) × (step_of w ≡ None)
 unfolding literal_of
 literal_plain src span word.Int l e = (refl, refl)
-literal_plain src span word.Float l e = (refl, refl)
-literal_plain src span word.Str l e = (refl, refl)
-literal_plain src span word.True l e = (refl, refl)
-literal_plain src span word.False l e = (refl, refl)
-literal_plain src span word.Invalid l e = (refl, refl)
-literal_plain src span w l e = absurd cc
+literal_plain src span (word.Sign s) l e = (refl, refl)
+literal_plain src span w l e = (grind (arith, common_steps), grind (arith, common_steps))
 
 -- ---- first tokens
 
@@ -120,20 +98,10 @@ pub name_first : (a : List Lexeme) → is_name (word_of a) ≡ true → a ≡ na
 name_first [] e = absurd cc
 name_first (l ∷ x) e = ap (λ (w : Word). token w l.span ∷ x) (name_is l.word e)
 
-pub comma_first : (a : List Lexeme) → is_comma (word_of a) ≡ true →
-    a ≡ token (word.Operator op.Comma) (span_of a) ∷ after a
-comma_first [] e = absurd cc
-comma_first (l ∷ x) e = ap (λ (w : Word). token w l.span ∷ x) (comma_is l.word e)
-
 pub expect_ok : (src : List ℕ) (s : Sign) (a b : List Lexeme) → expect_at src s a ≡ Ok b →
     a ≡ sign s (span_of a) ∷ b
 unfolding expect_at
-expect_ok src s a b e = elim (chosen (is_sign s (word_of a)) (Ok (after a)) (syntax src a)
-    (Ok b) e) [
-      | inl so ↦ sign_first s a so.0 ∙ ap (λ (x : List Lexeme). sign s (span_of a) ∷ x) (ok_same
-          (after a) b so.1)
-      | inr not_so ↦ absurd cc
-    ]
+expect_ok src s a b e = grind (arith, common_steps, sign_first s a)
 
 pub closed_ok : {A : Type 0} (src : List ℕ) (s : Sign) (x : A × List Lexeme) (y : A)
     (b : List Lexeme) → closed src s x ≡ Ok (y, b)
@@ -154,12 +122,8 @@ closed_at src s x span b same = rw same refl
 pub id_ok : (src : List ℕ) (a : List Lexeme) (id : Id) (b : List Lexeme) →
     id_at src a ≡ Ok (id, b) → (a ≡ name (span_of a) ∷ b) × (id ≡ id_of src (span_of a))
 unfolding id_at
-id_ok src a id b e = elim (chosen (is_name (word_of a)) (Ok (id_of src (span_of a), after a))
-    (syntax src a) (Ok (id, b)) e) [
-      | inl so ↦ (let same = value_same (id_of src (span_of a), after a) (id, b) so.1 in
-          (name_first a so.0 ∙ ap (λ (x : List Lexeme). name (span_of a) ∷ x) same.1, sym same.0))
-      | inr not_so ↦ absurd cc
-    ]
+id_ok src a id b e =
+    (grind (arith, common_steps, name_first a), grind (arith, common_steps, name_first a))
 
 -- ---- what may follow an expression
 
@@ -203,10 +167,7 @@ no_step (word.Sign s) loose = refl
 no_step w loose = refl
 
 pub no_operator : (level : ℕ) (w : Word) → level < looseness w → operator_of level w ≡ None
-no_operator level (word.Operator o) loose = elim (cases_Bool (nat_eq (precedence o) level)) [
-  | inl so ↦ absurd (omega (arith, loose, eqb-true (precedence o) level so))
-  | inr not_so ↦ rw not_so refl
-]
+no_operator level (word.Operator o) loose = grind (arith, common_steps)
 no_operator level (word.Sign s) loose = refl
 no_operator level w loose = refl
 
@@ -245,12 +206,8 @@ pub starts_literal : (src : List ℕ) (span : Span) (w : Word) (l : Literal) →
     literal_of src span w ≡ Some l → starts w ≡ true
 unfolding literal_of
 starts_literal src span word.Int l e = refl
-starts_literal src span word.Float l e = refl
-starts_literal src span word.Str l e = refl
-starts_literal src span word.True l e = refl
-starts_literal src span word.False l e = refl
-starts_literal src span word.Invalid l e = refl
-starts_literal src span w l e = absurd cc
+starts_literal src span (word.Sign s) l e = absurd cc
+starts_literal src span w l e = grind (arith, common_steps)
 
 -- a sign that begins no expression
 pub no_start : (s : Sign) (a : List Lexeme) → is_same_sign signs.Open s ≡ false →

@@ -9,6 +9,8 @@ use Rattle.wap_base.specs.Outcome.{◌>>=◌}
 use Rattle.wap_grammar.specs.declared.fault.ParseFault.{ParseFault}
 use Rattle.wap_grammar.specs.declared.fault.ParseFault.TheVariants as fault
 use Rattle.wap_grammar.specs.declared.lexeme.Lexeme.{Lexeme}
+use Rattle.wap_grammar.specs.declared.word.Word.{Word}
+use Rattle.wap_grammar.specs.declared.word.Word.TheVariants as word
 use Rattle.wap_grammar.specs.declared.word.Sign.{Sign}
 use Rattle.wap_grammar.specs.Lexemes.{word_of, is_sign, is_name}
 use Rattle.wap_grammar.specs.Values.{id_of}
@@ -101,7 +103,7 @@ module _ (src : List ℕ) (whole : List Lexeme) (limit : ℕ) where
   all_agree c most r less (inr fork) g so =
       fork.passed g (later g c fork.at (omega (arith, less, fork.few)) so)
 
-  pub forks_same : {A : Type 0} (most : ℕ) (r s : Guard → Reading A) →
+  forks_same : {A : Type 0} (most : ℕ) (r s : Guard → Reading A) →
       ((g : Guard) → s g ≡ r g) → Forks most r → Forks most s
   forks_same most r s is (inl same) = inl (
     (λ g. is g ∙ same.0 g ∙ sym (is anywhere)),
@@ -117,7 +119,7 @@ module _ (src : List ℕ) (whole : List Lexeme) (limit : ℕ) where
     goes = subst (Goes (length fork.at)) (sym (is anywhere)) fork.goes;
   })
 
-  pub forks_less : {A : Type 0} (few most : ℕ) (r : Guard → Reading A) → few ≤ most →
+  forks_less : {A : Type 0} (few most : ℕ) (r : Guard → Reading A) → few ≤ most →
       Forks few r → Forks most r
   forks_less few most r less (inl same) = inl (same.0, goes_less few most (r anywhere) less same.1)
   forks_less few most r less (inr fork) = inr (record {
@@ -157,7 +159,7 @@ module _ (src : List ℕ) (whole : List Lexeme) (limit : ℕ) where
       (all_goes (length x.1) (λ h. f h x) (next x one.0 one.1))
   value_goes {A = A} {B = B} most (Err e) f one next = goes_fault A B most e one
 
-  pub forks_then : {A B : Type 0} (most : ℕ) (r : Guard → Reading A) (f : Guard →
+  forks_then : {A B : Type 0} (most : ℕ) (r : Guard → Reading A) (f : Guard →
       A × List Lexeme → Reading B) → Forks most r → Onward most f →
       Forks most (λ g. r g >>= f g)
   forks_then most r f (inl same) next =
@@ -177,102 +179,153 @@ module _ (src : List ℕ) (whole : List Lexeme) (limit : ℕ) where
         goes = value_goes (length fork.at) (r anywhere) f fork.goes onward;
       })
 
-  pub forks_told : {A B : Type 0} (most : ℕ) (make : A → B) (r : Guard → Reading A) →
-      Forks most r → Forks most (λ g. told make (r g))
-  forks_told most make r one = forks_then most r (λ g x. Ok (make x.0, x.1)) one
-      (λ x is few. inl ((λ g. refl), (is, omega arith)))
-
-  pub forks_if : {A : Type 0} (most : ℕ) (b : Bool) (r s : Guard → Reading A) →
-      (b ≡ true → Forks most r) → (b ≡ false → Forks most s) →
-      Forks most (λ g. cond b (r g) (s g))
-  forks_if most true r s one two = one refl
-  forks_if most false r s one two = two refl
-
   -- ---- the tokens after the first
 
-  pub rest_after : (c : List Lexeme) → IsRest c → IsRest (after c)
+  rest_after : (c : List Lexeme) → IsRest c → IsRest (after c)
   rest_after [] is = is
   rest_after (l ∷ x) is = record {
     before = is.before ++ l ∷ [];
     is = is.is ∙ sym (append_assoc is.before (l ∷ []) x);
   }
 
-  pub after_less : (c : List Lexeme) → length (after c) ≤ length c
+  after_less : (c : List Lexeme) → length (after c) ≤ length c
   after_less [] = omega arith
   after_less (l ∷ x) = omega arith
 
-  pub forks_after : {A : Type 0} (c : List Lexeme) (r : Guard → Reading A) →
-      Forks (length (after c)) r → Forks (length c) r
-  forks_after c r one = forks_less (length (after c)) (length c) r (after_less c) one
+-- from each place with fewer tokens left than so many the readings are the same, or part
+pub record Walks {A : Type 0} (src : List ℕ) (whole : List Lexeme) (limit most : ℕ)
+    (r : Guard → List Lexeme → Reading A) : Type 0 where
+  pub forks : (c : List Lexeme) → IsRest src whole limit c → length c < most →
+      Forks src whole limit (length c) (λ g. r g c)
 
-  pub sign_shorter : (s : Sign) (c : List Lexeme) → is_sign s (word_of c) ≡ true →
-      length (after c) < length c
-  sign_shorter s [] e = absurd cc
-  sign_shorter s (l ∷ x) e = omega arith
+-- ---- how readings are made of others
 
-  -- ---- a value, and a fault
+module _ {src : List ℕ} {whole : List Lexeme} {limit : ℕ} where
+  -- where there are fewer tokens
+  pub sooner : {A : Type 0} {most : ℕ} {r : Guard → List Lexeme → Reading A} →
+      Walks src whole limit (suc most) r → Walks src whole limit most r
+  sooner one = record { forks = λ c is few. one.forks c is (omega (arith, few)) }
 
-  pub forks_value : {A : Type 0} (x : A) (c : List Lexeme) → IsRest c →
-      Forks (length c) (λ g. Ok (x, c))
-  forks_value x c is = inl ((λ g. refl), (is, omega arith))
+  -- nothing is read where no number of tokens is few enough
+  pub never : {A : Type 0} {r : Guard → List Lexeme → Reading A} → Walks src whole limit zero r
+  never = record { forks = λ c is few. absurd (omega (arith, few)) }
 
-  pub forks_next : {A : Type 0} (x : A) (c : List Lexeme) → IsRest c →
-      Forks (length c) (λ g. Ok (x, after c))
-  forks_next x c is = inl ((λ g. refl), (rest_after c is, after_less c))
+  -- a value
+  pub gives : {A : Type 0} {most : ℕ} (x : A) → Walks src whole limit most (λ g c. Ok (x, c))
+  gives x = record { forks = λ c is few. inl ((λ g. refl), (is, omega arith)) }
 
-  pub forks_syntax : {A : Type 0} (most : ℕ) (c : List Lexeme) →
-      Forks {A = A} most (λ g. syntax src c)
-  forks_syntax most c = inl ((λ g. refl), tt)
+  -- a fault
+  pub stops : {A : Type 0} {most : ℕ} → Walks {A = A} src whole limit most (λ g c. syntax src c)
+  stops = record { forks = λ c is few. inl ((λ g. refl), tt) }
 
-  -- ---- a sign and a name
+  -- by what stands first
+  pub by_first : {A B : Type 0} {most : ℕ} (f : List Lexeme → B)
+      {r : B → Guard → List Lexeme → Reading A} →
+      ((b : B) → Walks src whole limit most (r b)) → Walks src whole limit most (λ g c. r (f c) g c)
+  by_first f all = record { forks = λ c is few. (all (f c)).forks c is few }
 
-  pub forks_expect : {B : Type 0} (s : Sign) (c : List Lexeme) (f : Guard → List Lexeme →
-      Reading B) → IsRest c
-      → ((d : List Lexeme) → IsRest d → length d < length c → Forks (length d) (λ g. f g d)) →
-      Forks (length c) (λ g. expect_at src s c >>= f g)
+  -- by a test
+  pub choose : {A : Type 0} {most : ℕ} (t : List Lexeme → Bool)
+      {r s : Guard → List Lexeme → Reading A} → Walks src whole limit most r →
+      Walks src whole limit most s → Walks src whole limit most (λ g c. cond (t c) (r g c) (s g c))
+  choose {most = most} t {r = r} {s = s} one two =
+      record { forks = λ c is few. by_test c is few (t c) } where
+        by_test : (c : List Lexeme) → IsRest src whole limit c → length c < most → (b : Bool) →
+            Forks src whole limit (length c) (λ g. cond b (r g c) (s g c))
+        by_test c is few true = one.forks c is few
+        by_test c is few false = two.forks c is few
+
+  -- what stands after a first token
+  pub behind : {A : Type 0} {most : ℕ} {r : Guard → List Lexeme → Reading A} →
+      Walks src whole limit most r → (l : Lexeme) (x : List Lexeme) →
+      IsRest src whole limit (l ∷ x) → length (l ∷ x) < suc most →
+      Forks src whole limit (length (l ∷ x)) (λ g. r g x)
+  behind {r = r} one l x is few = forks_less src whole limit (length x) (length (l ∷ x))
+      (λ g. r g x) (omega arith)
+      (one.forks x (rest_after src whole limit (l ∷ x) is) (omega (arith, few)))
+
+  -- what stands after the first token, if there is any
+  pub next : {A : Type 0} {most : ℕ} {r : Guard → List Lexeme → Reading A} →
+      Walks src whole limit most r → Walks src whole limit most (λ g c. r g (after c))
+  next {r = r} one = record {
+    forks = λ c is few. forks_less src whole limit (length (after c))
+        (length c) (λ g. r g (after c)) (after_less src whole limit c)
+        (one.forks (after c) (rest_after src whole limit c is) (omega
+        (arith, few, after_less src whole limit c)));
+  }
+
+  -- what stands after a first token of a kind, or what stands there
+  pub takes : {A : Type 0} {most : ℕ} (t : Word → Bool) → t word.End ≡ false →
+      {r s : Guard → List Lexeme → Reading A} → Walks src whole limit most r →
+      Walks src whole limit (suc most) s →
+      Walks src whole limit (suc most) (λ g c. cond (t (word_of c)) (r g (after c)) (s g c))
+  takes {most = most} t none {r = r} {s = s} one two = record { forks = at } where
+    by_test : (l : Lexeme) (x : List Lexeme) → IsRest src whole limit (l ∷ x) →
+        length (l ∷ x) < suc most → (b : Bool) →
+        Forks src whole limit (length (l ∷ x)) (λ g. cond b (r g x) (s g (l ∷ x)))
+    by_test l x is few true = behind one l x is few
+    by_test l x is few false = two.forks (l ∷ x) is few
+
+    at : (c : List Lexeme) → IsRest src whole limit c → length c < suc most →
+        Forks src whole limit (length c) (λ g. cond (t (word_of c)) (r g (after c)) (s g c))
+    at [] is few = rw none (two.forks [] is few)
+    at (l ∷ x) is few = by_test l x is few (t l.word)
+
+  -- one reading after the other
+  pub then : {A B : Type 0} {most : ℕ} {r : Guard → List Lexeme → Reading A}
+      {f : Guard → A → List Lexeme → Reading B} → Walks src whole limit most r →
+      ((x : A) → Walks src whole limit most (λ g c. f g x c)) →
+      Walks src whole limit most (λ g c. r g c >>= λ x. f g x.0 x.1)
+  then {r = r} {f = f} one two = record {
+    forks = λ c is few. forks_then src whole limit (length c)
+        (λ g. r g c) (λ g x. f g x.0 x.1) (one.forks c is few) (λ x left less. (two x.0).forks x.1
+        left (omega (arith, few, less)));
+  }
+
+  -- what is made of what was read
+  pub tells : {A B : Type 0} {most : ℕ} (make : A → B) {r : Guard → List Lexeme → Reading A} →
+      Walks src whole limit most r → Walks src whole limit most (λ g c. told make (r g c))
+  tells make one = then one (λ x. gives (make x))
+
+  -- a sign, and what stands after it
+  pub expects : {B : Type 0} {most : ℕ} (s : Sign) {f : Guard → List Lexeme → Reading B} →
+      Walks src whole limit most f →
+      Walks src whole limit (suc most) (λ g c. expect_at src s c >>= f g)
   unfolding expect_at
-  forks_expect s c f is next = by_sign (is_sign s (word_of c)) refl where
-    by_sign : (b : Bool) → is_sign s (word_of c) ≡ b →
-        Forks (length c) (λ g. cond b (Ok (after c)) (syntax src c) >>= f g)
-    by_sign true so = forks_after c (λ g. f g (after c)) (next (after c) (rest_after c is)
-        (sign_shorter s c so))
-    by_sign false so = inl ((λ g. refl), tt)
+  expects {most = most} s {f = f} one = record { forks = at } where
+    by_test : (l : Lexeme) (x : List Lexeme) → IsRest src whole limit (l ∷ x) →
+        length (l ∷ x) < suc most → (b : Bool) → Forks src whole limit (length (l ∷ x))
+        (λ g. cond b (Ok x) (syntax src (l ∷ x)) >>= f g)
+    by_test l x is few true = behind one l x is few
+    by_test l x is few false = inl ((λ g. refl), tt)
 
-  pub forks_closed : {A : Type 0} (most : ℕ) (s : Sign) (r : Guard → Reading A) → Forks most r →
-      Forks most (λ g. r g >>= closed src s)
-  forks_closed most s r one = forks_then most r (λ g. closed src s) one
-      (λ x is few. forks_expect s x.1 (λ g rest. Ok (x.0, rest)) is
-      (λ d left less. forks_value x.0 d left))
+    at : (c : List Lexeme) → IsRest src whole limit c → length c < suc most →
+        Forks src whole limit (length c) (λ g. expect_at src s c >>= f g)
+    at [] is few = inl ((λ g. refl), tt)
+    at (l ∷ x) is few = by_test l x is few (is_sign s l.word)
 
-  pub forks_id : (c : List Lexeme) → IsRest c → Forks (length c) (λ g. id_at src c)
+  -- the sign after it
+  pub closes : {A : Type 0} {most : ℕ} (s : Sign) {r : Guard → List Lexeme → Reading A} →
+      Walks src whole limit most r → Walks src whole limit most (λ g c. r g c >>= closed src s)
+  closes s one = then one (λ x. sooner (expects s (gives x)))
+
+  -- a name
+  pub names : {most : ℕ} → Walks src whole limit most (λ g. id_at src)
   unfolding id_at
-  forks_id c is = forks_if (length c) (is_name (word_of c)) (λ g. Ok (
-    id_of src (span_of c),
-    after c,
-  )) (λ g. syntax src c) (λ so. forks_next (id_of src (span_of c)) c is)
-      (λ so. forks_syntax (length c) c)
+  names = by_first span_of (λ span. choose (λ c. is_name (word_of c))
+      (next (gives (id_of src span))) stops)
 
-  -- ---- items
+  -- items, each of them read so
+  module _ {A : Type 0} {most : ℕ} {item : Guard → Next A}
+      (each : Walks src whole limit most item) where
+    runs : (count : ℕ) → Walks src whole limit most (λ g. run_at (item g) count)
+    runs zero = gives []
+    runs (suc count) = then each (by_item (runs count)) where
+      by_item : Walks src whole limit most (λ g. run_at (item g) count) → (x : Option A) →
+          Walks src whole limit most (λ g c. one_more (run_at (item g) count) (x, c))
+      by_item others None = gives []
+      by_item others (Some i) = tells (λ items. i ∷ items) others
 
-  module _ {A : Type 0} (next : Guard → Next A) (most : ℕ) (forks : (c : List Lexeme) →
-      IsRest c → length c ≤ most → Forks (length c) (λ g. next g c)) where
-    by_item : (f : Guard → List Lexeme → Reading (List A)) → ((d : List Lexeme) → IsRest d →
-        length d ≤ most → Forks (length d) (λ g. f g d))
-        → (x : Option A × List Lexeme) → IsRest x.1 → length x.1 ≤ most →
-        Forks (length x.1) (λ g. one_more (f g) x)
-    by_item f others (None, d) is few = forks_value [] d is
-    by_item f others (Some i, d) is few = forks_told (length d) (λ items. i ∷ items) (λ g. f g d)
-        (others d is few)
-
-    forks_run : (count : ℕ) (c : List Lexeme) → IsRest c → length c ≤ most →
-        Forks (length c) (λ g. run_at (next g) count c)
-    forks_run zero c is few = forks_value [] c is
-    forks_run (suc count) c is few = forks_then (length c) (λ g. next g c) (λ g. one_more
-        (run_at (next g) count)) (forks c is few)
-        (λ x left less. by_item (λ g. run_at (next g) count) (forks_run count) x left (omega
-        (arith, less, few)))
-
-    pub forks_items : (c : List Lexeme) → IsRest c → length c ≤ most →
-        Forks (length c) (λ g. items_at (next g) c)
+    pub many : Walks src whole limit most (λ g. items_at (item g))
     unfolding items_at
-    forks_items c is few = forks_run (length c) c is few
+    many = by_first length runs

@@ -1,6 +1,6 @@
 -- Items one after the other are read as they are spelled.
 use Rattle.std.proofs.Common.{◌≡◌, ℕ, zero, suc, ◌<◌, ◌≤◌, List, [], ◌∷◌, length}
-use Rattle.std.proofs.Common.{Option, Some, None, Ok, refl, ap, subst, ◌∙◌, arith}
+use Rattle.std.proofs.Common.{Option, Some, None, Ok, refl, sym, ap, subst, ◌∙◌, arith}
 use Rattle.wap_base.specs.Outcome.{◌>>=◌}
 use Rattle.wap_base.proofs.Choices.{bind_ok}
 use Rattle.wap_grammar.specs.declared.lexeme.Lexeme.{Lexeme}
@@ -8,13 +8,34 @@ use Rattle.wap_grammar.specs.Spellings.{Spelling, Several, none, more}
 use Rattle.wap_grammar.specs.reading.TokenReading.{Reading, told, Next, one_more, run_at, items_at}
 use Rattle.wap_grammar.proofs.Firsts.{value_same, told_ok}
 
+-- what is spelled the one way is spelled the other way
+abbrev pub Implies : {A : Type 0} → Spelling A → Spelling A → Type 0
+Implies {A = A} Is Js = (a : List Lexeme) (x : A) (b : List Lexeme) → Is a x b → Js a x b
+
+-- what is read is spelled
+abbrev pub Takes : {A : Type 0} → Spelling A → (List Lexeme → Reading A) → Type 0
+Takes {A = A} Is read = (a : List Lexeme) (x : A) (b : List Lexeme) → read a ≡ Ok (x, b) → Is a x b
+
+-- what is spelled is read, where nothing follows that goes on with it
+abbrev pub Again : {A : Type 0} → Spelling A → (List Lexeme → Type 0) → (List Lexeme →
+    Reading A) → Type 0
+Again {A = A} Is E read =
+    (a : List Lexeme) (x : A) (b : List Lexeme) → Is a x b → E b → read a ≡ Ok (x, b)
+
+-- no token comes to what is left, or one goes at least
+abbrev pub Within : {A : Type 0} → Spelling A → Type 0
+Within {A = A} Is = (a : List Lexeme) (x : A) (b : List Lexeme) → Is a x b → length b ≤ length a
+
+abbrev pub Shorter : {A : Type 0} → Spelling A → Type 0
+Shorter {A = A} Is = (a : List Lexeme) (x : A) (b : List Lexeme) → Is a x b → length b < length a
+
 -- a reading gives what is spelled, and all that is spelled where nothing follows that goes on with
 -- it
 pub record Reads {A : Type 0} (Is : Spelling A) (Ends : List Lexeme → Type 0) (read : List Lexeme →
     Reading A) : Type 0 where
-  pub takes : (a : List Lexeme) (x : A) (b : List Lexeme) → read a ≡ Ok (x, b) → Is a x b
-  pub again : (a : List Lexeme) (x : A) (b : List Lexeme) → Is a x b → Ends b → read a ≡ Ok (x, b)
-  pub within : (a : List Lexeme) (x : A) (b : List Lexeme) → Is a x b → length b ≤ length a
+  pub takes : Takes Is read
+  pub again : Again Is Ends read
+  pub within : Within Is
 
 -- the next item of some, which begins with what ends the one before; none where they end
 pub record ReadsItems {A : Type 0} (Is : Spelling A) (Inside Ends : List Lexeme →
@@ -26,7 +47,7 @@ pub record ReadsItems {A : Type 0} (Is : Spelling A) (Inside Ends : List Lexeme 
   pub stops : (b : List Lexeme) → Ends b → next b ≡ Ok (None, b)
   pub looser : (b : List Lexeme) → Ends b → Inside b
   pub goes_on : (a : List Lexeme) (x : A) (b : List Lexeme) → Is a x b → Inside a
-  pub shorter : (a : List Lexeme) (x : A) (b : List Lexeme) → Is a x b → length b < length a
+  pub shorter : Shorter Is
 
 module _ {A : Type 0} {Is : Spelling A} {Inside Ends : List Lexeme →
     Type 0} {next : Next A} (reads : ReadsItems Is Inside Ends next) where
@@ -34,7 +55,7 @@ module _ {A : Type 0} {Is : Spelling A} {Inside Ends : List Lexeme →
       run_at next most a ≡ Ok (xs, b) → Several Is a xs b
   items_ok zero a xs b e =
       let same = value_same ([], a) (xs, b) e in
-      subst (λ (ys : List A). Several Is a ys b) same.0 (subst (Several Is a []) same.1 (none a))
+      rw (sym same.0, sym same.1) (none a)
   items_ok (suc most) a xs b e = by_first (bind_ok (next a) (one_more (run_at next most)) (xs, b) e)
       (items_ok most) where
         by_first : (first : Option A × List Lexeme) × (next a ≡ Ok first) × (one_more

@@ -1,6 +1,6 @@
 -- Expressions of each level of precedence, and of each depth, are read as they are spelled.
 use Rattle.std.proofs.Common.{◌≡◌, ℕ, zero, suc, ◌<◌, ◌≤◌, Bool, true, false, cond, List}
-use Rattle.std.proofs.Common.{[], ◌∷◌, length, Option, Some, None, Ok, refl, sym, ap}
+use Rattle.std.proofs.Common.{[], ◌∷◌, Option, Some, None, Ok, refl, sym, ap}
 use Rattle.std.proofs.Common.{subst, ◌∙◌, inl, inr, ◌⊎◌, eq-eqb, arith}
 use Rattle.std.specs.Prelude.{nat_eq}
 use Rattle.std.proofs.lemmas.Bool.{eqb-true, ne_eqb, cases_Bool}
@@ -24,31 +24,17 @@ use Rattle.wap_grammar.specs.Expressions.{Expressions, IsOperand, operand, IsLoo
 use Rattle.wap_grammar.specs.Expressions.{conditional, assignment, IsPart, IsExpression}
 use Rattle.wap_grammar.specs.reading.TokenReading.{Reading, word_of, span_of, after, nested}
 use Rattle.wap_grammar.specs.reading.TokenReading.{told, closed, id_at, items_at}
-use Rattle.wap_grammar.specs.reading.Expressions.{
-  Reader,
-  chained,
-  operand_by,
-  next_operand,
-  chain_at,
-  callee_after,
-  callee_at,
-  variable_at,
-  named_at,
-  primary_at,
-  unary_at,
-  branches_at,
-  conditional_at,
-  assignment_by,
-  assignment_at,
-  looser_at,
-  part_at,
-  expression_at,
-}
+use Rattle.wap_grammar.specs.reading.Expressions.{Reader, chained, operand_by, next_operand}
+use Rattle.wap_grammar.specs.reading.Expressions.{chain_at, callee_after, callee_at, variable_at}
+use Rattle.wap_grammar.specs.reading.Expressions.{named_at, primary_at, unary_at, branches_at}
+use Rattle.wap_grammar.specs.reading.Expressions.{conditional_at, assignment_by, assignment_at}
+use Rattle.wap_grammar.specs.reading.Expressions.{looser_at, part_at, expression_at}
 use Rattle.wap_grammar.proofs.Firsts.{value_same, told_ok, sign_first, name_first}
 use Rattle.wap_grammar.proofs.Firsts.{assignment_is, operator_is, operator_at, closed_ok}
 use Rattle.wap_grammar.proofs.Firsts.{closed_at, Ends, looseness, ends_tighter, ends_branch}
 use Rattle.wap_grammar.proofs.Firsts.{no_sign, no_operator, starts}
 use Rattle.wap_grammar.proofs.Items.{Reads, ReadsItems, reads_items, first_inside, items_none}
+use Rattle.wap_grammar.proofs.Items.{Shorter, Takes, Within}
 use Rattle.wap_grammar.proofs.Operands.{AllRead, AllStart, reads_unary, unary_starts}
 
 -- no operator of two operands is of the level of `?:` or of assignments
@@ -101,8 +87,7 @@ module _ (src : List ℕ) (Inner : Expressions) (inner : Reader) (deep : AllRead
         IsOperand (suc level) IsTighter a p b → Ends level a
     operand_goes_on a p b (operand o span c b' e is one) = omega (arith, is)
 
-    operand_shorter : (a : List Lexeme) (p : BinOp × Expr) (b : List Lexeme) →
-        IsOperand (suc level) IsTighter a p b → length b < length a
+    operand_shorter : Shorter (IsOperand (suc level) IsTighter)
     operand_shorter a p b (operand o span c b' e is one) = omega (arith, reads.within c e b one)
 
     reads_next : ReadsItems (IsOperand (suc level) IsTighter) (Ends level) (Ends (suc level))
@@ -134,14 +119,11 @@ module _ (src : List ℕ) (Inner : Expressions) (inner : Reader) (deep : AllRead
           no_pairs c b (several.none c') = refl
     pairs_ok a c b e (pair ∷ pairs) one others = chain a c b e pair pairs one others
 
-    chain_ok : (a : List Lexeme) (e : Expr) (b : List Lexeme) →
-        chain_at (suc level) read a ≡ Ok (e, b) → Here a e b
+    chain_ok : Takes Here (chain_at (suc level) read)
     unfolding chain_at
     chain_ok a e b is =
-        let first = bind_ok (read a) (λ first. told (chained first.0) (items_at (next_operand
-        (suc level) read) first.1)) (e, b) is in
-        let rest = told_ok (chained first.0.0) (items_at (next_operand
-        (suc level) read) first.0.1) e b first.2 in
+        let first = bind_ok (read a) _ (e, b) is in
+        let rest = told_ok (chained first.0.0) _ e b first.2 in
         subst (λ (f : Expr). Here a f b) rest.2
         (pairs_ok a first.0.1 b first.0.0 rest.0 (reads.takes a first.0.0 first.0.1 first.1)
         (reads_pairs.takes first.0.1 rest.0 b rest.1))
@@ -162,19 +144,13 @@ module _ (src : List ℕ) (Inner : Expressions) (inner : Reader) (deep : AllRead
         conditional_at src inner read a ≡ Ok (e, b) → Here a e b
     unfolding conditional_at branches_at
     conditional_ok at_level a e b is =
-        let first = bind_ok (read a) (λ first. cond (is_sign signs.Question (word_of first.1))
-        (branches_at src inner first.0 (after first.1)) (Ok first)) (e, b) is in
+        let first = bind_ok (read a) _ (e, b) is in
         let whole = reads.takes a first.0.0 first.0.1 first.1 in
-        elim (chosen (is_sign signs.Question (word_of first.0.1)) (branches_at src inner first.0.0
-        (after first.0.1)) (Ok first.0) (Ok (e, b)) first.2) [
+        elim (chosen (is_sign signs.Question (word_of first.0.1)) _ _ (Ok (e, b)) first.2) [
           | inl so ↦ (
-              let left = bind_ok (inner ASSIGNMENT (after first.0.1))
-              (λ one. closed src signs.Colon one >>= λ one. told (expr.Cond first.0.0 one.0)
-              (inner ASSIGNMENT one.1)) (e, b) so.1 in
-              let mid = bind_ok (closed src signs.Colon left.0) (λ one. told
-              (expr.Cond first.0.0 one.0) (inner ASSIGNMENT one.1)) (e, b) left.2 in
-              let right = told_ok (expr.Cond first.0.0 mid.0.0)
-              (inner ASSIGNMENT mid.0.1) e b mid.2 in
+              let left = bind_ok (inner ASSIGNMENT (after first.0.1)) _ (e, b) so.1 in
+              let mid = bind_ok (closed src signs.Colon left.0) _ (e, b) left.2 in
+              let right = told_ok (expr.Cond first.0.0 mid.0.0) _ e b mid.2 in
               let end = closed_ok src signs.Colon left.0 mid.0.0 mid.0.1 mid.1 in
               let start : Inner ASSIGNMENT (after first.0.1) left.0.0 (sign signs.Colon
               (span_of left.0.1) ∷ mid.0.1) =
@@ -206,31 +182,23 @@ module _ (src : List ℕ) (Inner : Expressions) (inner : Reader) (deep : AllRead
         let whole : v ∷ t ∷ c ≡ name v.span ∷ token (word.Assign o) t.span ∷ c =
         name_first (v ∷ t ∷ c) is ∙ ap (λ (w : Word). name v.span ∷ token w t.span ∷ c)
         (assignment_is t.word o so) in
-        subst (λ (x : List Lexeme). Here x e b) (sym whole)
-        (subst (λ (f : Expr). Here (name v.span ∷ token (word.Assign o) t.span ∷ c) f b) found.2
-        (assignment v.span t.span c b o found.0 at_level
-        ((deep ASSIGNMENT).takes c found.0 b found.1)))
+        rw (whole, sym found.2) (assignment v.span t.span c b o found.0 at_level
+        ((deep ASSIGNMENT).takes c found.0 b found.1))
     assignment_ok at_level a e b true None is so e' = tighter a b e (reads.takes a e b e')
     assignment_ok at_level a e b false o is so e' = tighter a b e (reads.takes a e b e')
 
-    looser_ok : (a : List Lexeme) (e : Expr) (b : List Lexeme) →
-        looser_at src inner (suc level) read a ≡ Ok (e, b) → Here a e b
+    looser_ok : Takes Here (looser_at src inner (suc level) read)
     unfolding assignment_at
-    looser_ok a e b is = elim (chosen (nat_eq (suc level) CONDITIONAL)
-        (conditional_at src inner read a)
-        (cond (nat_eq (suc level) ASSIGNMENT) (assignment_at src inner read a) (chain_at
-        (suc level) read a)) (Ok (e, b)) is) [
-          | inl so ↦ conditional_ok (eqb-true (suc level) CONDITIONAL so.0) a e b so.1
-          | inr other ↦ (elim (chosen (nat_eq (suc level) ASSIGNMENT)
-              (assignment_at src inner read a) (chain_at (suc level) read a) (Ok (e, b)) other.1) [
-                | inl so ↦ assignment_ok (eqb-true (suc level) ASSIGNMENT so.0) a e b (is_name
-                    (word_of a)) (assignment_of (word_of (after a))) refl refl so.1
-                | inr so ↦ chain_ok a e b so.1
-              ])
-        ]
+    looser_ok a e b is = elim (chosen (nat_eq (suc level) CONDITIONAL) _ _ (Ok (e, b)) is) [
+      | inl so ↦ conditional_ok (eqb-true (suc level) CONDITIONAL so.0) a e b so.1
+      | inr other ↦ (elim (chosen (nat_eq (suc level) ASSIGNMENT) _ _ (Ok (e, b)) other.1) [
+        | inl so ↦ assignment_ok (eqb-true (suc level) ASSIGNMENT so.0) a e b (is_name
+            (word_of a)) (assignment_of (word_of (after a))) refl refl so.1
+        | inr so ↦ chain_ok a e b so.1
+      ])
+    ]
 
-    looser_within : (a : List Lexeme) (e : Expr) (b : List Lexeme) → Here a e b →
-        length b ≤ length a
+    looser_within : Within Here
     looser_within a e b (tighter a' b' e' one) = reads.within a e b one
     looser_within a e b (chain a' c b' e' pair pairs one others) = omega
         (arith, reads.within a e' c one, reads_pairs.within c (pair ∷ pairs) b others)

@@ -1,5 +1,6 @@
 pub mod Firsts
 pub mod Items
+pub mod Productions
 pub mod Callees
 pub mod Operands
 pub mod Levels

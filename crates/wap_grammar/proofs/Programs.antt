@@ -23,9 +23,8 @@ use Rattle.wap_grammar.specs.reading.Expressions.{named_at, primary_at, unary_at
 use Rattle.wap_grammar.specs.reading.Expressions.{chain_at, conditional_at, assignment_at}
 use Rattle.wap_grammar.specs.reading.Expressions.{part_at, expression_at}
 use Rattle.wap_grammar.specs.reading.Statements.{optional_at, condition_at, next_statement}
-use Rattle.wap_grammar.specs.reading.Statements.{block_at}
-use Rattle.wap_grammar.specs.reading.Statements.{arm_at, else_at, if_at}
-use Rattle.wap_grammar.specs.reading.Statements.{started_at, statement_by, statement_at}
+use Rattle.wap_grammar.specs.reading.Statements.{block_at, arm_at, else_at, if_at, started_at}
+use Rattle.wap_grammar.specs.reading.Statements.{statement_by, statement_at}
 use Rattle.wap_grammar.specs.reading.Programs.{next_use, parameters_at, head_at}
 use Rattle.wap_grammar.specs.reading.Programs.{function_at, next_function, program_at}
 use Rattle.wap_grammar.proofs.Whole.{program_ok}

@@ -1,8 +1,7 @@
 -- Statements are read as they are spelled.
-use Rattle.std.proofs.Common.{◌≡◌, ℕ, zero, suc, ◌<◌, true, false, List, [], ◌∷◌, length}
-use Rattle.std.proofs.Common.{Option, Some, None, Ok, refl, sym, ap, subst, ◌∙◌, arith}
+use Rattle.std.proofs.Common.{◌≡◌, ℕ, zero, suc, true, false, List, [], ◌∷◌}
+use Rattle.std.proofs.Common.{Option, Ok, refl, sym, ap, subst, ◌∙◌, arith}
 use Rattle.wap_base.specs.Outcome.{◌>>=◌}
-use Rattle.wap_base.proofs.Choices.{bind_ok, some_same}
 use Rattle.wap_grammar.specs.declared.program.program.Span.{Span}
 use Rattle.wap_grammar.specs.declared.program.expression.Expr.{Expr}
 use Rattle.wap_grammar.specs.declared.program.statement.Stmt.{Stmt}
@@ -16,67 +15,74 @@ use Rattle.wap_grammar.specs.declared.word.Word.TheVariants as word
 use Rattle.wap_grammar.specs.declared.word.Sign.{Sign}
 use Rattle.wap_grammar.specs.declared.word.Sign.TheVariants as signs
 use Rattle.wap_grammar.specs.Lexemes.{word_of, is_same_sign, is_sign, start_of, start_by}
-use Rattle.wap_grammar.specs.Spellings.{Spelling, token, sign}
+use Rattle.wap_grammar.specs.Spellings.{Spelling, token, sign, Several}
 use Rattle.wap_grammar.specs.Expressions.{Expressions, IsExpression}
 use Rattle.wap_grammar.specs.Statements as stated
-use Rattle.wap_grammar.specs.Statements.{IsOptional, IsCondition, IsElse}
+use Rattle.wap_grammar.specs.Statements.{IsOptional, IsInitial, IsCondition, IsElse}
 use Rattle.wap_grammar.specs.Statements.{IsStatementOf, IsStatement}
-use Rattle.wap_grammar.specs.reading.TokenReading.{Reading, span_of, after, nested, told, expect_at}
-use Rattle.wap_grammar.specs.reading.TokenReading.{closed}
+use Rattle.wap_grammar.specs.reading.TokenReading.{Reading, span_of, after, nested, told, closed}
 use Rattle.wap_grammar.specs.reading.Expressions.{Reader, expression_at}
-use Rattle.wap_grammar.specs.reading.Statements.{Statements, optional_at, initial_at, condition_at}
-use Rattle.wap_grammar.specs.reading.Statements.{block_at, arm_at, else_at, if_at, while_at, for_at}
+use Rattle.wap_grammar.specs.reading.Statements.{Statements, optional_at, condition_at}
+use Rattle.wap_grammar.specs.reading.Statements.{arm_at, else_at, if_at, while_at, for_at}
 use Rattle.wap_grammar.specs.reading.Statements.{started_at, statement_by, statement_at}
-use Rattle.wap_grammar.proofs.Firsts.{value_same, told_ok, closed_ok, closed_at}
-use Rattle.wap_grammar.proofs.Firsts.{expect_ok, starts, no_start}
-use Rattle.wap_grammar.proofs.Items.{Reads}
+use Rattle.wap_grammar.proofs.Firsts.{starts, no_start}
+use Rattle.wap_grammar.proofs.Items.{Reads, Implies, Shorter}
 use Rattle.wap_grammar.proofs.Operands.{AllRead, AllStart}
 use Rattle.wap_grammar.proofs.Levels.{reads_expression, expression_starts}
 pub use Rattle.wap_grammar.proofs.Blocks.{ReadsStatements}
-use Rattle.wap_grammar.proofs.Blocks.{block_ok, block_again, block_within}
+use Rattle.wap_grammar.proofs.Blocks.{reads_block}
 use Rattle.wap_grammar.proofs.Elses.{reads_else}
-use Rattle.wap_grammar.proofs.CommaLists.{Anything, closing_ok, closing_again, variables_ok}
-use Rattle.wap_grammar.proofs.CommaLists.{variables_again, reads_optional, reads_declarations}
+use Rattle.wap_grammar.proofs.CommaLists.{Declared, reads_variables, reads_optional}
 use Rattle.wap_grammar.proofs.CommaLists.{reads_initial, reads_condition}
+use Rattle.wap_grammar.proofs.Productions.{Anything, Given, given, Made, made, Turn, turn, Behind}
+use Rattle.wap_grammar.proofs.Productions.{behind, Before, before, reads_given, reads_made}
+use Rattle.wap_grammar.proofs.Productions.{reads_then, reads_behind, reads_before}
 
--- the sign of its own that a statement begins with
-pub sign_for : Start → Option Sign
-sign_for start.Empty = Some signs.Semicolon
-sign_for start.Block = Some signs.OpenBlock
-sign_for start.Vars = Some signs.Var
-sign_for start.If = Some signs.If
-sign_for start.While = Some signs.While
-sign_for start.For = Some signs.For
-sign_for start.Break = Some signs.Break
-sign_for start.Continue = Some signs.Continue
-sign_for start.Return = Some signs.Return
-sign_for start.Expression = None
+-- the sign of its own that a statement begins with which is no expression
+pub sign_for : Start → Sign
+sign_for start.Empty = signs.Semicolon
+sign_for start.Block = signs.OpenBlock
+sign_for start.Vars = signs.Var
+sign_for start.If = signs.If
+sign_for start.While = signs.While
+sign_for start.For = signs.For
+sign_for start.Break = signs.Break
+sign_for start.Continue = signs.Continue
+sign_for start.Return = signs.Return
+sign_for start.Expression = signs.Open
 
-sign_by : (t s : Sign) → sign_for (start_by t) ≡ Some s → t ≡ s
+abbrev IsOther : Start → Type 0
+IsOther k = k ≡ start.Expression → ⊥
+
+sign_by : (t : Sign) (k : Start) → start_by t ≡ k → IsOther k → t ≡ sign_for k
 unfolding sign_for
-sign_by signs.Semicolon s e = some_same signs.Semicolon s e
-sign_by signs.OpenBlock s e = some_same signs.OpenBlock s e
-sign_by signs.Var s e = some_same signs.Var s e
-sign_by signs.If s e = some_same signs.If s e
-sign_by signs.While s e = some_same signs.While s e
-sign_by signs.For s e = some_same signs.For s e
-sign_by signs.Break s e = some_same signs.Break s e
-sign_by signs.Continue s e = some_same signs.Continue s e
-sign_by signs.Return s e = some_same signs.Return s e
-sign_by t s e = absurd cc
+sign_by signs.Semicolon k e other = ap sign_for e
+sign_by signs.OpenBlock k e other = ap sign_for e
+sign_by signs.Var k e other = ap sign_for e
+sign_by signs.If k e other = ap sign_for e
+sign_by signs.While k e other = ap sign_for e
+sign_by signs.For k e other = ap sign_for e
+sign_by signs.Break k e other = ap sign_for e
+sign_by signs.Continue k e other = ap sign_for e
+sign_by signs.Return k e other = ap sign_for e
+sign_by t k e other = absurd (other (sym e))
 
-start_is : (w : Word) (s : Sign) → sign_for (start_of w) ≡ Some s → w ≡ word.Sign s
-unfolding sign_for
-start_is (word.Sign t) s e = ap word.Sign (sign_by t s e)
-start_is word.Name s e = absurd cc
-start_is w s e = absurd cc
+start_is : (w : Word) (k : Start) → start_of w ≡ k → IsOther k → w ≡ word.Sign (sign_for k)
+start_is (word.Sign t) k e other = ap word.Sign (sign_by t k e other)
+start_is word.Name k e other = absurd (other (sym e))
+start_is w k e other = absurd (other (sym e))
 
-pub start_first : (a : List Lexeme) (k : Start) (s : Sign) → start_of (word_of a) ≡ k →
-    sign_for k ≡ Some s → a ≡ sign s (span_of a) ∷ after a
+start_first : (a : List Lexeme) (k : Start) → start_of (word_of a) ≡ k → IsOther k →
+    a ≡ sign (sign_for k) (span_of a) ∷ after a
+start_first [] k e other = absurd (other (sym e))
+start_first (l ∷ x) k e other = ap (λ (w : Word). token w l.span ∷ x) (start_is l.word k e other)
+
+start_again : (k : Start) → IsOther k →
+    (start_by (sign_for k) ≡ k) × (is_same_sign signs.CloseBlock (sign_for k) ≡ false)
 unfolding sign_for
-start_first [] k s e is = let none : None ≡ Some s = ap sign_for e ∙ is in absurd cc
-start_first (l ∷ x) k s e is = ap (λ (w : Word). token w l.span ∷ x) (start_is l.word s
-    (ap sign_for e ∙ is))
+start_again start.Expression other = absurd (other refl)
+start_again start.Empty other = (refl, refl)
+start_again k other = (refl, refl)
 
 -- what begins an expression begins no other statement
 start_plain : (s : Sign) → is_same_sign signs.Open s ≡ true → start_by s ≡ start.Expression
@@ -114,229 +120,183 @@ module _ (src : List ℕ) (Inner : Expressions) (inner : Reader) (deep : AllRead
   abbrev Here : Spelling Stmt
   Here = IsStatementOf src Inner Statement
 
-  if_ok : (word : Span) (a : List Lexeme) (s : Stmt) (b : List Lexeme) →
-      if_at src inner statement a ≡ Ok (s, b) → Here (sign signs.If word ∷ a) s b
-  unfolding if_at arm_at
-  if_ok word a s b e =
-      let arm = bind_ok (arm_at src inner statement a) (λ arm. told (stmt.If arm.0.0 arm.0.1)
-      (else_at statement arm.1)) (s, b) e in
-      let c = bind_ok (condition_at src inner a) (λ c. told (λ s. (c.0, s)) (statement c.1))
-      arm.0 arm.1 in
-      let body = told_ok (λ (s : Stmt). (c.0.0, s)) (statement c.0.1) arm.0.0 arm.0.1 c.2 in
-      let other = told_ok (stmt.If arm.0.0.0 arm.0.0.1) (else_at statement arm.0.1) s b arm.2 in
-      subst (λ (t : Stmt). Here (sign signs.If word ∷ a) t b) other.2
-      (subst (λ (p : Expr × Stmt). Here (sign signs.If word ∷ a) (stmt.If p.0 p.1 other.0) b)
-      body.2 (stated.if_ word a c.0.1 arm.0.1 b c.0.0 body.0 other.0
-      (conditions.takes a c.0.0 c.0.1 c.1) (reads.takes c.0.1 body.0 arm.0.1 body.1)
-      (elses.takes arm.0.1 other.0 b other.1)))
+  -- an expression, and the `;`
+  abbrev Alone : Spelling Stmt
+  Alone = Made stmt.Expr (Before signs.Semicolon (Inner COMMA))
 
-  while_ok : (word : Span) (a : List Lexeme) (s : Stmt) (b : List Lexeme) →
-      while_at src inner statement a ≡ Ok (s, b) → Here (sign signs.While word ∷ a) s b
-  unfolding while_at
-  while_ok word a s b e =
-      let c = bind_ok (condition_at src inner a) (λ c. told (stmt.While c.0) (statement c.1))
-      (s, b) e in
-      let body = told_ok (stmt.While c.0.0) (statement c.0.1) s b c.2 in
-      subst (λ (t : Stmt). Here (sign signs.While word ∷ a) t b) body.2
-      (stated.while word a c.0.1 b c.0.0 body.0 (conditions.takes a c.0.0 c.0.1 c.1)
-      (reads.takes c.0.1 body.0 b body.1))
+  reads_alone : Reads Alone Anything (λ a. told stmt.Expr (inner COMMA a >>= closed src
+      signs.Semicolon))
+  reads_alone = reads_made stmt.Expr (reads_before src signs.Semicolon refl (deep COMMA)
+      (λ span b. omega arith))
 
-  for_ok : (word : Span) (a : List Lexeme) (s : Stmt) (b : List Lexeme) →
-      for_at src inner statement a ≡ Ok (s, b) → Here (sign signs.For word ∷ a) s b
-  unfolding for_at
-  for_ok word a s b e =
-      let left = bind_ok (expect_at src signs.Open a)
-      (λ rest. initial_at src inner rest >>= λ first. optional_at src inner signs.Semicolon
-      first.1 >>= λ c. optional_at src inner signs.Close c.1 >>= λ update. told
-      (stmt.For first.0 c.0 update.0) (statement update.1)) (s, b) e in
-      let first = bind_ok (initial_at src inner left.0)
-      (λ first. optional_at src inner signs.Semicolon first.1 >>= λ c. optional_at src inner
-      signs.Close c.1 >>= λ update. told (stmt.For first.0 c.0 update.0) (statement update.1))
-      (s, b) left.2 in
-      let c = bind_ok (optional_at src inner signs.Semicolon first.0.1)
-      (λ c. optional_at src inner signs.Close c.1 >>= λ update. told
-      (stmt.For first.0.0 c.0 update.0) (statement update.1)) (s, b) first.2 in
-      let update = bind_ok (optional_at src inner signs.Close c.0.1) (λ update. told
-      (stmt.For first.0.0 c.0.0 update.0) (statement update.1)) (s, b) c.2 in
-      let body = told_ok (stmt.For first.0.0 c.0.0 update.0.0)
-      (statement update.0.1) s b update.2 in
-      subst (λ (x : List Lexeme). Here (sign signs.For word ∷ x) s b) (sym
-      (expect_ok src signs.Open a left.0 left.1))
-      (subst (λ (t : Stmt). Here (sign signs.For word ∷ sign signs.Open
-      (span_of a) ∷ left.0) t b) body.2
-      (stated.for word (span_of a) left.0 first.0.1 c.0.1 update.0.1 b first.0.0 body.0 c.0.0
-      update.0.0
-      ((reads_initial src Inner inner deep begin).takes left.0 first.0.0 first.0.1 first.1)
-      (semicolon.takes first.0.1 c.0.0 c.0.1 c.1)
-      (close.takes c.0.1 update.0.0 update.0.1 update.1)
-      (reads.takes update.0.1 body.0 b body.1)))
+  -- what follows the sign of a statement of this kind, whose place is given
+  abbrev Follows : Span → Start → Spelling Stmt
+  Follows w start.Empty = Given stmt.Empty
+  Follows w start.Block = Made stmt.Block (Before signs.CloseBlock (Several Statement))
+  Follows w start.Vars = Declared src Inner inner deep begin
+  Follows w start.If = Turn {A = Expr × Stmt}
+      (Turn (IsCondition Inner) (λ c. Made (λ s. (c, s)) Statement)) (λ arm. Made (stmt.If arm.0
+      arm.1) (IsElse Statement))
+  Follows w start.While = Turn (IsCondition Inner) (λ c. Made (stmt.While c) Statement)
+  Follows w start.For = Behind (word.Sign signs.Open) (Turn (IsInitial src Inner) (λ first.
+      Turn (IsOptional Inner signs.Semicolon) (λ c. Turn (IsOptional Inner signs.Close) (λ update.
+      Made (stmt.For first c update) Statement))))
+  Follows w start.Break = Before signs.Semicolon (Given (stmt.Break w))
+  Follows w start.Continue = Before signs.Semicolon (Given (stmt.Continue w))
+  Follows w start.Return = Made stmt.Return (IsOptional Inner signs.Semicolon)
+  Follows w start.Expression = Alone
 
-  -- a statement that begins with this sign
-  begun : (k : Start) (s : Sign) (a : List Lexeme) (x : Stmt) (b : List Lexeme) →
-      start_of (word_of a) ≡ k → sign_for k ≡ Some s
-      → Here (sign s (span_of a) ∷ after a) x b → Here a x b
-  begun k s a x b e is here = subst (λ (c : List Lexeme). Here c x b) (sym
-      (start_first a k s e is)) here
+  reads_follows : (w : Span) (k : Start) → IsOther k → Reads (Follows w k) Anything
+      (λ a. started_at src inner statement k (sign (sign_for k) w ∷ a))
+  unfolding started_at if_at arm_at while_at for_at
+  reads_follows w start.Empty other = reads_given stmt.Empty
+  reads_follows w start.Block other =
+      reads_made stmt.Block (reads_block src Statement statement inmost)
+  reads_follows w start.Vars other = reads_variables src Inner inner deep begin
+  reads_follows w start.If other = reads_then (reads_then conditions
+      (λ c. reads_made (λ s. (c, s)) reads)) (λ arm. reads_made (stmt.If arm.0 arm.1) elses)
+  reads_follows w start.While other = reads_then conditions (λ c. reads_made (stmt.While c) reads)
+  reads_follows w start.For other = reads_behind src signs.Open refl
+      (reads_then (reads_initial src Inner inner deep begin) (λ first. reads_then semicolon (λ c.
+      reads_then close (λ update. reads_made (stmt.For first c update) reads))))
+  reads_follows w start.Break other =
+      reads_before src signs.Semicolon refl (reads_given {E = Anything} (stmt.Break w)) (λ span b.
+      tt)
+  reads_follows w start.Continue other =
+      reads_before src signs.Semicolon refl (reads_given {E = Anything} (stmt.Continue w))
+      (λ span b. tt)
+  reads_follows w start.Return other = reads_made stmt.Return semicolon
+  reads_follows w start.Expression other = absurd (other refl)
+
+  -- ---- statements by their parts
+
+  if_from : (w : Span) (a y z b : List Lexeme) (c : Expr) → IsCondition Inner a c y →
+      (arm : Expr × Stmt) → Made (λ s. (c, s)) Statement y arm z → (s : Stmt) →
+      Made (stmt.If arm.0 arm.1) (IsElse Statement) z s b → Here (sign signs.If w ∷ a) s b
+  if_from w a y z b c one arm (made y' z' t two) s (made z2 b' other three) =
+      stated.if_ w a y z b c t other one two three
+
+  while_from : (w : Span) (a y b : List Lexeme) (c : Expr) → IsCondition Inner a c y → (s : Stmt) →
+      Made (stmt.While c) Statement y s b → Here (sign signs.While w ∷ a) s b
+  while_from w a y b c one s (made y' b' t two) = stated.while w a y b c t one two
+
+  for_from : (w left : Span) (a y z u b : List Lexeme) (first : Stmt) (c update : Option Expr) →
+      IsInitial src Inner a first y → IsOptional Inner signs.Semicolon y c z →
+      IsOptional Inner signs.Close z update u → (s : Stmt) →
+      Made (stmt.For first c update) Statement u s b →
+      Here (sign signs.For w ∷ sign signs.Open left ∷ a) s b
+  for_from w left a y z u b first c update one two three s (made u' b' t four) =
+      stated.for w left a y z u b first t c update one two three four
+
+  follows_from : (w : Span) (k : Start) → IsOther k → (a : List Lexeme) (s : Stmt)
+      (b : List Lexeme) → Follows w k a s b → Here (sign (sign_for k) w ∷ a) s b
+  unfolding sign_for
+  follows_from w start.Empty other a s b (given a') = stated.empty w a
+  follows_from w start.Block other a s b (made a' b' ss (before right a2 b2 ss' are)) =
+      stated.block w right a b ss are
+  follows_from w start.Vars other a s b (made a' b' ds (before end a2 b2 ds' are)) =
+      stated.IsStatementOf.variables w end a b ds are
+  follows_from w start.If other a s b (turn a' z b' arm s' (turn a2 y z' c arm' one two) three) =
+      if_from w a y z b c one arm two s three
+  follows_from w start.While other a s b (turn a' y b' c s' one two) =
+      while_from w a y b c one s two
+  follows_from w start.For other a s b (behind left x b' s' (turn x' y b2 first s2 one
+      (turn y' z b3 c s3 two (turn z' u b4 update s4 three four)))) =
+      for_from w left x y z u b first c update one two three s four
+  follows_from w start.Break other a s b (before end a' b' s' (given a2)) = stated.break w end b
+  follows_from w start.Continue other a s b (before end a' b' s' (given a2)) =
+      stated.continue w end b
+  follows_from w start.Return other a s b (made a' b' e one) = stated.return w a b e one
+  follows_from w start.Expression other a s b is = absurd (other refl)
+
+  alone_from : Implies Alone Here
+  alone_from a s b (made a' b' e (before end a2 b2 e' one)) =
+      stated.IsStatementOf.expression end a b e one
+
+  -- a statement is an expression, or follows its sign
+  data Started : List Lexeme → Stmt → List Lexeme → Type 0 where
+    alone : (a b : List Lexeme) (s : Stmt) → Alone a s b → Started a s b
+    begun : (w : Span) (k : Start) (a b : List Lexeme) (s : Stmt) → IsOther k →
+        Follows w k a s b → Started (sign (sign_for k) w ∷ a) s b
+
+  started : Implies Here Started
+  unfolding sign_for
+  started a s b (stated.IsStatementOf.expression end a' b' e one) =
+      alone a b s (made a b e (before end a b e one))
+  started a s b (stated.empty w x) = begun w start.Empty x b s (λ e. absurd cc) (given x)
+  started a s b (stated.block w right x b' ss are) =
+      begun w start.Block x b s (λ e. absurd cc) (made x b ss (before right x b ss are))
+  started a s b (stated.IsStatementOf.variables w end x b' ds are) =
+      begun w start.Vars x b s (λ e. absurd cc) (made x b ds (before end x b ds are))
+  started a s b (stated.if_ w x y z b' c t other one two three) =
+      begun w start.If x b s (λ e. absurd cc) (turn x z b (c, t) s
+      (turn x y z c (c, t) one (made y z t two)) (made z b other three))
+  started a s b (stated.while w x y b' c t one two) =
+      begun w start.While x b s (λ e. absurd cc) (turn x y b c s one (made y b t two))
+  started a s b (stated.for w left x y z u b' first t c update one two three four) =
+      begun w start.For (sign signs.Open left ∷ x) b s (λ e. absurd cc)
+      (behind left x b s (turn x y b first s one (turn y z b c s two
+      (turn z u b update s three (made u b t four)))))
+  started a s b (stated.break w end x) =
+      begun w start.Break _ b s (λ e. absurd cc) (before end _ b s (given _))
+  started a s b (stated.continue w end x) =
+      begun w start.Continue _ b s (λ e. absurd cc) (before end _ b s (given _))
+  started a s b (stated.return w x b' e one) =
+      begun w start.Return x b s (λ e. absurd cc) (made x b e one)
+
+  begun_ok : (k : Start) (a : List Lexeme) (s : Stmt) (b : List Lexeme) → IsOther k →
+      start_of (word_of a) ≡ k → started_at src inner statement k a ≡ Ok (s, b) → Here a s b
+  begun_ok k a s b other is e =
+      let whole = start_first a k is other in
+      subst (λ c. Here c s b) (sym whole) (follows_from (span_of a) k other (after a) s b
+      ((reads_follows (span_of a) k other).takes (after a) s b
+      (ap (started_at src inner statement k) (sym whole) ∙ e)))
 
   statement_ok : (k : Start) (a : List Lexeme) (s : Stmt) (b : List Lexeme) →
       start_of (word_of a) ≡ k → started_at src inner statement k a ≡ Ok (s, b) → Here a s b
-  unfolding started_at sign_for
-  statement_ok start.Empty a s b k e =
-      let same = value_same (stmt.Empty, after a) (s, b) e in
-      begun start.Empty signs.Semicolon a s b k refl
-      (subst (λ (t : Stmt). Here (sign signs.Semicolon (span_of a) ∷ after a) t b) same.0
-      (subst (Here (sign signs.Semicolon (span_of a) ∷ after a) stmt.Empty) same.1 (stated.empty
-      (span_of a) (after a))))
-  statement_ok start.Block a s b k e =
-      let found = told_ok stmt.Block (block_at src statement (after a)) s b e in
-      let end = block_ok src Statement statement inmost (after a) found.0 b found.1 in
-      begun start.Block signs.OpenBlock a s b k refl
-      (subst (λ (t : Stmt). Here (sign signs.OpenBlock (span_of a) ∷ after a) t b) found.2
-      (stated.block (span_of a) end.0 (after a) b found.0 end.1))
-  statement_ok start.Vars a s b k e =
-      let found = variables_ok src Inner inner deep begin (after a) s b e in
-      begun start.Vars signs.Var a s b k refl
-      (subst (λ (t : Stmt). Here (sign signs.Var (span_of a) ∷ after a) t b) found.3
-      (stated.IsStatementOf.variables (span_of a) found.1 (after a) b found.0 found.2))
-  statement_ok start.If a s b k e = begun start.If signs.If a s b k refl (if_ok (span_of a)
-      (after a) s b e)
-  statement_ok start.While a s b k e = begun start.While signs.While a s b k refl (while_ok
-      (span_of a) (after a) s b e)
-  statement_ok start.For a s b k e = begun start.For signs.For a s b k refl (for_ok (span_of a)
-      (after a) s b e)
-  statement_ok start.Break a s b k e =
-      let end = closed_ok src signs.Semicolon (stmt.Break (span_of a), after a) s b e in
-      begun start.Break signs.Break a s b k refl
-      (subst (λ (t : Stmt). Here (sign signs.Break (span_of a) ∷ after a) t b) end.0
-      (subst (λ (x : List Lexeme). Here (sign signs.Break (span_of a) ∷ x) (stmt.Break
-      (span_of a)) b) (sym end.1) (stated.break (span_of a) (span_of (after a)) b)))
-  statement_ok start.Continue a s b k e =
-      let end = closed_ok src signs.Semicolon (stmt.Continue (span_of a), after a) s b e in
-      begun start.Continue signs.Continue a s b k refl
-      (subst (λ (t : Stmt). Here (sign signs.Continue (span_of a) ∷ after a) t b) end.0
-      (subst (λ (x : List Lexeme). Here (sign signs.Continue (span_of a) ∷ x) (stmt.Continue
-      (span_of a)) b) (sym end.1) (stated.continue (span_of a) (span_of (after a)) b)))
-  statement_ok start.Return a s b k e =
-      let found = told_ok stmt.Return (optional_at src inner signs.Semicolon (after a)) s b e in
-      begun start.Return signs.Return a s b k refl
-      (subst (λ (t : Stmt). Here (sign signs.Return (span_of a) ∷ after a) t b) found.2
-      (stated.return (span_of a) (after a) b found.0 (semicolon.takes (after a) found.0 b found.1)))
-  statement_ok start.Expression a s b k e =
-      let found = told_ok stmt.Expr (inner COMMA a >>= closed src signs.Semicolon) s b e in
-      let end = closing_ok src signs.Semicolon (inner COMMA a) found.0 b found.1 in
-      subst (λ (t : Stmt). Here a t b) found.2
-      (stated.IsStatementOf.expression end.0 a b found.0 ((deep COMMA).takes a found.0
-      (sign signs.Semicolon end.0 ∷ b) end.1))
+  unfolding started_at
+  statement_ok start.Expression a s b is e = alone_from a s b (reads_alone.takes a s b e)
+  statement_ok start.Empty a s b is e = begun_ok start.Empty a s b (λ q. absurd cc) is e
+  statement_ok k a s b is e = begun_ok k a s b (λ q. absurd cc) is e
 
-  -- an `if`, from its condition and what is done where it holds
-  abbrev with_other : Reading (Expr × Stmt) → Reading Stmt
-  with_other arm = arm >>= λ arm. told (stmt.If arm.0.0 arm.0.1) (else_at statement arm.1)
+  -- what begins an expression is read as one
+  alone_start : (a : List Lexeme) (s : Stmt) (b : List Lexeme) → Alone a s b →
+      starts (word_of a) ≡ true
+  alone_start a s b (made a' b' e (before end a2 b2 e' one)) = begin COMMA a e _ one
 
-  statement_again : (a : List Lexeme) (s : Stmt) (b : List Lexeme) → Here a s b → Anything b →
+  started_again : (a : List Lexeme) (s : Stmt) (b : List Lexeme) → Started a s b →
       statement_by src inner statement a ≡ Ok (s, b)
-  unfolding statement_by started_at if_at arm_at while_at for_at expect_at
-  statement_again a s b (stated.empty end x) any = refl
-  statement_again a s b (stated.IsStatementOf.expression end a' b' e one) any =
-      ap (λ (k : Start). started_at src inner statement k a) (starts_expression (word_of a)
-      (begin COMMA a e (sign signs.Semicolon end ∷ b) one))
-      ∙ ap (told stmt.Expr) (closing_again src signs.Semicolon (inner COMMA a) e end b refl
-      ((deep COMMA).again a e (sign signs.Semicolon end ∷ b) one (omega arith)))
-  statement_again a s b (stated.block left right x b' ss are) any = ap (told stmt.Block)
-      (block_again src Statement statement inmost x ss right b are)
-  statement_again a s b (stated.IsStatementOf.variables var end x b' ds are) any =
-      variables_again src Inner inner deep begin x ds end b are
-  statement_again a s b (stated.if_ w x y z b' c t other one two three) any =
-      ap (λ (r : Reading Expr). with_other (r >>= λ c. told {B = Expr × Stmt} (λ t. (c.0, t))
-      (statement c.1))) (conditions.again x c y one tt)
-      ∙ ap (λ (r : Reading Stmt). with_other (told {B = Expr × Stmt} (λ t. (c, t)) r))
-      (reads.again y t z two tt)
-      ∙ ap (told (stmt.If c t)) (elses.again z other b three tt)
-  statement_again a s b (stated.while w x y b' c t one two) any =
-      ap (λ (r : Reading Expr). r >>= λ c. told (stmt.While c.0) (statement c.1))
-      (conditions.again x c y one tt) ∙ ap (told (stmt.While c)) (reads.again y t b two tt)
-  statement_again a s b (stated.for w left x y z u b' first t c update one two three four) any
-      =
-      ap (λ (r : Reading Stmt). r >>= λ first. optional_at src inner signs.Semicolon first.1 >>= λ
-      c. optional_at src inner signs.Close c.1 >>= λ update. told
-      (stmt.For first.0 c.0 update.0) (statement update.1))
-      ((reads_initial src Inner inner deep begin).again x first y one tt)
-      ∙ ap (λ (r : Reading (Option Expr)). r >>= λ c. optional_at src inner signs.Close c.1 >>= λ
-      update. told (stmt.For first c.0 update.0) (statement update.1))
-      (semicolon.again y c z two tt)
-      ∙ ap (λ (r : Reading (Option Expr)). r >>= λ update. told (stmt.For first c update.0)
-      (statement update.1)) (close.again z update u three tt)
-      ∙ ap (told (stmt.For first c update)) (reads.again u t b four tt)
-  statement_again a s b (stated.break w end x) any = closed_at src signs.Semicolon
-      (stmt.Break w) end b refl
-  statement_again a s b (stated.continue w end x) any = closed_at src signs.Semicolon
-      (stmt.Continue w) end b refl
-  statement_again a s b (stated.return w x b' e one) any = ap (told stmt.Return)
-      (semicolon.again x e b one tt)
+  unfolding statement_by started_at
+  started_again a s b (alone a' b' s' is) =
+      ap (λ (k : Start). started_at src inner statement k a)
+      (starts_expression (word_of a) (alone_start a s b is)) ∙ reads_alone.again a s b is tt
+  started_again a s b (begun w k x b' s' other is) =
+      ap (λ (j : Start). started_at src inner statement j (sign (sign_for k) w ∷ x))
+      (start_again k other).0 ∙ (reads_follows w k other).again x s b is tt
 
-  statement_shorter : (a : List Lexeme) (s : Stmt) (b : List Lexeme) → Here a s b →
-      length b < length a
-  statement_shorter a s b (stated.empty end x) = omega arith
-  statement_shorter a s b (stated.IsStatementOf.expression end a' b' e one) = omega (
-    arith,
-    (deep COMMA).within a e (sign signs.Semicolon end ∷ b) one,
-  )
-  statement_shorter a s b (stated.block left right x b' ss are) = omega
-      (arith, block_within src Statement statement inmost x ss right b are)
-  statement_shorter a s b (stated.IsStatementOf.variables var end x b' ds are) = omega (
-    arith,
-    (reads_declarations src Inner inner deep begin).within x ds
-        (sign signs.Semicolon end ∷ b) are,
-  )
-  statement_shorter a s b (stated.if_ w x y z b' c t other one two three) = omega (
-    arith,
-    conditions.within x c y one,
-    reads.within y t z two,
-    elses.within z other b three,
-  )
-  statement_shorter a s b (stated.while w x y b' c t one two) = omega
-      (arith, conditions.within x c y one, reads.within y t b two)
-  statement_shorter a s b (stated.for w left x y z u b' first t c update one two three four) =
-      omega (
-        arith,
-        (reads_initial src Inner inner deep begin).within x first y one,
-        semicolon.within y c z two,
-        close.within z update u three,
-        reads.within u t b four,
-      )
-  statement_shorter a s b (stated.break w end x) = omega arith
-  statement_shorter a s b (stated.continue w end x) = omega arith
-  statement_shorter a s b (stated.return w x b' e one) = omega
-      (arith, semicolon.within x e b one)
-
-  reads_statement : Reads Here Anything (statement_by src inner statement)
-  unfolding statement_by
-  reads_statement = record {
-    takes = λ a s b e. statement_ok (start_of (word_of a)) a s b refl e;
-    again = statement_again;
-    within = λ a s b is. omega (arith, statement_shorter a s b is);
-  }
+  started_shorter : Shorter Started
+  started_shorter a s b (alone a' b' s' (made a2 b2 e (before end a3 b3 e' one))) =
+      omega (arith, (deep COMMA).within a e (sign signs.Semicolon end ∷ b) one)
+  started_shorter a s b (begun w k x b' s' other is) =
+      omega (arith, (reads_follows w k other).within x s b is)
 
   -- no statement begins with `}`
-  statement_inside : (a : List Lexeme) (s : Stmt) (b : List Lexeme) → Here a s b →
+  started_inside : (a : List Lexeme) (s : Stmt) (b : List Lexeme) → Started a s b →
       is_sign signs.CloseBlock (word_of a) ≡ false
-  statement_inside a s b (stated.IsStatementOf.expression end a' b' e one) =
-      no_start signs.CloseBlock a refl (begin COMMA a e (sign signs.Semicolon end ∷ b) one)
-  statement_inside a s b (stated.empty end x) = refl
-  statement_inside a s b (stated.block left right x b' ss are) = refl
-  statement_inside a s b (stated.IsStatementOf.variables var end x b' ds are) = refl
-  statement_inside a s b (stated.if_ w x y z b' c t other one two three) = refl
-  statement_inside a s b (stated.while w x y b' c t one two) = refl
-  statement_inside a s b (stated.for w left x y z u b' first t c update one two three four) =
-      refl
-  statement_inside a s b (stated.break w end x) = refl
-  statement_inside a s b (stated.continue w end x) = refl
-  statement_inside a s b (stated.return w x b' e one) = refl
+  started_inside a s b (alone a' b' s' is) =
+      no_start signs.CloseBlock a refl (alone_start a s b is)
+  started_inside a s b (begun w k x b' s' other is) = (start_again k other).1
 
   pub reads_of : ReadsStatements Here (statement_by src inner statement)
+  unfolding statement_by
   reads_of = record {
-    reads = reads_statement;
-    shorter = statement_shorter;
-    inside = statement_inside;
+    reads = record {
+      takes = λ a s b e. statement_ok (start_of (word_of a)) a s b refl e;
+      again = λ a s b is any. started_again a s b (started a s b is);
+      within = λ a s b is. omega (arith, started_shorter a s b (started a s b is));
+    };
+    shorter = λ a s b is. started_shorter a s b (started a s b is);
+    inside = λ a s b is. started_inside a s b (started a s b is);
   }
 
 -- ---- all depths

@@ -1,17 +1,17 @@
 -- Strings that are tokens stand for texts: what stands between their quotes is UTF-8, and no escape
 -- has the number of a surrogate.
-use Rattle.std.proofs.Common.{◌≡◌, ℕ, zero, suc, ◌+◌, ◌-◌, ◌<◌, ◌≤◌, nat_le, nat_lt, Bool, true}
-use Rattle.std.proofs.Common.{false, cond, ◌==◌, ◌&&◌, ◌||◌, List, [], ◌∷◌, ◌++◌, length, take}
-use Rattle.std.proofs.Common.{drop, encode_utf8, encode_utf8_all, refl, sym, ap, subst}
-use Rattle.std.proofs.Common.{◌∙◌, inl, inr, ◌⊎◌, length-append, append_assoc, arith}
-use Rattle.std.specs.Char.{is_ascii_digit, is_ascii_hexdigit}
+use Rattle.std.proofs.Common.{◌≡◌, ℕ, zero, suc, ◌+◌, ◌*◌, ◌-◌, ◌<◌, ◌≤◌, nat_le, nat_lt, Bool}
+use Rattle.std.proofs.Common.{true, false, cond, ◌==◌, ◌&&◌, List, [], ◌∷◌, ◌++◌, length, take}
+use Rattle.std.proofs.Common.{drop, encode_utf8, encode_utf8_all, refl, sym, ap, subst, ◌∙◌, inl}
+use Rattle.std.proofs.Common.{inr, ◌⊎◌, length-append, append_assoc, arith}
+use Rattle.std.specs.Char.{is_ascii_hexdigit}
 use Rattle.std.specs.List.{All}
 use Rattle.std.specs.Str.{IsUtf8, chars, all_scalars}
 use Rattle.std.specs.Int.{is_in_range}
 use Rattle.std.proofs.Math.Utf8.{scalar, low_scalar}
 use Rattle.std.proofs.Math.Seq.{drop-append_seam, take-append_seam}
-use Rattle.std.proofs.lemmas.Bool.{cases_lt, eqb-true, eq-eqb, ne_eqb, le-leb, lt-leb, le-ltb}
-use Rattle.std.proofs.lemmas.Bool.{lt-ltb, leb-true, and_from, and_parts, or_parts}
+use Rattle.std.proofs.lemmas.Bool.{cases_lt, eqb-true, ne_eqb, leb-true, and_from, and_parts}
+use Rattle.std.proofs.lemmas.Grind.{common_steps}
 use Rattle.std.proofs.lemmas.Str.{encode_ascii, chars-encodes}
 use Rattle.std.proofs.lemmas.List.Elements.{All-nil, All-cons}
 use Rattle.wap_lex.specs.declared.token.Kind.{Kind}
@@ -37,21 +37,14 @@ head_same x y xs ys e = cc
 tail_same : (x y : ℕ) (xs ys : List ℕ) → x ∷ xs ≡ y ∷ ys → xs ≡ ys
 tail_same x y xs ys e = cc
 
-or_cases : (p q : Bool) → (p || q) ≡ true → (p ≡ true) ⊎ (q ≡ true)
-or_cases true q e = inl refl
-or_cases false q e = inr e
-
 in_range : (low high c : ℕ) → is_in_range low high c ≡ true → (low ≤ c) × (c ≤ high)
-in_range low high c e =
-    let both = and_parts (nat_le low c) (nat_le c high) e in
-    (leb-true low c both.0, leb-true c high both.1)
+in_range low high c e = (grind (arith, common_steps), grind (arith, common_steps))
 
 -- ---- characters of US-ASCII in UTF-8
 
 not_high : (b : ℕ) (h r rest : List ℕ) → AllHigh h → 0 < length h → h ++ r ≡ b ∷ rest → b < 128 → ⊥
 not_high b [] r rest high some e low = absurd (omega (arith, some))
-not_high b (x ∷ h) r rest high some e low =
-    absurd (omega (arith, high.0, low, head_same x b (h ++ r) rest e))
+not_high b (x ∷ h) r rest high some e low = grind (arith, high.0)
 
 -- what begins with such a byte begins with its character
 peel : (cs : List ℕ) (b : ℕ) (rest : List ℕ) → encode_utf8_all cs ≡ b ∷ rest → b < 128 →
@@ -126,10 +119,10 @@ cut (c ∷ cs) a q b low e = elim (cases_lt c 128) [
 scalars_after : (ds : List ℕ) (es : List ℕ) → all_scalars (ds ++ es) ≡ true →
     (all_scalars ds ≡ true) × (all_scalars es ≡ true)
 scalars_after [] es e = (refl, e)
-scalars_after (d ∷ ds) es e =
-    let both = and_parts (scalar d) (all_scalars (ds ++ es)) e in
-    let left = scalars_after ds es both.1 in
-    (and_from (scalar d) (all_scalars ds) both.0 left.0, left.1)
+scalars_after (d ∷ ds) es e = (
+  grind (arith, common_steps, scalars_after ds es),
+  grind (arith, common_steps, scalars_after ds es),
+)
 
 -- ---- what stands between quotes
 
@@ -150,9 +143,7 @@ module _ (quote : ℕ) where
       AreItems quote rest
   after_plain c rest other are = by_front (c ∷ rest) (front (c ∷ rest) are) refl where
     backslash : 92 ≡ c → ⊥
-    backslash e = absurd (no_backslash (subst (λ (n : ℕ). (n == 92) ≡ false) (sym e) other)) where
-      no_backslash : (92 == 92) ≡ false → ⊥
-      no_backslash f = absurd cc
+    backslash e = grind (arith, common_steps)
 
     by_front : (b : List ℕ) → Front quote b → b ≡ c ∷ rest → AreItems quote rest
     by_front b over e = absurd cc
@@ -171,10 +162,8 @@ module _ (quote : ℕ) where
     by_front : (b : List ℕ) → Front quote b → b ≡ 92 ∷ bytes →
         (text rest : List ℕ) × IsEscape text × (bytes ≡ text ++ rest) × AreItems quote rest
     by_front b over e = absurd cc
-    by_front b (a_plain d r no_escape are) e = absurd (no_backslash (subst (λ
-        (n : ℕ). (n == 92) ≡ false) (head_same d 92 r bytes e) no_escape)) where
-          no_backslash : (92 == 92) ≡ false → ⊥
-          no_backslash f = absurd cc
+    by_front b (a_plain d r no_escape are) e =
+        absurd (grind (arith, common_steps, head_same d 92 r bytes e))
     by_front b (an_escape text r is are) e =
         (text, r, is, sym (tail_same 92 92 (text ++ r) bytes e), are)
 
@@ -231,126 +220,17 @@ module _ (quote : ℕ) where
 
 -- ---- digits of escapes
 
-differs : (x k : ℕ) → (x == k) ≡ false → x ≡ k → ⊥
-differs x k other e = unlike (sym (eq-eqb x k e) ∙ other) where
-  unlike : true ≡ false → ⊥
-  unlike f = absurd cc
+digit_small : (c : ℕ) → is_ascii_hexdigit c ≡ true → (digit_value c ≤ 15) × (c < 128)
+digit_small c is = (grind (arith, common_steps), grind (arith, common_steps))
 
-out_of_range : (low high c : ℕ) → is_in_range low high c ≡ false → low ≤ c → high < c
-out_of_range low high c fails above = elim (cases_lt high c) [
-  | inl above_it ↦ above_it
-  | inr within ↦ absurd (unlike (sym (and_from (nat_le low c) (nat_le c high) (le-leb low c above)
-      (le-leb c high within)) ∙ fails))
-] where
-  unlike : true ≡ false → ⊥
-  unlike f = absurd cc
-
--- which digit a hexadecimal digit is
-abbrev IsDigit : ℕ → ℕ → ℕ → ℕ → Type 0
-IsDigit low high by c = (low ≤ c) × (c ≤ high) × (digit_value c ≡ c - by)
-
-digit_of : (c : ℕ) → is_ascii_hexdigit c ≡ true →
-    IsDigit 48 57 48 c ⊎ (IsDigit 65 70 55 c ⊎ IsDigit 97 102 87 c)
-digit_of c is = elim (or_cases (is_ascii_digit c || is_in_range 65 70 c) (is_in_range 97 102 c)
-    is) [
-      | inl front ↦ by_front (or_cases (is_ascii_digit c) (is_in_range 65 70 c) front)
-      | inr so ↦ (
-          let range = in_range 97 102 c so in
-          inr (inr (
-            range.0,
-            range.1,
-            ap (λ (b : Bool). cond b (c - 48) (cond (nat_le c 70) (c - 55) (c - 87)))
-                (lt-leb c 57 (omega (arith, range.0)))
-                ∙ ap (λ (b : Bool). cond b (c - 55) (c - 87)) (lt-leb c 70 (omega (arith, range.0))),
-          )))
-    ] where
-      by_front : (is_ascii_digit c ≡ true) ⊎ (is_in_range 65 70 c ≡ true) →
-          IsDigit 48 57 48 c ⊎ (IsDigit 65 70 55 c ⊎ IsDigit 97 102 87 c)
-      by_front (inl so) =
-          let range = in_range 48 57 c so in
-          inl (
-            range.0,
-            range.1,
-            ap (λ (b : Bool). cond b (c - 48) (cond (nat_le c 70) (c - 55)
-                (c - 87))) (le-leb c 57 range.1),
-          )
-      by_front (inr so) =
-          let range = in_range 65 70 c so in
-          inr (inl (
-            range.0,
-            range.1,
-            ap (λ (b : Bool). cond b (c - 48) (cond (nat_le c 70) (c - 55) (c - 87)))
-                (lt-leb c 57 (omega (arith, range.0)))
-                ∙ ap (λ (b : Bool). cond b (c - 55) (c - 87)) (le-leb c 70 range.1),
-          ))
-
-digit_small : (c : ℕ) → is_ascii_hexdigit c ≡ true → digit_value c ≤ 15
-digit_small c is = by_digit (digit_of c is) where
-  by_digit : IsDigit 48 57 48 c ⊎ (IsDigit 65 70 55 c ⊎ IsDigit 97 102 87 c) → digit_value c ≤ 15
-  by_digit (inl d) = omega (arith, d.0, d.1, d.2)
-  by_digit (inr (inl d)) = omega (arith, d.0, d.1, d.2)
-  by_digit (inr (inr d)) = omega (arith, d.0, d.1, d.2)
-
--- the first two of four digits are below those of surrogates, or above them
-abbrev IsApart : ℕ → ℕ → Type 0
-IsApart a b = (digit_value a ≤ 12) ⊎ ((14 ≤ digit_value a) ⊎ (digit_value b ≤ 7))
-
-other_first : (a b : ℕ) → is_ascii_hexdigit a ≡ true → (a == 68) ≡ false →
-    (a == 100) ≡ false → IsApart a b
-other_first a b is upper lower = by_digit (digit_of a is) where
-  by_place : (k : ℕ) → (a == k) ≡ false → (a < k) ⊎ (k < a)
-  by_place k other = elim (cases_lt a k) [
-    | inl less ↦ inl less
-    | inr no_less ↦ elim (cases_lt k a) [
-      | inl above ↦ inr above
-      | inr below ↦ (let same : a ≡ k = omega (arith, no_less, below) in
-          absurd (differs a k other same))
-    ]
-  ]
-
-  by_digit : IsDigit 48 57 48 a ⊎ (IsDigit 65 70 55 a ⊎ IsDigit 97 102 87 a) → IsApart a b
-  by_digit (inl d) = inl (omega (arith, d.0, d.1, d.2))
-  by_digit (inr (inl d)) = by_upper (by_place 68 upper) where
-    by_upper : (a < 68) ⊎ (68 < a) → IsApart a b
-    by_upper (inl less) = inl (omega (arith, d.0, d.1, d.2, less))
-    by_upper (inr above) = inr (inl (omega (arith, d.0, d.1, d.2, above)))
-  by_digit (inr (inr d)) = by_lower (by_place 100 lower) where
-    by_lower : (a < 100) ⊎ (100 < a) → IsApart a b
-    by_lower (inl less) = inl (omega (arith, d.0, d.1, d.2, less))
-    by_lower (inr above) = inr (inl (omega (arith, d.0, d.1, d.2, above)))
-
-low_second : (b : ℕ) → is_ascii_hexdigit b ≡ true →
-    (is_in_range 56 57 b || (is_in_range 65 70 b || is_in_range 97 102 b)) ≡ false →
-    digit_value b ≤ 7
-low_second b is fails = by_digit (digit_of b is) where
-  parts : (is_in_range 56 57 b ≡ false) × ((is_in_range 65 70 b || is_in_range 97 102 b) ≡ false)
-  parts = or_parts (is_in_range 56 57 b) (is_in_range 65 70 b || is_in_range 97 102 b) fails
-
-  letters : (is_in_range 65 70 b ≡ false) × (is_in_range 97 102 b ≡ false)
-  letters = or_parts (is_in_range 65 70 b) (is_in_range 97 102 b) parts.1
-
-  by_digit : IsDigit 48 57 48 b ⊎ (IsDigit 65 70 55 b ⊎ IsDigit 97 102 87 b) → digit_value b ≤ 7
-  by_digit (inl d) = elim (cases_lt b 56) [
-    | inl less ↦ omega (arith, d.0, d.2, less)
-    | inr no_less ↦ absurd (omega (arith, d.1, out_of_range 56 57 b parts.0 no_less))
-  ]
-  by_digit (inr (inl d)) = absurd (omega (arith, d.1, out_of_range 65 70 b letters.0 d.0))
-  by_digit (inr (inr d)) = absurd (omega (arith, d.1, out_of_range 97 102 b letters.1 d.0))
-
+-- the first two of four digits are above those of surrogates, or below them
 apart : (a b : ℕ) → is_ascii_hexdigit a ≡ true → is_ascii_hexdigit b ≡ true →
-    is_surrogate a b ≡ false → IsApart a b
-apart a b first second fails = by_first ((a == 68) || (a == 100)) refl where
-  by_first : (d : Bool) → ((a == 68) || (a == 100)) ≡ d → IsApart a b
-  by_first true so = inr (inr (low_second b second (subst (λ (d : Bool). (d && (is_in_range 56 57 b
-      || (is_in_range 65 70 b || is_in_range 97 102 b))) ≡ false) so fails)))
-  by_first false so =
-      let both = or_parts (a == 68) (a == 100) so in other_first a b first both.0 both.1
+    is_surrogate a b ≡ false →
+    (14 ≤ digit_value a) ⊎ (digit_value a * 16 + digit_value b < 216)
+apart a b first second fails = grind (arith, common_steps)
 
 high_scalar : (c : ℕ) → 57344 ≤ c → c < 1114112 → scalar c ≡ true
-high_scalar c low high =
-    ap (λ (b : Bool). cond b true (nat_le 57344 c && nat_lt c 1114112))
-    (le-ltb c 55296 (omega (arith, low)))
-    ∙ and_from (nat_le 57344 c) (nat_lt c 1114112) (le-leb 57344 c low) (lt-ltb c 1114112 high)
+high_scalar c low high = grind (arith, common_steps)
 
 abbrev four : ℕ → ℕ → ℕ → ℕ → ℕ
 four a b c d = with_digit 16 (with_digit 16 (with_digit 16 (with_digit 16 0 a) b) c) d
@@ -358,96 +238,26 @@ four a b c d = with_digit 16 (with_digit 16 (with_digit 16 (with_digit 16 0 a) b
 four_scalar : (a b c d : ℕ) → is_ascii_hexdigit a ≡ true → is_ascii_hexdigit b ≡ true →
     is_ascii_hexdigit c ≡ true → is_ascii_hexdigit d ≡ true → is_surrogate a b ≡ false →
     scalar (four a b c d) ≡ true
-four_scalar a b c d one two three last fails = by_first (apart a b one two fails) where
-  by_first : IsApart a b → scalar (four a b c d) ≡ true
-  by_first (inl low) = low_scalar (four a b c d) (omega (
-    arith,
-    low,
-    digit_small b two,
-    digit_small c three,
-    digit_small d last,
-  ))
-  by_first (inr (inl high)) = high_scalar (four a b c d) (omega (arith, high)) (omega (
-    arith,
-    digit_small a one,
-    digit_small b two,
-    digit_small c three,
-    digit_small d last,
-  ))
-  by_first (inr (inr low)) = elim (cases_lt (digit_value a) 14) [
-    | inl less ↦ low_scalar (four a b c d) (omega (
-      arith,
-      less,
-      low,
-      digit_small c three,
-      digit_small d last,
-    ))
-    | inr no_less ↦ high_scalar (four a b c d) (omega (arith, no_less)) (omega (
-      arith,
-      digit_small a one,
-      digit_small b two,
-      digit_small c three,
-      digit_small d last,
-    ))
-  ]
+four_scalar a b c d one two three last fails =
+    let a_small = (digit_small a one).0 in
+    let b_small = (digit_small b two).0 in
+    let c_small = (digit_small c three).0 in
+    let d_small = (digit_small d last).0 in
+    elim (apart a b one two fails) [
+      | inl high ↦ high_scalar (four a b c d) (omega (arith, high))
+          (omega (arith, a_small, b_small, c_small, d_small))
+      | inr low ↦ low_scalar (four a b c d) (omega (arith, low, c_small, d_small))
+    ]
 
 -- ---- escapes of one character
 
-abbrev IsNamed : List ℕ → ℕ → Type 0
-IsNamed ds c = (escaped (c ∷ ds) ≡ named_by c ∷ unescaped ds) × (named_by c < 55296) × (c < 128)
-
-module _ (ds : List ℕ) (c : ℕ) where
-  abbrev by_r : Bool
-  by_r = (c == 114) || (c == 116)
-
-  abbrev by_n : Bool
-  by_n = (c == 110) || by_r
-
-  abbrev by_f : Bool
-  by_f = (c == 102) || by_n
-
-  abbrev by_b : Bool
-  by_b = (c == 98) || by_f
-
-  abbrev by_slash : Bool
-  by_slash = (c == 47) || by_b
-
-  at : (k : ℕ) → (c == k) ≡ true → IsNamed ds k → IsNamed ds c
-  at k so this = subst (IsNamed ds) (sym (eqb-true c k so)) this
-
-  ends_r : ((c == 114) ≡ true) ⊎ ((c == 116) ≡ true) → IsNamed ds c
-  ends_r (inl so) = at 114 so (refl, omega arith, omega arith)
-  ends_r (inr so) = at 116 so (refl, omega arith, omega arith)
-
-  ends_n : ((c == 110) ≡ true) ⊎ (by_r ≡ true) → IsNamed ds c
-  ends_n (inl so) = at 110 so (refl, omega arith, omega arith)
-  ends_n (inr so) = ends_r (or_cases (c == 114) (c == 116) so)
-
-  ends_f : ((c == 102) ≡ true) ⊎ (by_n ≡ true) → IsNamed ds c
-  ends_f (inl so) = at 102 so (refl, omega arith, omega arith)
-  ends_f (inr so) = ends_n (or_cases (c == 110) by_r so)
-
-  ends_b : ((c == 98) ≡ true) ⊎ (by_f ≡ true) → IsNamed ds c
-  ends_b (inl so) = at 98 so (refl, omega arith, omega arith)
-  ends_b (inr so) = ends_f (or_cases (c == 102) by_n so)
-
-  slash : ((c == 47) ≡ true) ⊎ (by_b ≡ true) → IsNamed ds c
-  slash (inl so) = at 47 so (refl, omega arith, omega arith)
-  slash (inr so) = ends_b (or_cases (c == 98) by_f so)
-
-  backslash : ((c == 92) ≡ true) ⊎ (by_slash ≡ true) → IsNamed ds c
-  backslash (inl so) = at 92 so (refl, omega arith, omega arith)
-  backslash (inr so) = slash (or_cases (c == 47) by_b so)
-
-  quote : ((c == 39) ≡ true) ⊎ ((c == 34) ≡ true) → IsNamed ds c
-  quote (inl so) = at 39 so (refl, omega arith, omega arith)
-  quote (inr so) = at 34 so (refl, omega arith, omega arith)
-
-  named : is_simple c ≡ true → IsNamed ds c
-  named is = quotes (or_cases (is_quote c) ((c == 92) || by_slash) is) where
-    quotes : (is_quote c ≡ true) ⊎ (((c == 92) || by_slash) ≡ true) → IsNamed ds c
-    quotes (inl so) = quote (or_cases (c == 39) (c == 34) so)
-    quotes (inr so) = backslash (or_cases (c == 92) by_slash so)
+named : (ds : List ℕ) (c : ℕ) → is_simple c ≡ true →
+    (escaped (c ∷ ds) ≡ named_by c ∷ unescaped ds) × (named_by c < 55296) × (c < 128)
+named ds c is = (
+  grind (arith, common_steps),
+  grind (arith, common_steps),
+  grind (arith, common_steps),
+)
 
 -- ---- what is left after such a character
 
@@ -471,19 +281,6 @@ peeled most cs b rest e low few scalars =
           (subst (λ (z : List ℕ). all_scalars z ≡ true) found.1 scalars)).1;
     }
 
--- a digit goes on
-step_sound : (test : Bool) (on off : List ℕ) → test ≡ true → all_scalars on ≡ true →
-    all_scalars (cond test on off) ≡ true
-step_sound test on off so one =
-    subst (λ (b : Bool). all_scalars (cond b on off) ≡ true) (sym so) one
-
-hexadecimal_low : (c : ℕ) → is_ascii_hexdigit c ≡ true → c < 128
-hexadecimal_low c is = by_digit (digit_of c is) where
-  by_digit : IsDigit 48 57 48 c ⊎ (IsDigit 65 70 55 c ⊎ IsDigit 97 102 87 c) → c < 128
-  by_digit (inl d) = omega (arith, d.1)
-  by_digit (inr (inl d)) = omega (arith, d.1)
-  by_digit (inr (inr d)) = omega (arith, d.1)
-
 module _ (quote most : ℕ) (sound : Sound quote most) where
   abbrev AllSound : List ℕ → Type 0
   AllSound cs = all_scalars cs ≡ true
@@ -493,9 +290,8 @@ module _ (quote most : ℕ) (sound : Sound quote most) where
   simple_sound cs rest c is e few scalars are =
       let p = peeled most cs c rest e (named [] c is).2 few scalars in
       let this = named p.left c is in
-      subst (λ (z : List ℕ). AllSound (escaped z)) (sym p.is)
-      (subst AllSound (sym this.0) (small quote (named_by c) (unescaped p.left) this.1
-      (sound p.left p.few p.scalars (subst (AreItems quote) (sym p.bytes) are))))
+      rw (p.is, this.0) (small quote (named_by c) (unescaped p.left) this.1
+      (sound p.left p.few p.scalars (subst (AreItems quote) (sym p.bytes) are)))
 
   octal_escape : (cs rest : List ℕ) (c : ℕ) → is_octal_digit c ≡ true →
       encode_utf8_all cs ≡ c ∷ rest → length cs ≤ most → AllSound cs → AreItems quote rest →
@@ -505,37 +301,28 @@ module _ (quote most : ℕ) (sound : Sound quote most) where
       let p = peeled most cs c rest e (omega (arith, digit.1)) few scalars in
       let value = octal_sound quote most sound p.left 2 (c - 48) p.few (omega (arith, digit.1))
       p.scalars (subst (AreItems quote) (sym p.bytes) are) in
-      let other = named_by c ∷ unescaped p.left in
-      let number = numbered 8 2 (c - 48) p.left in
-      subst (λ (z : List ℕ). AllSound (escaped z)) (sym p.is)
-      (subst (λ (x : Bool). AllSound (cond x (numbered 16 2 0 p.left) (cond (c == 117)
-      (numbered 16 4 0 p.left) (cond (is_octal_digit c) number other))))
-      (sym (ne_eqb c 120 (λ f. absurd (omega (arith, f, digit.1)))))
-      (subst (λ (x : Bool). AllSound (cond x (numbered 16 4 0 p.left)
-      (cond (is_octal_digit c) number other)))
-      (sym (ne_eqb c 117 (λ f. absurd (omega (arith, f, digit.1)))))
-      (step_sound (is_octal_digit c) number other is value)))
+      rw (
+        p.is,
+        ne_eqb c 120 (λ f. absurd (omega (arith, f, digit.1))),
+        ne_eqb c 117 (λ f. absurd (omega (arith, f, digit.1))),
+        is,
+      ) value
 
   two_escape : (cs rest : List ℕ) (a b : ℕ) → is_ascii_hexdigit a ≡ true →
       is_ascii_hexdigit b ≡ true → encode_utf8_all cs ≡ 120 ∷ a ∷ b ∷ rest →
       length cs ≤ most → AllSound cs → AreItems quote rest → AllSound (escaped cs)
   two_escape cs rest a b one two e few scalars are =
       let x = peeled most cs 120 (a ∷ b ∷ rest) e (omega arith) few scalars in
-      let p = peeled most x.left a (b ∷ rest) x.bytes (hexadecimal_low a one) x.few x.scalars in
-      let q = peeled most p.left b rest p.bytes (hexadecimal_low b two) p.few p.scalars in
+      let p = peeled most x.left a (b ∷ rest) x.bytes (digit_small a one).1 x.few x.scalars in
+      let q = peeled most p.left b rest p.bytes (digit_small b two).1 p.few p.scalars in
       let first = with_digit 16 0 a in
       let whole : cs ≡ 120 ∷ a ∷ b ∷ q.left =
       x.is ∙ ap (λ (z : List ℕ). 120 ∷ z) (p.is ∙ ap (λ (z : List ℕ). a ∷ z) q.is) in
       let low : with_digit 16 first b < 55296 = omega
-      (arith, digit_small a one, digit_small b two) in
-      subst (λ (z : List ℕ). AllSound (escaped z)) (sym whole)
-      (step_sound (is_ascii_hexdigit a) (numbered 16 1 first (b ∷ q.left))
-      (0 ∷ unescaped (a ∷ b ∷ q.left)) one
-      (step_sound (is_ascii_hexdigit b) (numbered 16 0 (with_digit 16 first b) q.left)
-      (first ∷ unescaped (b ∷ q.left)) two
-      (ended_sound quote most sound q.left (with_digit 16 first b) q.few
+      (arith, (digit_small a one).0, (digit_small b two).0) in
+      rw (whole, one, two) (ended_sound quote most sound q.left (with_digit 16 first b) q.few
       (low_scalar (with_digit 16 first b) low) q.scalars
-      (subst (AreItems quote) (sym q.bytes) are))))
+      (subst (AreItems quote) (sym q.bytes) are))
 
   four_escape : (cs rest : List ℕ) (a b c d : ℕ) → is_ascii_hexdigit a ≡ true →
       is_ascii_hexdigit b ≡ true → is_ascii_hexdigit c ≡ true →
@@ -544,30 +331,18 @@ module _ (quote most : ℕ) (sound : Sound quote most) where
       AreItems quote rest → AllSound (escaped cs)
   four_escape cs rest a b c d one two three last fails e few scalars are =
       let x = peeled most cs 117 (a ∷ b ∷ c ∷ d ∷ rest) e (omega arith) few scalars in
-      let p = peeled most x.left a (b ∷ c ∷ d ∷ rest) x.bytes (hexadecimal_low a one) x.few
+      let p = peeled most x.left a (b ∷ c ∷ d ∷ rest) x.bytes (digit_small a one).1 x.few
       x.scalars in
-      let q = peeled most p.left b (c ∷ d ∷ rest) p.bytes (hexadecimal_low b two) p.few
+      let q = peeled most p.left b (c ∷ d ∷ rest) p.bytes (digit_small b two).1 p.few
       p.scalars in
-      let r = peeled most q.left c (d ∷ rest) q.bytes (hexadecimal_low c three) q.few q.scalars in
-      let s = peeled most r.left d rest r.bytes (hexadecimal_low d last) r.few r.scalars in
+      let r = peeled most q.left c (d ∷ rest) q.bytes (digit_small c three).1 q.few q.scalars in
+      let s = peeled most r.left d rest r.bytes (digit_small d last).1 r.few r.scalars in
       let whole : cs ≡ 117 ∷ a ∷ b ∷ c ∷ d ∷ s.left =
       x.is ∙ ap (λ (z : List ℕ). 117 ∷ z) (p.is ∙ ap (λ (z : List ℕ). a ∷ z) (q.is
       ∙ ap (λ (z : List ℕ). b ∷ z) (r.is ∙ ap (λ (z : List ℕ). c ∷ z) s.is))) in
-      let v1 = with_digit 16 0 a in
-      let v2 = with_digit 16 v1 b in
-      let v3 = with_digit 16 v2 c in
-      subst (λ (z : List ℕ). AllSound (escaped z)) (sym whole)
-      (step_sound (is_ascii_hexdigit a) (numbered 16 3 v1 (b ∷ c ∷ d ∷ s.left))
-      (0 ∷ unescaped (a ∷ b ∷ c ∷ d ∷ s.left)) one
-      (step_sound (is_ascii_hexdigit b) (numbered 16 2 v2 (c ∷ d ∷ s.left))
-      (v1 ∷ unescaped (b ∷ c ∷ d ∷ s.left)) two
-      (step_sound (is_ascii_hexdigit c) (numbered 16 1 v3 (d ∷ s.left))
-      (v2 ∷ unescaped (c ∷ d ∷ s.left)) three
-      (step_sound (is_ascii_hexdigit d) (numbered 16 0 (with_digit 16 v3 d) s.left)
-      (v3 ∷ unescaped (d ∷ s.left)) last
-      (ended_sound quote most sound s.left (with_digit 16 v3 d) s.few
+      rw (whole, one, two, three, last) (ended_sound quote most sound s.left (four a b c d) s.few
       (four_scalar a b c d one two three last fails) s.scalars
-      (subst (AreItems quote) (sym s.bytes) are))))))
+      (subst (AreItems quote) (sym s.bytes) are))
 
   by_escape : (cs text rest : List ℕ) → IsEscape text → encode_utf8_all cs ≡ text ++ rest →
       length cs ≤ most → AllSound cs → AreItems quote rest → AllSound (escaped cs)
@@ -614,10 +389,7 @@ all_sound quote (suc most) (c ∷ cs) few scalars are =
 -- ---- a string in a source
 
 quote_low : (quote : ℕ) → is_quote quote ≡ true → quote < 128
-quote_low quote is = by_quote (or_cases (quote == 39) (quote == 34) is) where
-  by_quote : ((quote == 39) ≡ true) ⊎ ((quote == 34) ≡ true) → quote < 128
-  by_quote (inl so) = omega (arith, eqb-true quote 39 so)
-  by_quote (inr so) = omega (arith, eqb-true quote 34 so)
+quote_low quote is = grind (arith, common_steps)
 
 inside_is : (quote : ℕ) (items : List ℕ) → inside_quotes (quote ∷ (items ++ quote ∷ [])) ≡ items
 inside_is quote items =

@@ -1,14 +1,17 @@
 -- Functions and programs are read as they are spelled.
-use Rattle.std.proofs.Common.{◌≡◌, ℕ, ◌<◌, ◌≤◌, Bool, true, false, cond, List, [], ◌∷◌, length}
+use Rattle.std.proofs.Common.{◌≡◌, ℕ, ◌<◌, Bool, true, false, cond, List, [], ◌∷◌, length}
 use Rattle.std.proofs.Common.{Some, None, Ok, refl, sym, ap, subst, ◌∙◌, inl, inr, arith}
 use Rattle.wap_base.specs.Outcome.{◌>>=◌}
-use Rattle.wap_base.proofs.Choices.{chosen, bind_ok, ok_same, some_same}
+use Rattle.wap_base.proofs.Choices.{bind_ok, ok_same}
+use Rattle.wap_grammar.specs.declared.program.program.Span.{Span}
 use Rattle.wap_grammar.specs.declared.program.program.Id.{Id}
 use Rattle.wap_grammar.specs.declared.program.program.Use.{Use}
 use Rattle.wap_grammar.specs.declared.program.program.Function.{Function}
 use Rattle.wap_grammar.specs.declared.program.program.Program.{Program}
 use Rattle.wap_grammar.specs.declared.program.statement.Stmt.{Stmt}
 use Rattle.wap_grammar.specs.declared.lexeme.Lexeme.{Lexeme}
+use Rattle.wap_grammar.specs.declared.precedence.TheConstants.{COMMA}
+use Rattle.wap_grammar.specs.declared.word.Word.TheVariants as word
 use Rattle.wap_grammar.specs.declared.word.Sign.TheVariants as signs
 use Rattle.wap_grammar.specs.Lexemes.{word_of, is_sign}
 use Rattle.wap_grammar.specs.Values.{id_of}
@@ -18,135 +21,79 @@ use Rattle.wap_grammar.specs.Statements.{IsStatement}
 use Rattle.wap_grammar.specs.Programs.{IsUse, IsHead, own, external, IsParameter, parameter}
 use Rattle.wap_grammar.specs.Programs.{AreParameters, none, some, IsTail, without, semicolon}
 use Rattle.wap_grammar.specs.Programs.{IsFunction, function, IsProgramOf, IsProgram, program}
-use Rattle.wap_grammar.specs.reading.TokenReading.{Reading, span_of, after, told, expect_at}
+use Rattle.wap_grammar.specs.reading.TokenReading.{Reading, span_of, after, told}
 use Rattle.wap_grammar.specs.reading.TokenReading.{closed, id_at, items_at}
-use Rattle.wap_grammar.specs.reading.Statements.{Statements, listed_at, block_at, statement_at}
+use Rattle.wap_grammar.specs.reading.Statements.{Statements, listed_at, statement_at}
 use Rattle.wap_grammar.specs.reading.Programs.{next_use, parameters_at, tail_at, head_at}
 use Rattle.wap_grammar.specs.reading.Programs.{function_of, function_at, next_function}
 use Rattle.wap_grammar.specs.reading.Programs.{program_by, program_at}
-use Rattle.wap_grammar.proofs.Firsts.{value_same, told_ok, sign_first, expect_ok, id_ok, Ends}
-use Rattle.wap_grammar.proofs.Items.{Reads, reads_items}
-use Rattle.wap_grammar.proofs.CommaLists.{closing_ok, closing_again, reads_listed}
-use Rattle.wap_grammar.proofs.Blocks.{block_ok, block_again, block_within}
+use Rattle.wap_grammar.proofs.Firsts.{value_same, sign_first, Ends}
+use Rattle.wap_grammar.proofs.Items.{Reads, reads_items, Implies, Shorter, Within}
+use Rattle.wap_grammar.proofs.CommaLists.{reads_listed}
+use Rattle.wap_grammar.proofs.Blocks.{reads_block}
 use Rattle.wap_grammar.proofs.Statements.{ReadsStatements, reads_statements}
 use Rattle.wap_grammar.proofs.Pragmas.{NoUse, reads_uses}
+use Rattle.wap_grammar.proofs.Productions.{Anything, Given, given, Turn, turn, Behind, behind}
+use Rattle.wap_grammar.proofs.Productions.{Before, before, Either, is_a, mapped, reads_given}
+use Rattle.wap_grammar.proofs.Productions.{reads_then, reads_either, reads_behind, reads_before}
+use Rattle.wap_grammar.proofs.Productions.{reads_name, bars_behind, reads_each}
 
 module _ (src : List ℕ) (Statement : Spelling Stmt) (statement : Statements)
     (statements : ReadsStatements Statement statement) where
   -- ---- parameters
 
-  parameter_ok : (a : List Lexeme) (v : Id) (b : List Lexeme) → id_at src a ≡ Ok (v, b) →
-      IsParameter src a v b
-  parameter_ok a v b e =
-      let is = id_ok src a v b e in
-      subst (λ (x : List Lexeme). IsParameter src x v b) (sym is.0)
-      (subst (λ (w : Id). IsParameter src (name (span_of a) ∷ b) w b) (sym is.1) (parameter
-      (span_of a) b))
-
-  parameter_again : (a : List Lexeme) (v : Id) (b : List Lexeme) → IsParameter src a v b →
-      Ends 12 b → id_at src a ≡ Ok (v, b)
-  unfolding id_at
-  parameter_again a v b (parameter s x) ends = refl
-
-  parameter_within : (a : List Lexeme) (v : Id) (b : List Lexeme) → IsParameter src a v b →
-      length b ≤ length a
-  parameter_within a v b (parameter s x) = omega arith
-
-  reads_parameters : Reads (AreListed (IsParameter src)) (Ends 13) (listed_at (id_at src))
-  reads_parameters = reads_listed (record {
-    takes = parameter_ok;
-    again = parameter_again;
-    within =
-        parameter_within;
-  })
-
-  parameters_ok : (a : List Lexeme) (ps : List Id) (b : List Lexeme) →
-      parameters_at src a ≡ Ok (ps, b) → AreParameters src a ps b
-  unfolding parameters_at
-  parameters_ok a ps b e = elim (chosen (is_sign signs.Close (word_of a)) (Ok ([], after a))
-      (listed_at (id_at src) a >>= closed src signs.Close) (Ok (ps, b)) e) [
-        | inl so ↦ (
-            let same = value_same ([], after a) (ps, b) so.1 in
-            subst (λ (x : List Lexeme). AreParameters src x ps b)
-            (sym (sign_first signs.Close a so.0))
-            (subst (λ (qs : List Id). AreParameters src (sign signs.Close
-            (span_of a) ∷ after a) qs b) same.0
-            (subst (AreParameters src (sign signs.Close (span_of a) ∷ after a) []) same.1 (none
-            (span_of a) (after a)))))
-        | inr so ↦ (
-            let end = closing_ok src signs.Close (listed_at (id_at src) a) ps b so.1 in
-            some end.0 a b ps (reads_parameters.takes a ps (sign signs.Close end.0 ∷ b) end.1))
-      ]
-
-  named_first : (a : List Lexeme) (v : Id) (b : List Lexeme) → IsParameter src a v b →
-      is_sign signs.Close (word_of a) ≡ false
-  named_first a v b (parameter s x) = refl
+  reads_parameters : Reads (AreListed (IsParameter src)) (Ends COMMA) (listed_at (id_at src))
+  reads_parameters = reads_listed (reads_name src)
 
   listed_first : (a : List Lexeme) (ps : List Id) (b : List Lexeme) →
       AreListed (IsParameter src) a ps b → is_sign signs.Close (word_of a) ≡ false
-  listed_first a ps b (listed a' c b' p qs one others) = named_first a p c one
+  listed_first a ps b (listed a' c b' p qs (parameter s x) others) = refl
 
-  parameters_again : (a : List Lexeme) (ps : List Id) (b : List Lexeme) → AreParameters src a ps b →
-      parameters_at src a ≡ Ok (ps, b)
+  -- the names, and the parenthesis
+  abbrev Named : Spelling (List Id)
+  Named = Before signs.Close (AreListed (IsParameter src))
+
+  reads_signature : Reads (AreParameters src) Anything (parameters_at src)
   unfolding parameters_at
-  parameters_again a ps b (none right x) = refl
-  parameters_again a ps b (some right a' b' qs are) =
-      rw (listed_first a ps (sign signs.Close right ∷ b) are)
-      (closing_again src signs.Close (listed_at (id_at src) a) ps right b refl
-      (reads_parameters.again a ps (sign signs.Close right ∷ b) are (omega arith)))
+  reads_signature = mapped (reads_either (is_sign signs.Close) (is_a signs.Close refl)
+      (reads_given []) (reads_before src signs.Close refl reads_parameters
+      (λ span b. omega arith)) (record { bars = λ a ps b is over. not_closed a ps b is })) from to
+    where
+      not_closed : (a : List Lexeme) (ps : List Id) (b : List Lexeme) → Named a ps b →
+          is_sign signs.Close (word_of a) ≡ false
+      not_closed a ps b (before right a' b' ps' are) = listed_first a ps _ are
 
-  parameters_within : (a : List Lexeme) (ps : List Id) (b : List Lexeme) →
-      AreParameters src a ps b → length b ≤ length a
-  parameters_within a ps b (none right x) = omega arith
-  parameters_within a ps b (some right a' b' qs are) = omega (
-    arith,
-    reads_parameters.within a ps
-        (sign signs.Close right ∷ b) are,
-  )
+      from : Implies (Either (Behind (word.Sign signs.Close) (Given [])) Named) (AreParameters
+          src)
+      from a ps b (inl (behind right x b' ps' (given x'))) = none right x
+      from a ps b (inr (before right a' b' ps' are)) = some right a b ps are
+
+      to : Implies (AreParameters src) (Either (Behind (word.Sign signs.Close) (Given [])) Named)
+      to a ps b (none right x) = inl (behind right x b ps (given x))
+      to a ps b (some right a' b' ps' are) = inr (before right a b ps are)
 
   -- ---- functions
 
-  head_ok : (a : List Lexeme) (out : Bool) (b : List Lexeme) → head_at src a ≡ Ok (out, b) →
-      IsHead a out b
+  -- `function`
+  abbrev Opening : Bool → Spelling Bool
+  Opening out = Behind (word.Sign signs.Function) (Given out)
+
+  reads_head : Reads IsHead Anything (head_at src)
   unfolding head_at
-  head_ok a out b e = elim (chosen (is_sign signs.Extern (word_of a)) (expect_at src signs.Function
-      (after a) >>= λ rest. Ok (true, rest))
-      (expect_at src signs.Function a >>= λ rest. Ok (false, rest)) (Ok (out, b)) e) [
-        | inl so ↦ (
-            let rest = bind_ok (expect_at src signs.Function (after a)) (λ rest. Ok (true, rest))
-            (out, b) so.1 in
-            let same = value_same (true, rest.0) (out, b) rest.2 in
-            let whole : a ≡ sign signs.Extern (span_of a) ∷ sign signs.Function (span_of
-            (after a)) ∷ b =
-            sign_first signs.Extern a so.0 ∙ ap (λ (x : List Lexeme). sign signs.Extern
-            (span_of a) ∷ x) (expect_ok src signs.Function (after a) rest.0 rest.1)
-            ∙ ap (λ (x : List Lexeme). sign signs.Extern (span_of a) ∷ sign signs.Function (span_of
-            (after a)) ∷ x) same.1 in
-            subst (λ (x : List Lexeme). IsHead x out b) (sym whole)
-            (subst (λ (o : Bool). IsHead (sign signs.Extern (span_of a) ∷ sign signs.Function
-            (span_of (after a)) ∷ b) o b) same.0 (external (span_of a) (span_of (after a)) b)))
-        | inr so ↦ (
-            let rest = bind_ok (expect_at src signs.Function a) (λ rest. Ok (false, rest))
-            (out, b) so.1 in
-            let same = value_same (false, rest.0) (out, b) rest.2 in
-            let whole : a ≡ sign signs.Function (span_of a) ∷ b =
-            expect_ok src signs.Function a rest.0 rest.1 ∙ ap (λ
-            (x : List Lexeme). sign signs.Function (span_of a) ∷ x) same.1 in
-            subst (λ (x : List Lexeme). IsHead x out b) (sym whole)
-            (subst (λ (o : Bool). IsHead (sign signs.Function (span_of a) ∷ b) o b) same.0 (own
-            (span_of a) b)))
-      ]
+  reads_head = mapped (reads_either (is_sign signs.Extern) (is_a signs.Extern refl)
+      (reads_behind src signs.Function refl (reads_given true))
+      (reads_behind src signs.Function refl (reads_given false)) (bars_behind refl)) from to where
+        from : Implies (Either (Behind (word.Sign signs.Extern) (Opening true)) (Opening false))
+            IsHead
+        from a out b (inl (behind extern x b' o (behind w x' b2 o2 (given x2)))) =
+            external extern w x'
+        from a out b (inr (behind w x b' o (given x'))) = own w x
 
-  head_again : (a : List Lexeme) (out : Bool) (b : List Lexeme) → IsHead a out b →
-      head_at src a ≡ Ok (out, b)
-  unfolding head_at expect_at
-  head_again a out b (own word x) = refl
-  head_again a out b (external extern word x) = refl
-
-  head_shorter : (a : List Lexeme) (out : Bool) (b : List Lexeme) → IsHead a out b →
-      length b < length a
-  head_shorter a out b (own word x) = omega arith
-  head_shorter a out b (external extern word x) = omega arith
+        to : Implies IsHead (Either (Behind (word.Sign signs.Extern) (Opening true)) (Opening
+            false))
+        to a out b (own w x) = inr (behind w x b out (given x))
+        to a out b (external extern w x) =
+            inl (behind extern _ b out (behind w x b out (given x)))
 
   tail_ok : (a : List Lexeme) → IsTail a (tail_at a)
   tail_ok a = by_sign (is_sign signs.Semicolon (word_of a)) refl where
@@ -155,89 +102,79 @@ module _ (src : List ℕ) (Statement : Spelling Stmt) (statement : Statements)
         (sign_first signs.Semicolon a so)) (semicolon (span_of a) (after a))
     by_sign false so = without a
 
-  tail_again : (a b : List Lexeme) → IsTail a b → is_sign signs.Semicolon (word_of b) ≡ false →
-      tail_at a ≡ b
-  tail_again a b (without x) over = rw over refl
-  tail_again a b (semicolon end x) over = refl
+  abbrev NoTail : List Lexeme → Type 0
+  NoTail a = is_sign signs.Semicolon (word_of a) ≡ false
 
-  tail_within : (a b : List Lexeme) → IsTail a b → length b ≤ length a
-  tail_within a b (without x) = omega arith
-  tail_within a b (semicolon end x) = omega arith
+  -- a value, and the `;` that may stand there
+  data Ended {A : Type 0} (x : A) : List Lexeme → A → List Lexeme → Type 0 where
+    ended : (a b : List Lexeme) → IsTail a b → Ended x a x b
 
-  abbrev body : List Lexeme → Reading (List Stmt)
-  body = block_at src statement
+  reads_tail : {A : Type 0} (x : A) → Reads (Ended x) NoTail (λ a. Ok (x, tail_at a))
+  reads_tail {A = A} x = record { takes = takes; again = again; within = within } where
+    takes : (a : List Lexeme) (y : A) (b : List Lexeme) →
+        ◌≡◌ {A = Reading A} (Ok (x, tail_at a)) (Ok (y, b)) → Ended x a y b
+    takes a y b e =
+        let same = value_same (x, tail_at a) (y, b) e in
+        rw (sym same.0, sym same.1) (ended a (tail_at a) (tail_ok a))
 
-  function_ok : (a : List Lexeme) (g : Function) (b : List Lexeme) →
-      function_at src statement a ≡ Ok (g, b) → IsFunction src Statement a g b
+    again : (a : List Lexeme) (y : A) (b : List Lexeme) → Ended x a y b → NoTail b →
+        ◌≡◌ {A = Reading A} (Ok (x, tail_at a)) (Ok (y, b))
+    again a y b (ended a' b' (without c)) over = rw over refl
+    again a y b (ended a' b' (semicolon end c)) over = refl
+
+    within : Within (Ended x)
+    within a y b (ended a' b' (without c)) = omega arith
+    within a y b (ended a' b' (semicolon end c)) = omega arith
+
+  -- a function in turn: its head, its name, its parameters, its statements, its end
+  abbrev InTurn : Spelling Function
+  InTurn = Turn IsHead (λ out. Turn (IsParameter src) (λ f. Behind (word.Sign signs.Open)
+      (Turn (AreParameters src) (λ ps. Behind (word.Sign signs.OpenBlock)
+      (Turn (Before signs.CloseBlock (Several Statement))
+      (λ ss. Ended (function_of out f ps ss)))))))
+
+  made_of : (a y z u : List Lexeme) (f left opened closed : Span) (out : Bool) (ps : List Id)
+      (ss : List Stmt) → IsHead a out (name f ∷ sign signs.Open left ∷ y) →
+      AreParameters src y ps (sign signs.OpenBlock opened ∷ z) →
+      Several Statement z ss (sign signs.CloseBlock closed ∷ u) → (g : Function)
+      (b : List Lexeme) → Ended (function_of out (id_of src f) ps ss) u g b →
+      IsFunction src Statement a g b
+  made_of a y z u f left opened closed out ps ss one two three g b (ended u' b' four) =
+      function f left opened closed a y z u b out ps ss one two three four
+
+  turn_from : Implies InTurn (IsFunction src Statement)
+  turn_from a g b (turn a' c b' out g' one (turn c' d b2 id g2 (parameter f d') (behind left y b3
+      g3 (turn y' e b4 ps g4 two (behind opened z b5 g5 (turn z' u b6 ss g6
+      (before closed z2 u' ss' three) four)))))) =
+      made_of a y z u f left opened closed out ps ss one two three g b four
+
+  turn_to : Implies (IsFunction src Statement) InTurn
+  turn_to a g b (function f left opened closed a' y z u b' out ps ss one two three four) =
+      turn a _ b out g one (turn _ _ b (id_of src f) g (parameter f _) (behind left y b g
+      (turn y _ b ps g two (behind opened z b g (turn z u b ss g (before closed z u ss three)
+      (ended u b four))))))
+
+  reads_function : Reads (IsFunction src Statement) NoTail (function_at src statement)
   unfolding function_at
-  function_ok a g b e =
-      let head = bind_ok (head_at src a) (λ head. id_at src head.1 >>= λ f. expect_at src signs.Open
-      f.1 >>= λ rest. parameters_at src rest >>= λ ps. expect_at src signs.OpenBlock ps.1 >>= λ
-      rest. body rest >>= λ ss. Ok (function_of head.0 f.0 ps.0 ss.0, tail_at ss.1)) (g, b) e in
-      let f = bind_ok (id_at src head.0.1) (λ f. expect_at src signs.Open f.1 >>= λ rest.
-      parameters_at src rest >>= λ ps. expect_at src signs.OpenBlock ps.1 >>= λ rest. body rest
-      >>= λ ss. Ok (function_of head.0.0 f.0 ps.0 ss.0, tail_at ss.1)) (g, b) head.2 in
-      let left = bind_ok (expect_at src signs.Open f.0.1)
-      (λ rest. parameters_at src rest >>= λ ps. expect_at src signs.OpenBlock ps.1 >>= λ rest.
-      body rest >>= λ ss. Ok (function_of head.0.0 f.0.0 ps.0 ss.0, tail_at ss.1)) (g, b) f.2 in
-      let ps = bind_ok (parameters_at src left.0) (λ ps. expect_at src signs.OpenBlock ps.1 >>= λ
-      rest. body rest >>= λ ss. Ok (function_of head.0.0 f.0.0 ps.0 ss.0, tail_at ss.1))
-      (g, b) left.2 in
-      let opened = bind_ok (expect_at src signs.OpenBlock ps.0.1) (λ rest. body rest >>= λ ss. Ok
-      (function_of head.0.0 f.0.0 ps.0.0 ss.0, tail_at ss.1)) (g, b) ps.2 in
-      let ss = bind_ok (body opened.0) (λ ss. Ok (
-        function_of head.0.0 f.0.0 ps.0.0 ss.0,
-        tail_at
-            ss.1,
-      )) (g, b) opened.2 in
-      let same = value_same (function_of head.0.0 f.0.0 ps.0.0 ss.0.0, tail_at ss.0.1)
-      (g, b) ss.2 in
-      let id = id_ok src head.0.1 f.0.0 f.0.1 f.1 in
-      let inside = block_ok src Statement statement statements opened.0 ss.0.0 ss.0.1 ss.1 in
-      let named : head.0.1 ≡ name (span_of head.0.1) ∷ sign signs.Open (span_of f.0.1) ∷ left.0 =
-      id.0 ∙ ap (λ (x : List Lexeme). name (span_of head.0.1) ∷ x)
-      (expect_ok src signs.Open f.0.1 left.0 left.1) in
-      subst (λ (h : Function). IsFunction src Statement a h b) (ap (λ
-      (i : Id). function_of head.0.0 i ps.0.0 ss.0.0) (sym id.1) ∙ same.0)
-      (function (span_of head.0.1) (span_of f.0.1) (span_of ps.0.1) inside.0 a left.0 opened.0
-      ss.0.1 b head.0.0 ps.0.0 ss.0.0
-      (subst (IsHead a head.0.0) named (head_ok a head.0.0 head.0.1 head.1))
-      (subst (AreParameters src left.0 ps.0.0) (expect_ok src signs.OpenBlock ps.0.1 opened.0
-      opened.1) (parameters_ok left.0 ps.0.0 ps.0.1 ps.1))
-      inside.1 (subst (IsTail ss.0.1) same.1 (tail_ok ss.0.1)))
+  reads_function = mapped (reads_then reads_head (λ out. reads_then (reads_name src) (λ f.
+      reads_behind src signs.Open refl (reads_then reads_signature (λ ps.
+      reads_behind src signs.OpenBlock refl (reads_then (reads_block src Statement statement
+      statements) (λ ss. reads_tail (function_of out f ps ss)))))))) turn_from turn_to
 
-  function_again : (a : List Lexeme) (g : Function) (b : List Lexeme) →
-      IsFunction src Statement a g b → is_sign signs.Semicolon (word_of b) ≡ false →
-      function_at src statement a ≡ Ok (g, b)
-  unfolding function_at id_at expect_at
-  function_again a g b (function f left opened shut a' y z u b' out ps ss one two three four) over =
-      ap (λ (r : Reading Bool). r >>= λ head. id_at src head.1 >>= λ f. expect_at src signs.Open f.1
-      >>= λ rest. parameters_at src rest >>= λ ps. expect_at src signs.OpenBlock ps.1 >>= λ
-      rest. body rest >>= λ ss. Ok (function_of head.0 f.0 ps.0 ss.0, tail_at ss.1))
-      (head_again a out (name f ∷ sign signs.Open left ∷ y) one)
-      ∙ ap (λ (r : Reading (List Id)). r >>= λ ps. expect_at src signs.OpenBlock ps.1 >>= λ rest.
-      body rest >>= λ ss. Ok (function_of out (id_of src f) ps.0 ss.0, tail_at ss.1))
-      (parameters_again y ps (sign signs.OpenBlock opened ∷ z) two)
-      ∙ ap (λ (r : Reading (List Stmt)). r >>= λ ss. Ok (
-        function_of out
-            (id_of src f) ps ss.0,
-        tail_at ss.1,
-      ))
-      (block_again src Statement statement statements z ss shut u
-      three)
-      ∙ ap (λ (x : List Lexeme). Ok (function_of out (id_of src f) ps ss, x))
-      (tail_again u b four over)
+  -- each has a token, its `function` at the latest
+  head_shorter : Shorter IsHead
+  head_shorter a out b (own w x) = omega arith
+  head_shorter a out b (external extern w x) = omega arith
 
-  function_shorter : (a : List Lexeme) (g : Function) (b : List Lexeme) →
-      IsFunction src Statement a g b → length b < length a
-  function_shorter a g b (function f left opened shut a' y z u b' out ps ss one two three four) =
+  function_shorter : Shorter (IsFunction src Statement)
+  function_shorter a g b (function f left opened closed a' y z u b' out ps ss one two three four) =
       omega (
         arith,
         head_shorter a out (name f ∷ sign signs.Open left ∷ y) one,
-        parameters_within y ps (sign signs.OpenBlock opened ∷ z) two,
-        block_within src Statement statement statements z ss shut u
-            three,
-        tail_within u b four,
+        reads_signature.within y ps (sign signs.OpenBlock opened ∷ z) two,
+        (reads_block src Statement statement statements).within z ss u
+            (before closed z u ss three),
+        (reads_tail out).within u out b (ended u b four),
       )
 
   head_first : (a : List Lexeme) (out : Bool) (b : List Lexeme) → IsHead a out b →
@@ -246,33 +183,14 @@ module _ (src : List ℕ) (Statement : Spelling Stmt) (statement : Statements)
   head_first a out b (external extern word x) = (refl, refl)
 
   function_first : (a : List Lexeme) (g : Function) (b : List Lexeme) →
-      IsFunction src Statement a g b → (is_sign signs.Semicolon (word_of a) ≡ false) ×
+      IsFunction src Statement a g b → NoTail a ×
       (is_sign signs.Use (word_of a) ≡ false)
   function_first a g b (function f left opened shut a' y z u b' out ps ss one two three four) =
       head_first a out (name f ∷ sign signs.Open left ∷ y) one
 
-  next_item : (a : List Lexeme) (g : Function) (b : List Lexeme) →
-      next_function src statement a ≡ Ok (Some g, b) → IsFunction src Statement a g b
-  unfolding next_function
-  next_item [] g b e = let same = (value_same (None, []) (Some g, b) e).0 in absurd cc
-  next_item (l ∷ x) g b e =
-      let found = told_ok Some (function_at src statement (l ∷ x)) (Some g) b e in
-      function_ok (l ∷ x) g b (found.1 ∙ ap (λ y. Ok (y, b)) (some_same found.0 g found.2))
-
-  next_stop : (a b : List Lexeme) → next_function src statement a ≡ Ok (None, b) → a ≡ b
-  unfolding next_function
-  next_stop [] b e = (value_same (None, []) (None, b) e).1
-  next_stop (l ∷ x) b e = let found = told_ok Some (function_at src statement
-      (l ∷ x)) None b e in absurd cc
-
-  next_again : (a : List Lexeme) (g : Function) (b : List Lexeme) → IsFunction src Statement a g b →
-      is_sign signs.Semicolon (word_of b) ≡ false → next_function src statement a ≡ Ok (Some g, b)
-  unfolding next_function
-  next_again [] g b is over = absurd (omega (arith, function_shorter [] g b is))
-  next_again (l ∷ x) g b is over = ap (told Some) (function_again (l ∷ x) g b is over)
-
-  abbrev NoSemicolon : List Lexeme → Type 0
-  NoSemicolon a = is_sign signs.Semicolon (word_of a) ≡ false
+  abbrev is_end : List Lexeme → Bool
+  is_end [] = true
+  is_end (l ∷ x) = false
 
   abbrev IsEnd : List Lexeme → Type 0
   IsEnd a = a ≡ []
@@ -280,16 +198,19 @@ module _ (src : List ℕ) (Statement : Spelling Stmt) (statement : Statements)
   reads_functions : Reads (Several (IsFunction src Statement)) IsEnd (items_at
       (next_function src statement))
   unfolding next_function
-  reads_functions = reads_items {Inside = NoSemicolon} (record {
-    item = next_item;
-    stop = next_stop;
-    again = next_again;
-    stops = λ b over. ap (next_function src statement) over ∙ ap (λ (x : List Lexeme). Ok (None, x))
-        (sym over);
-    looser = λ b over. ap (λ (x : List Lexeme). is_sign signs.Semicolon (word_of x)) over;
-    goes_on = λ a g b is. (function_first a g b is).0;
-    shorter = function_shorter;
-  })
+  reads_functions = reads_items {Inside = NoTail} (reads_each is_end (function_at src statement)
+      by_test (λ a g b no e. reads_function.takes a g b e) reads_function.again
+      (λ a g b is. (begun (length b) a (function_shorter a g b is), (function_first a g b is).0))
+      (λ b over. (ap is_end over, ap (λ x. is_sign signs.Semicolon (word_of x)) over))
+      function_shorter) where
+        by_test : (a : List Lexeme) → next_function src statement a ≡ cond (is_end a) (Ok (None, a))
+            (told Some (function_at src statement a))
+        by_test [] = refl
+        by_test (l ∷ x) = refl
+
+        begun : (n : ℕ) (a : List Lexeme) → n < length a → is_end a ≡ false
+        begun n [] less = absurd (omega (arith, less))
+        begun n (l ∷ x) less = refl
 
   -- ---- programs
 
@@ -306,10 +227,8 @@ module _ (src : List ℕ) (Statement : Spelling Stmt) (statement : Statements)
       IsProgramOf src Statement a p
   unfolding program_at
   program_ok_of a p e =
-      let us = bind_ok (items_at (next_use src) a) (λ us. items_at
-      (next_function src statement) us.1 >>= λ fs. program_by src us.0 fs.0 fs.1) p e in
-      let fs = bind_ok (items_at (next_function src statement) us.0.1)
-      (λ fs. program_by src us.0.0 fs.0 fs.1) p us.2 in
+      let us = bind_ok (items_at (next_use src) a) _ p e in
+      let fs = bind_ok (items_at (next_function src statement) us.0.1) _ p us.2 in
       whole_ok a us.0.0 us.0.1 ((reads_uses src).takes a us.0.0 us.0.1 us.1) fs.0.0 fs.0.1
       (reads_functions.takes us.0.1 fs.0.0 fs.0.1 fs.1) p fs.2
 

@@ -1,6 +1,5 @@
 -- What names and literals are in a program (WAP-193, sections 6.1.5 and 6.1.6).
-use Rattle.std.specs.Prelude.{ℕ, true, false, nat_le, if◌then◌else◌, List}
-use Rattle.std.specs.Prelude.{Option, Some, None, pos}
+use Rattle.std.specs.Prelude.{ℕ, true, false, nat_le, if◌then◌else◌, List, Option, Some, None, pos}
 use Rattle.wap_grammar.specs.declared.program.program.Span.{Span}
 use Rattle.wap_grammar.specs.declared.program.program.Id.{Id}
 use Rattle.wap_grammar.specs.declared.program.expression.Literal.{Literal}

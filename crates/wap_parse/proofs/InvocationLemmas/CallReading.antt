@@ -1,7 +1,6 @@
 -- Calls are read as they are spelled, and a fragment is one at most.
-use Rattle.std.proofs.Common.{◌≡◌, ℕ, List, [], ◌∷◌, length, Some, None, Result}
-use Rattle.std.proofs.Common.{Ok, Err, refl, sym, ap, subst, ◌∙◌, inl, inr, arith}
-use Rattle.std.proofs.Common.{encode_utf8_all}
+use Rattle.std.proofs.Common.{◌≡◌, ℕ, List, [], ◌∷◌, length, Some, None, Result, Ok, Err, refl, sym}
+use Rattle.std.proofs.Common.{ap, subst, ◌∙◌, inl, inr, arith, encode_utf8_all}
 use Rattle.std.specs.Result.{result_ok}
 use Rattle.wap_base.specs.Outcome.{◌>>=◌}
 use Rattle.wap_base.proofs.Choices.{chosen, bind_ok, ok_same, some_same}
@@ -21,7 +20,7 @@ use Rattle.wap_grammar.proofs.Firsts.{expect_ok, id_ok}
 use Rattle.wap_parse.specs.declared.invocation.invocation.Invocation.{Invocation}
 use Rattle.wap_parse.specs.invocation.Calls.{AreArguments, SpellsCall, call, is_spaced, IsCall}
 use Rattle.wap_parse.specs.invocation.Calculation.{arguments_at, ended, call_at, spelled_by, call_of}
-use Rattle.wap_parse.proofs.InvocationLemmas.ArgumentReading.{arguments_ok, arguments_again}
+use Rattle.wap_parse.proofs.InvocationLemmas.ArgumentReading.{reads_closed}
 
 -- ---- tokens
 
@@ -51,7 +50,7 @@ call_ok src a c e =
     let end = ended_ok src f values.0.0 values.0.1 c values.2 in
     let are : AreArguments src opened.0 values.0.0 [] =
     subst (AreArguments src opened.0 values.0.0) end.0
-    (arguments_ok src opened.0 values.0.0 values.0.1 values.1) in
+    ((reads_closed src).takes opened.0 values.0.0 values.0.1 values.1) in
     let whole : a ≡ name (span_of a) ∷ sign signs.Open (span_of first.0.1) ∷ opened.0 =
     id.0 ∙ ap (λ (x : List Lexeme). name (span_of a) ∷ x) left in
     let same : made (id_of src (span_of a)).name values.0.0 ≡ c =
@@ -66,7 +65,7 @@ pub call_again : (src : List ℕ) (a : List Lexeme) (c : Invocation) → SpellsC
 unfolding call_at id_at expect_at
 call_again src a c (call f left x vs are) =
     ap (λ (r : Reading (List Value)). r >>= ended src (id_of src f))
-    (arguments_again src x vs [] are)
+    ((reads_closed src).again x vs [] are tt)
 
 -- ---- fragments
 

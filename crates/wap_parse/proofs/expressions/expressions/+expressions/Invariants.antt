@@ -1,6 +1,5 @@
 use Rattle.std.proofs.Common.{◌+◌, ◌-◌, ◌*◌, ◌∷◌, length}
-use Rattle.wap_grammar.specs.declared.precedence.TheConstants.{CONDITIONAL}
-use Rattle.wap_grammar.specs.declared.precedence.TheConstants.{ASSIGNMENT, COMMA}
+use Rattle.wap_grammar.specs.declared.precedence.TheConstants.{CONDITIONAL, ASSIGNMENT, COMMA}
 use Rattle.wap_grammar.specs.reading.TokenReading.{told, items_at}
 use Rattle.wap_grammar.specs.reading.Expressions.{next_argument, next_operand}
 use Rattle.wap_grammar.specs.reading.Expressions.{part_at, expression_at}
