@@ -1,20 +1,16 @@
 -- What the writing of forms needs.
-use Rattle.std.proofs.Common.{◌≡◌, ℕ, ◌+◌, ◌<◌, ◌≤◌, List, [], ◌∷◌, ◌++◌, Some}
-use Rattle.std.proofs.Common.{length, get_or, take, map, slice_get, refl, sym, ◌∙◌, ap, arith}
-use Rattle.std.proofs.Common.{option_map}
-use Rattle.std.proofs.Common.{Result, Ok, Err, OnOk}
+use Rattle.std.proofs.Common.{◌≡◌, ℕ, ◌+◌, ◌<◌, ◌≤◌, List, [], ◌∷◌, ◌++◌, Some, length, get_or}
+use Rattle.std.proofs.Common.{take, map, slice_get, refl, sym, ◌∙◌, ap, arith, option_map, Result}
+use Rattle.std.proofs.Common.{Ok, Err, OnOk}
 use Rattle.std.specs.List.{enumerate_from, flat_map}
 use Rattle.std.proofs.lemmas.Option.{same_Some, slice_get-get_or, slice_get-map, slice_get_within}
 use Rattle.std.proofs.lemmas.Option.{slice_get_read}
-use Rattle.std.proofs.lemmas.List.{take_more, take_all, length-map}
-use Rattle.std.proofs.lemmas.List.{flat_map_more}
+use Rattle.std.proofs.lemmas.List.{take_more, take_all, length-map, flat_map_more}
 use Rattle.std.proofs.lemmas.List.FromFn.{length-enumerate_from, get_or-enumerate_from}
 use Rattle.wap_unit.specs.declared.instr.Instr.{Instr}
 use Rattle.wap_unit.specs.declared.row.OpName.{OpName}
-use Rattle.wap_unit.specs.declared.row.Slot.{Slot}
-use Rattle.wap_unit.specs.declared.row.Slot.TheVariants.{Absent, Low, Byte, Word}
 use Rattle.wap_unit.specs.declared.row.Row.{Row}
-use Rattle.wap_asm.specs.Spelling.{limit, low_part}
+use Rattle.wap_asm.specs.Operands.{Holds}
 use Rattle.wap_asm.proofs.RowLaws.{shortest_fits}
 use Rattle.wap_asm.specs.declared.form.Form.{Form}
 use Rattle.wap_asm.specs.declared.form.Form.TheVariants.{Op, Jump, Label}
@@ -22,9 +18,9 @@ use Rattle.wap_asm.specs.declared.site.Site.{Site}
 use Rattle.wap_asm.specs.Spellings.{operation_of, longest, spelling_of}
 use Rattle.wap_asm.specs.Placing.{target, between, form_bytes, bytes_at, wide, settled, placed}
 use Rattle.wap_asm.specs.Placed.{ArePlaceable}
-use Rattle.wap_asm.specs.inside.Passes.{site_of, apart, AreStarts, HasSpelling, HasRoom}
+use Rattle.wap_asm.specs.inside.Passes.{site_of, apart, AreStarts, HasSpelling}
 use Rattle.wap_asm.proofs.PassLaws.{apart_is, target_within, targets_within}
-use Rattle.wap_asm.proofs.SpellingLaws.{spelled_shortest, shortest_found, begins_below}
+use Rattle.wap_asm.proofs.SpellingLaws.{spelled_shortest}
 use Rattle.wap_asm.proofs.Settling.{none}
 use Rattle.wap_asm.proofs.PlacedLaws.{op_least, jump_least, distance_below, length-settled}
 
@@ -52,36 +48,15 @@ pub jump_small : (forms : List Form) (i label : ℕ) → wide forms ≤ 65535
     → between (settled forms) i (target forms label) < 65536
 jump_small forms i label few = distance_below forms i (target forms label) few
 
-wider : (count n : ℕ) (slot : Slot) → count ≤ 256 → n < limit count slot → n < limit 256 slot
-wider count n Absent few h = h
-wider count n Low few h = omega arith
-wider count n Byte few h = h
-wider count n Word few h = h
-
-low_fits : (first count n : ℕ) (slot : Slot) → first < 256 → first + count ≤ 256
-    → n < limit count slot
-    → first + low_part slot n < 256
-low_fits first count n Absent low few h = omega arith
-low_fits first count n Low low few h = omega arith
-low_fits first count n Byte low few h = omega arith
-low_fits first count n Word low few h = omega arith
-
+-- the spelling that is taken has room for the operands
 pub has_room : (operation : OpName) (a b c : ℕ) (row : Row)
-    → HasSpelling operation a b c → spelling_of operation a b c ≡ Some row → HasRoom row a b c
+    → HasSpelling operation a b c → spelling_of operation a b c ≡ Some row
+    → (0 < row.count) × (row.first + row.count ≤ 256) × Holds row a b c
 has_room operation a b c row spelling is =
     let same : spelling.row ≡ row =
     same_Some spelling.row row (sym (spelled_shortest operation a b c spelling.row spelling.is)
     ∙ is) in
-    let fits = shortest_fits operation a b c row (spelling.is ∙ ap Some same) in
-    let low = begins_below row (shortest_found operation a b c row (spelling.is ∙ ap Some same)).0
-    in
-    let few : row.count ≤ 256 = omega (arith, fits.0) in
-    record {
-      code_fits = low_fits row.first row.count a row.a low fits.0 fits.1;
-      a_fits = wider row.count a row.a few fits.1;
-      b_fits = wider row.count b row.b few fits.2;
-      c_fits = wider row.count c row.c few fits.3;
-    }
+    shortest_fits operation a b c row (spelling.is ∙ ap Some same)
 
 pub site_at : (forms : List Form) (sites : List Site) (i : ℕ) (form : Form)
     → sites ≡ map (site_of forms) forms → slice_get forms i ≡ Some form

@@ -6,7 +6,7 @@ use Rattle.std.specs.BTreeMap.{BTreeMap, get}
 use Rattle.std.proofs.lemmas.Option.{slice_get_within}
 use Rattle.wap_unit.specs.declared.row.OpName.{OpName}
 use Rattle.wap_asm.specs.declared.form.Form.{Form}
-use Rattle.wap_asm.specs.declared.form.Form.TheVariants.{Op, Jump, Label}
+use Rattle.wap_asm.specs.declared.form.Form.TheVariants.{Jump, Label}
 use Rattle.wap_asm.specs.Spellings.{operation_of}
 use Rattle.wap_asm.specs.Placing.{target}
 use Rattle.wap_asm.specs.Placed.{IsLabelled, ArePlaceable}
@@ -33,13 +33,12 @@ index_is forms operation i label (Some k) labelled there =
 site_same : (forms : List Form) (labels : BTreeMap ℕ ℕ) (k : ℕ) (form : Form) → ArePlaceable forms
     → AreIndexes forms (length forms) labels → slice_get forms k ≡ Some form
     → site_by labels form ≡ site_of forms form
-site_same forms labels k (Op instr) placeable are here = refl
-site_same forms labels k (Label label) placeable are here = refl
 site_same forms labels k (Jump name label) placeable are here =
     let kind = kind_of (operation_of name) in
     ap (λ (t : ℕ). record { kind = kind; target = t })
     (index_is forms (operation_of name) k label (get nat_cmp labels label)
     (placeable.jumps k label name here) (are label))
+site_same forms labels k _ placeable are here = refl
 
 pub sites_same : (forms : List Form) (labels : BTreeMap ℕ ℕ) → ArePlaceable forms
     → AreIndexes forms (length forms) labels → map (site_by labels) forms

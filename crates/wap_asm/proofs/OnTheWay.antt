@@ -73,10 +73,6 @@ form_leap_below : (forms : List Form) (starts sizes : List ℕ) (known i : ℕ) 
     → leap_size (site_of forms form).kind (get_or sizes i 0)
     (apart starts i (site_of forms form).target)
     ≤ get_or (settled forms) i 0
-form_leap_below forms starts sizes known i (Op instr) placeable are so_far within here to =
-    so_far.below i
-form_leap_below forms starts sizes known i (Label label) placeable are so_far within here to =
-    so_far.below i
 form_leap_below forms starts sizes known i (Jump name label) placeable are so_far within here to =
     let t = target forms label in
     let grows =
@@ -88,6 +84,7 @@ form_leap_below forms starts sizes known i (Jump name label) placeable are so_fa
       form_below forms are.sizes (settled forms) i (Jump name label) are.below,
       settled_at forms i (Jump name label) here,
     )
+form_leap_below forms starts sizes known i _ placeable are so_far within here to = so_far.below i
 
 -- a site that is found is its form's
 site_is : (forms : List Form) (sites : List Site) (i : ℕ) (site : Site)

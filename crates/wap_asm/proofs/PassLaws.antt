@@ -1,11 +1,9 @@
 -- What the code reads is what the definitions say: the sizes of jumps at distances, sites, starts
 -- and the first sizes.
-use Rattle.std.proofs.Common.{◌≡◌, ℕ, zero, suc, ◌+◌, ◌<◌, ◌≤◌, Bool, true, false, nat_lt}
-use Rattle.std.proofs.Common.{cond, not, ◌&&◌, if◌then◌else◌}
-use Rattle.std.proofs.Common.{List, [], ◌∷◌, Some, None}
-use Rattle.std.proofs.Common.{length, get_or, take, map, sum, replicate, slice_get, slice_index}
-use Rattle.std.proofs.Common.{slice_range}
-use Rattle.std.proofs.Common.{inl, inr, refl, sym, ◌∙◌, ap, arith}
+use Rattle.std.proofs.Common.{◌≡◌, ℕ, zero, suc, ◌+◌, ◌<◌, ◌≤◌, Bool, true, false, nat_lt, cond}
+use Rattle.std.proofs.Common.{not, ◌&&◌, if◌then◌else◌, List, [], ◌∷◌, Some, None, length, get_or}
+use Rattle.std.proofs.Common.{take, map, sum, replicate, slice_get, slice_index, slice_range, inl}
+use Rattle.std.proofs.Common.{inr, refl, sym, ◌∙◌, ap, arith}
 use Rattle.std.proofs.lemmas.Bool.{cases_lt}
 use Rattle.std.proofs.lemmas.Option.{same_Some, none-some}
 use Rattle.std.proofs.lemmas.List.{length-map, get_or_past, ext_get_or, get_or-map, take_all}
@@ -30,13 +28,11 @@ use Rattle.wap_asm.specs.Spellings.{operation_of, longest, spelling_of, row_size
 use Rattle.wap_asm.specs.Placing.{is_label, target, between, form_bytes, grown, sizes_after, wide}
 use Rattle.wap_asm.specs.Placing.{settled}
 use Rattle.wap_asm.specs.Placed.{Leads}
-use Rattle.wap_asm.specs.inside.Passes.{kind_of, site_of, leap_size, apart, AreStarts}
-use Rattle.wap_asm.specs.inside.Passes.{first_size}
+use Rattle.wap_asm.specs.inside.Passes.{kind_of, site_of, leap_size, apart, AreStarts, first_size}
 use Rattle.wap_asm.proofs.SpellingLaws.{length-row_bytes}
 use Rattle.wap_asm.proofs.Sums.{sum-range, range_below}
 use Rattle.wap_asm.proofs.PlacedLaws.{sum-settled}
-use Rattle.wap_asm.proofs.Settling.{get_or-grown, length-grown}
-use Rattle.wap_asm.proofs.Settling.{zeros_below}
+use Rattle.wap_asm.proofs.Settling.{get_or-grown, length-grown, zeros_below}
 
 -- ---- the size of a jump at a distance, computed from the table
 
@@ -92,9 +88,8 @@ pub target_within : (forms : List Form) (label : ℕ) → target forms label ≤
 target_within forms label = prefix_len-le-length (λ form. not (is_label label form)) forms
 
 site_within : (forms : List Form) (form : Form) → (site_of forms form).target ≤ length forms
-site_within forms (Op instr) = omega arith
 site_within forms (Jump name label) = target_within forms label
-site_within forms (Label label) = omega arith
+site_within forms _ = omega arith
 
 pub targets_within : (forms : List Form) (sites : List Site) (starts : List ℕ)
     → sites ≡ map (site_of forms) forms → length starts ≡ length forms + 1

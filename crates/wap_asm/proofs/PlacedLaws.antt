@@ -1,8 +1,7 @@
 -- The code splits into the forms, and each jump leads to its label.
-use Rattle.std.proofs.Common.{◌≡◌, ℕ, ◌+◌, ◌-◌, ◌<◌, ◌≤◌, true, false, nat_lt, ◌&&◌}
-use Rattle.std.proofs.Common.{List, ◌∷◌, ◌++◌, Option, Some, None, IsSomeAnd, IsTrue}
-use Rattle.std.proofs.Common.{length, get_or, take, drop, map, sum, slice_get}
-use Rattle.std.proofs.Common.{inl, inr, refl, sym, ◌∙◌, ap, subst, arith}
+use Rattle.std.proofs.Common.{◌≡◌, ℕ, ◌+◌, ◌-◌, ◌<◌, ◌≤◌, true, false, nat_lt, ◌&&◌, List, ◌∷◌}
+use Rattle.std.proofs.Common.{◌++◌, Option, Some, None, IsSomeAnd, IsTrue, length, get_or, take}
+use Rattle.std.proofs.Common.{drop, map, sum, slice_get, inl, inr, refl, sym, ◌∙◌, ap, subst, arith}
 use Rattle.std.specs.List.{enumerate_from, flat_map}
 use Rattle.std.proofs.lemmas.Bool.{cases_Bool, lt-ltb, eqb-true, eq-eqb}
 use Rattle.std.proofs.lemmas.Option.{slice_get_within, get_or_from_slice_get, slice_get-get_or}

@@ -11,10 +11,11 @@ use Rattle.std.proofs.Math.Seq.{get_or-append_seam}
 use Rattle.wap_unit.specs.declared.row.OpName.{OpName}
 use Rattle.wap_unit.specs.contracts.row.OpName.{the_type}
 use Rattle.wap_unit.specs.declared.row.Slot.{Slot}
-use Rattle.wap_unit.specs.declared.row.Slot.TheVariants.{Absent, Low, Byte, Word}
+use Rattle.wap_unit.specs.declared.row.Slot.TheVariants.{Low}
 use Rattle.wap_unit.specs.declared.row.Row.{Row}
 use Rattle.wap_unit.specs.Rows.{rows}
 use Rattle.wap_unit.specs.Instructions.{width, size, has_code, row_of}
+use Rattle.wap_asm.specs.Operands.{Holds}
 use Rattle.wap_asm.specs.Spelling.{limit, holds, is_spelling, shortest}
 use Rattle.wap_unit.specs.Instructions.{value, read_by, instr_at}
 use Rattle.wap_asm.specs.Spelling.{low_part, slot_bytes, spelling}
@@ -32,9 +33,7 @@ apart r s = nat_le (r.first + r.count) s.first || nat_le (s.first + s.count) r.f
 
 abbrev is_after_code : Slot → Bool
 is_after_code Low = false
-is_after_code Absent = true
-is_after_code Byte = true
-is_after_code Word = true
+is_after_code _ = true
 
 abbrev is_formed : Row → Bool
 is_formed row =
@@ -119,12 +118,24 @@ same_instr : (name : OpName) (a a' b b' c c' next : ℕ) → a ≡ a' → b ≡ 
     → record-of name a b c next ≡ record-of name a' b' c' next
 same_instr name a a' b b' c c' next ea eb ec = rw (ea, eb, ec) refl
 
+-- a row whose test passes has room
+room : (row : Row) (a b c : ℕ) → holds row a b c ≡ true → Holds row a b c
+room row a b c is =
+    let first = and_parts (nat_lt a (limit row.count row.a)) _ is in
+    let others = and_parts (nat_lt b (limit row.count row.b)) _ first.1 in
+    record {
+      a_fits = ltb-true a _ first.0;
+      b_fits = ltb-true b _ others.0;
+      c_fits = ltb-true c _ others.1;
+    }
+
 -- what a row spells is read back
-pub instr_at-spelling : (row : Row) (a b c : ℕ) (before rest : List ℕ) → Among row rows
-    → a < limit row.count row.a → b < limit row.count row.b → c < limit row.count row.c
+pub any_read_back : (row : Row) (a b c : ℕ) (before rest : List ℕ) → Among row rows
+    → holds row a b c ≡ true
     → instr_at (before ++ (spelling row a b c ++ rest)) (length before)
     ≡ Ok (record-of row.name a b c (length before + size row))
-instr_at-spelling row a b c before rest among a_fits b_fits c_fits =
+any_read_back row a b c before rest among is =
+    let fits = room row a b c is in
     let formed = all_among is_formed rows row rows_formed among in
     let some = and_parts (nat_lt 0 row.count) _ formed in
     let low_last = and_parts (nat_le (row.first + row.count) 256) _ some.1 in
@@ -141,7 +152,7 @@ instr_at-spelling row a b c before rest among a_fits b_fits c_fits =
     ap (λ n. n - row.first) here ∙ add_sub row.first (low_part row.a a) in
     let row_is : row_of (slice_index code at) ≡ Some row =
     ap row_of here ∙ row_spelled row (low_part row.a a) among
-    (low_part-below row.count row.a a (ltb-true 0 row.count some.0) a_fits) in
+    (low_part-below row.count row.a a (ltb-true 0 row.count some.0) fits.a_fits) in
     let enough : size row ≤ length code - at =
     long_enough before (spelling row a b c) rest (size row) (length-spelling row a b c) in
     let a_is : value code (at + 1) row.a (slice_index code at - row.first) ≡ a =
@@ -149,7 +160,8 @@ instr_at-spelling row a b c before rest among a_fits b_fits c_fits =
     (split_a before op sa sb sc rest)
     ∙ value-slot_bytes (before ++ op ∷ []) (sb ++ (sc ++ rest)) row.count row.a
     (slice_index code at - row.first) a (at + 1)
-    (omega (arith, length-append before (op ∷ []))) a_fits (λ e. low ∙ low_part-low row.a a e) in
+    (omega (arith, length-append before (op ∷ []))) fits.a_fits
+    (λ e. low ∙ low_part-low row.a a e) in
     let b_is : value code (at + 1 + width row.a) row.b (slice_index code at - row.first) ≡ b =
     ap (λ l. value l (at + 1 + width row.a) row.b (slice_index code at - row.first))
     (split_b before op sa sb sc rest)
@@ -159,7 +171,7 @@ instr_at-spelling row a b c before rest among a_fits b_fits c_fits =
       length-append before (op ∷ []),
       length-append (before ++ op ∷ []) sa,
       length-slot_bytes row.a a,
-    )) b_fits (λ e. absurd (is_not_low row.b plain.0 e)) in
+    )) fits.b_fits (λ e. absurd (is_not_low row.b plain.0 e)) in
     let c_is : value code (at + 1 + width row.a + width row.b) row.c
     (slice_index code at - row.first)
     ≡ c =
@@ -173,21 +185,11 @@ instr_at-spelling row a b c before rest among a_fits b_fits c_fits =
       length-append (before ++ op ∷ [] ++ sa) sb,
       length-slot_bytes row.a a,
       length-slot_bytes row.b b,
-    )) c_fits (λ e. absurd (is_not_low row.c plain.1 e)) in
+    )) fits.c_fits (λ e. absurd (is_not_low row.c plain.1 e)) in
     ap (λ o. read_by o code at) row_is
     ∙ (cond-false (nat_lt (length code - at) (size row)) _ _
     (le-ltb (length code - at) (size row) enough)
     ∙ ap Ok (same_instr row.name _ a _ b _ c (at + size row) a_is b_is c_is))
-
-pub any_read_back : (row : Row) (a b c : ℕ) (before rest : List ℕ) → Among row rows
-    → holds row a b c ≡ true
-    → instr_at (before ++ (spelling row a b c ++ rest)) (length before)
-    ≡ Ok (record-of row.name a b c (length before + size row))
-any_read_back row a b c before rest among is =
-    let first = and_parts (nat_lt a (limit row.count row.a)) _ is in
-    let others = and_parts (nat_lt b (limit row.count row.b)) _ first.1 in
-    instr_at-spelling row a b c before rest among (ltb-true a _ first.0) (ltb-true b _ others.0)
-    (ltb-true c _ others.1)
 
 pub read_back : (operation : OpName) (a b c : ℕ) (row : Row) (before rest : List ℕ)
     → shortest operation a b c ≡ Some row
@@ -217,23 +219,30 @@ none_shorter operation a b c row other e among is =
           (ap not (true_same the_type row.operation other.operation (row_op ∙ sym other_op))) order)
     ]
 
+-- a row has codes, and they are bytes
+codes_fit : (row : Row) → Among row rows → (0 < row.count) × (row.first + row.count ≤ 256)
+codes_fit row among =
+    let formed = and_parts (nat_lt 0 row.count) _ (all_among is_formed rows row rows_formed among)
+    in
+    let last = and_parts (nat_le (row.first + row.count) 256) _ formed.1 in
+    (ltb-true 0 row.count formed.0, leb-true (row.first + row.count) 256 last.0)
+
+-- a code stands before the end of those of its row
+pub code_below : (code : ℕ) (row : Row) → row_of code ≡ Some row
+    → (code < row.first + row.count) × (row.first + row.count ≤ 256)
+unfolding row_of
+code_below code row is =
+    let it = found (has_code code) rows row is in
+    let own = and_parts (nat_le row.first code) _ it.0 in
+    let less = ltb-true (code - row.first) row.count own.1 in
+    (omega (arith, less, leb-true row.first code own.0), (codes_fit row it.1).1)
+
 -- the row that is taken has room
 pub shortest_fits : (operation : OpName) (a b c : ℕ) (row : Row)
     → shortest operation a b c ≡ Some row
-    → (row.first + row.count ≤ 256) × (a < limit row.count row.a) × (b < limit row.count row.b)
-    × (c < limit row.count row.c)
+    → (0 < row.count) × (row.first + row.count ≤ 256) × Holds row a b c
 unfolding shortest
 shortest_fits operation a b c row e =
     let it = found (is_spelling operation a b c) rows row e in
-    let formed = all_among is_formed rows row rows_formed it.1 in
-    let last =
-    and_parts (nat_le (row.first + row.count) 256) _ (and_parts (nat_lt 0 row.count) _ formed).1 in
-    let fits = and_parts (sameb the_type row.operation operation) (holds row a b c) it.0 in
-    let a_fits = and_parts (nat_lt a (limit row.count row.a)) _ fits.1 in
-    let bc_fit =
-    and_parts (nat_lt b (limit row.count row.b)) (nat_lt c (limit row.count row.c)) a_fits.1 in (
-      leb-true (row.first + row.count) 256 last.0,
-      ltb-true a _ a_fits.0,
-      ltb-true b _ bc_fit.0,
-      ltb-true c _ bc_fit.1,
-    )
+    let codes = codes_fit row it.1 in
+    (codes.0, codes.1, room row a b c (and_parts _ (holds row a b c) it.0).1)

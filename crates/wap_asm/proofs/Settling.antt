@@ -1,7 +1,6 @@
 -- Passes over the sizes of forms: no size falls, and none grows in the end.
-use Rattle.std.proofs.Common.{◌≡◌, ℕ, zero, suc, ◌+◌, ◌<◌, ◌≤◌, List}
-use Rattle.std.proofs.Common.{length, get_or, map, sum, replicate}
-use Rattle.std.proofs.Common.{◌⊎◌, inl, inr, sym, ◌∙◌, ap, arith}
+use Rattle.std.proofs.Common.{◌≡◌, ℕ, zero, suc, ◌+◌, ◌<◌, ◌≤◌, List, length, get_or, map, sum}
+use Rattle.std.proofs.Common.{replicate, ◌⊎◌, inl, inr, sym, ◌∙◌, ap, arith}
 use Rattle.std.specs.List.{enumerate_from}
 use Rattle.std.proofs.lemmas.Bool.{cases_lt}
 use Rattle.std.proofs.lemmas.List.{get_or-map, get_or_past, length-map, length-replicate}
@@ -46,8 +45,6 @@ between_below s t i j h =
 
 pub form_below : (forms : List Form) (s t : List ℕ) (i : ℕ) (form : Form) → Below s t
     → length (form_bytes forms s i form) ≤ length (form_bytes forms t i form)
-form_below forms s t i (Op instr) h = omega arith
-form_below forms s t i (Label label) h = omega arith
 form_below forms s t i (Jump name label) h =
     let op = operation_of name in
     let d = between s i (target forms label) in
@@ -58,6 +55,7 @@ form_below forms s t i (Jump name label) h =
       length-row_bytes (spelling_of op d 0 0) d 0 0,
       length-row_bytes (spelling_of op e 0 0) e 0 0,
     )
+form_below forms s t i _ h = omega arith
 
 -- sizes that are no smaller come to sizes that are no smaller
 pub grown_below : (forms : List Form) (s t : List ℕ) → Below s t

@@ -36,10 +36,8 @@ value-slot_bytes before rest count Word low n at e h same =
 
 pub low_part-below : (count : ℕ) (slot : Slot) (n : ℕ) → 0 < count → n < limit count slot
     → low_part slot n < count
-low_part-below count Absent n some h = some
 low_part-below count Low n some h = h
-low_part-below count Byte n some h = some
-low_part-below count Word n some h = some
+low_part-below count _ n some h = some
 
 pub low_part-low : (slot : Slot) (n : ℕ) → slot ≡ Low → low_part slot n ≡ n
 low_part-low slot n e = ap (λ s. low_part s n) e

@@ -11,7 +11,7 @@ use Rattle.std.proofs.lemmas.Nat.{div-mul-add, mod-mul-add}
 use Rattle.std.proofs.lemmas.Bool.{cases_Bool, ltb-false, cond-true, cond-false}
 use Rattle.std.proofs.lemmas.Bool.Decides.{nat_tests}
 use Rattle.wap_unit.specs.declared.row.Slot.{Slot}
-use Rattle.wap_unit.specs.declared.row.Slot.TheVariants.{Absent, Low, Byte, Word}
+use Rattle.wap_unit.specs.declared.row.Slot.TheVariants.{Low, Byte, Word}
 use Rattle.wap_unit.specs.declared.row.Row.{Row}
 use Rattle.wap_unit.specs.Rows.{rows}
 use Rattle.wap_unit.specs.declared.instr.Instr.{Instr}
@@ -24,9 +24,7 @@ use Rattle.wap_asm.proofs.Finding.{all_among, found}
 
 abbrev is_in_code : Slot → Bool
 is_in_code Low = true
-is_in_code Absent = false
-is_in_code Byte = false
-is_in_code Word = false
+is_in_code _ = false
 
 -- a row with no operand in its code has one code
 abbrev is_single : Row → Bool
@@ -42,13 +40,12 @@ word_back h l below =
 slot_bytes-value : (code : List ℕ) (k : ℕ) (slot : Slot) (low : ℕ) → k + width slot ≤ length code
     → ((j : ℕ) → slice_index code j < 256)
     → take (width slot) (drop k code) ≡ slot_bytes slot (value code k slot low)
-slot_bytes-value code k Absent low h bytes = refl
-slot_bytes-value code k Low low h bytes = refl
 slot_bytes-value code k Byte low h bytes = ap (take 1) (drop-cons code k 0 (omega (arith, h)))
 slot_bytes-value code k Word low h bytes =
     ap (take 2) (drop-cons code k 0 (omega (arith, h)) ∙ ap (λ xs. slice_index code k ∷ xs)
     (ap (λ j. drop j code) (sym (add-one k)) ∙ drop-cons code (k + 1) 0 (omega (arith, h))))
     ∙ sym (word_back (slice_index code k) (slice_index code (k + 1)) (bytes (k + 1)))
+slot_bytes-value code k _ low h bytes = refl
 
 joined : {x : ℕ} {l1 l2 l3 h a b c a' b' c' : List ℕ} → l1 ≡ l2 ++ c → l2 ≡ l3 ++ b → l3 ≡ h ++ a
     → h ≡ x ∷ [] → a ≡ a' → b ≡ b' → c ≡ c' → l1 ≡ x ∷ (a' ++ (b' ++ c'))
@@ -90,10 +87,8 @@ own_code : (slot : Slot) (first count code a : ℕ)
     → (nat_le first code && nat_lt (code - first) count) ≡ true
     → (is_in_code slot || (count == 1)) ≡ true
     → (slot ≡ Low → a ≡ code - first) → first + low_part slot a ≡ code
-own_code Absent first count code a has single same = grind (arith, nat_tests)
 own_code Low first count code a has single same = let e = same refl in grind (arith, nat_tests)
-own_code Byte first count code a has single same = grind (arith, nat_tests)
-own_code Word first count code a has single same = grind (arith, nat_tests)
+own_code _ first count code a has single same = grind (arith, nat_tests)
 
 value-low : (code : List ℕ) (k : ℕ) (slot : Slot) (low : ℕ) → slot ≡ Low
     → value code k slot low ≡ low

@@ -1,11 +1,10 @@
 -- The table, computed, and what follows for the spellings of an operation.
-use Rattle.std.proofs.Common.{◌≡◌, ℕ, ◌<◌, ◌≤◌, Bool, true, false, nat_lt, nat_le, ◌&&◌, List, []}
-use Rattle.std.proofs.Common.{◌∷◌}
+use Rattle.std.proofs.Common.{◌≡◌, ℕ, ◌≤◌, Bool, true, false, nat_lt, nat_le, ◌&&◌, List, [], ◌∷◌}
 use Rattle.std.proofs.Common.{Option, Some, None, inl, inr, ◌⊎◌, refl, sym, ◌∙◌, ap, subst, arith}
 use Rattle.std.proofs.Common.{find, filter, length}
 use Rattle.std.specs.List.{list_all, last_or}
 use Rattle.std.specs.Option.{option_map_or}
-use Rattle.std.proofs.lemmas.Bool.{cases_Bool, and_parts, ltb-true, leb-true, cond-true, cond-false}
+use Rattle.std.proofs.lemmas.Bool.{cases_Bool, and_parts, leb-true, cond-true, cond-false}
 use Rattle.std.proofs.lemmas.Bool.{true≢false}
 use Rattle.std.proofs.lemmas.Bool.Decides.{nat_tests}
 use Rattle.std.proofs.lemmas.Option.{same_Some}
@@ -32,9 +31,6 @@ is_operation_named row = sameb the_type (operation_of row.name) row.operation
 abbrev is_topped : Row → Bool
 is_topped row = option_map_or (λ last. nat_le (size row) (size last)) (longest row.operation) false
 
-abbrev begins_byte : Row → Bool
-begins_byte row = nat_lt row.first 256
-
 rows_named : list_all is_operation_named rows ≡ true
 unfolding operation_of
 rows_named = refl
@@ -42,9 +38,6 @@ rows_named = refl
 rows_topped : list_all is_topped rows ≡ true
 unfolding longest
 rows_topped = refl
-
-rows_begin : list_all begins_byte rows ≡ true
-rows_begin = refl
 
 -- ---- what follows
 
@@ -56,9 +49,6 @@ width_small Word = omega arith
 
 pub size_small : (row : Row) → size row ≤ 7
 size_small row = omega (arith, width_small row.a, width_small row.b, width_small row.c)
-
-pub begins_below : (row : Row) → Among row rows → row.first < 256
-begins_below row among = ltb-true row.first 256 (all_among begins_byte rows row rows_begin among)
 
 pub operation_named : (row : Row) → Among row rows → operation_of row.name ≡ row.operation
 operation_named row among =

@@ -1,11 +1,10 @@
--- How great the operands of an instruction are, by where they stand (WAP-193, section 10).
-use Rattle.std.specs.Prelude.{◌<◌}
+-- The operands that a row has room for (WAP-193, section 10).
+use Rattle.std.specs.Prelude.{ℕ, ◌<◌}
 use Rattle.wap_unit.specs.declared.row.Row.{Row}
-use Rattle.wap_unit.specs.declared.instr.Instr.{Instr}
 use Rattle.wap_asm.specs.Spelling.{limit}
 
--- each operand of an instruction has room where its row puts it
-pub record Holds (row : Row) (instr : Instr) : Type 0 where
-  pub a : instr.a < limit 256 row.a
-  pub b : instr.b < limit 256 row.b
-  pub c : instr.c < limit 256 row.c
+-- each operand is below the limit of the bits where its row puts it
+pub record Holds (row : Row) (a b c : ℕ) : Type 0 where
+  pub a_fits : a < limit row.count row.a
+  pub b_fits : b < limit row.count row.b
+  pub c_fits : c < limit row.count row.c

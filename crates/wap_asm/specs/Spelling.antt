@@ -9,7 +9,8 @@ use Rattle.wap_unit.specs.declared.row.Row.{Row}
 use Rattle.wap_unit.specs.Rows.{rows}
 use denote.Enum.Bare.{sameb}
 
--- past the greatest number that can stand there, where the code has `count` values
+-- past the greatest number that the bits of a place can be: those of a code, which has `count`
+-- values, of a byte or of two
 abbrev pub limit : ℕ → Slot → ℕ
 limit count Absent = 1
 limit count Low = count

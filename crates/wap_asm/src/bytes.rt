@@ -2,10 +2,11 @@
 ghost use Rattle.std.specs.Prelude.{◌≡◌, ℕ, ◌+◌, ◌<◌, ◌≤◌, ◌++◌, length, slice_get, map, IfOk};
 ghost use Rattle.std.specs.Prelude.{OnOk};
 ghost use Rattle.wap_asm.specs.Spelling.{limit, low_part, slot_bytes, spelling};
+ghost use Rattle.wap_asm.specs.Operands.{Holds};
 ghost use Rattle.wap_asm.specs.declared.form.Form.{Form};
 ghost use Rattle.wap_asm.specs.Placing.{instr_bytes, form_bytes, settled, wide, placed};
 ghost use Rattle.wap_asm.specs.Placed.{ArePlaceable};
-ghost use Rattle.wap_asm.specs.inside.Passes.{site_of, AreStarts, HasSpelling, HasRoom};
+ghost use Rattle.wap_asm.specs.inside.Passes.{site_of, AreStarts, HasSpelling};
 
 use crate::Form;
 use crate::pass::{Layout, apart};
@@ -14,9 +15,9 @@ use std::alloc::Global;
 use wap_base::{Bytes, NoMemory};
 use wap_unit::{OpName, Row, Slot};
 
-/// What an operand adds to the code.
-fn low_part(slot: Slot, n: u32) -> u8
-    requires { n < limit 256 slot }
+/// What an operand adds to a code of `count` values.
+fn low_part(count: u8, slot: Slot, n: u32) -> u8
+    requires { n < limit count slot }
     ensures { result ≡ low_part slot n }
 {
     match slot {
@@ -27,9 +28,9 @@ fn low_part(slot: Slot, n: u32) -> u8
     }
 }
 
-/// Appends an operand.
-fn add_operand(slot: Slot, n: u32, code: &mut Bytes) -> Result<(), NoMemory>
-    requires { n < limit 256 slot }
+/// Appends what an operand has after a code of `count` values.
+fn add_operand(count: u8, slot: Slot, n: u32, code: &mut Bytes) -> Result<(), NoMemory>
+    requires { n < limit count slot }
     ensures { OnOk result (code.new ≡ code.old ++ slot_bytes slot n) }
 {
     match slot {
@@ -49,13 +50,14 @@ fn add_operand(slot: Slot, n: u32, code: &mut Bytes) -> Result<(), NoMemory>
 
 /// Appends what a row spells.
 fn add_row(row: Row, a: u32, b: u32, c: u32, code: &mut Bytes) -> Result<(), NoMemory>
-    requires { HasRoom row a b c }
+    requires room { Holds row a b c }
+    requires code { row.first + row.count ≤ 256 }
     ensures { OnOk result (code.new ≡ code.old ++ spelling row a b c) }
 {
-    code.push(row.first + low_part(row.a, a))?;
-    add_operand(row.a, a, code)?;
-    add_operand(row.b, b, code)?;
-    add_operand(row.c, c, code)?;
+    code.push(row.first + low_part(row.count, row.a, a))?;
+    add_operand(row.count, row.a, a, code)?;
+    add_operand(row.count, row.b, b, code)?;
+    add_operand(row.count, row.c, c, code)?;
     Ok(())
 }
 

@@ -1,5 +1,5 @@
 //! Reading an instruction.
-ghost use Rattle.std.specs.Prelude.{◌≡◌, ◌+◌, ◌<◌, ◌≤◌, length, slice_index};
+ghost use Rattle.std.specs.Prelude.{◌≡◌, ℕ, ◌+◌, ◌<◌, ◌≤◌, length, slice_index};
 ghost use Rattle.std.specs.Prelude.{slice_get, IfOk, IfSome, ⊤};
 ghost use Rattle.std.specs.Bool.{MatchBool};
 ghost use Rattle.wap_unit.specs.Instructions.{width, size, row_of, value, read_row, instr_at};
@@ -33,7 +33,7 @@ pub(crate) fn size(row: Row) -> usize
 fn operand(code: &[u8], at: usize, slot: Slot, low: u8) -> u32
     requires { at + width slot ≤ length code.now }
     ensures value { result ≡ value code.now at slot low }
-    ensures within { result < limit 256 slot }
+    ensures within { (count : ℕ) → low < count → result < limit count slot }
 {
     match slot {
         Slot::Absent => 0,
@@ -57,8 +57,9 @@ pub fn read_row(row: Row, code: &[u8], at: usize) -> Result<Instr, InstrFault>
     requires here { at < length code.now }
     requires within { row.first ≤ slice_index code.now at }
     ensures instr { result ≡ read_row row code.now at }
-    // Each operand is as great as there is room for where it stands.
-    ensures operands { IfOk result (Holds row) }
+    // Each operand of a code of the row is within its bits.
+    ensures operands { IfOk result (λ instr. slice_index code.now at < row.first + row.count
+        → Holds row instr.a instr.b instr.c) }
 {
     let left = code.len() - at;
     let low = code[at] - row.first;

@@ -41,8 +41,7 @@ operation_saves_few _ = omega arith
 -- what a form saves
 form_saves_few : (form : Form) → form_saves form ≤ 6
 form_saves_few (Op instr) = operation_saves_few instr.name
-form_saves_few (Jump name label) = omega arith
-form_saves_few (Label label) = omega arith
+form_saves_few _ = omega arith
 
 -- what forms save
 pub saved_few : (forms : List Form) → saved forms ≤ length forms * 6

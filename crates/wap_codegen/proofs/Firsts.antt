@@ -6,8 +6,8 @@ use Rattle.wap_meaning.specs.compiled.Pool.{pool}
 use Rattle.wap_meaning.specs.compiled.Wide.{function_wide}
 use Rattle.wap_meaning.specs.compiled.Accepted.{most_constants, most_code, HasRoom}
 use Rattle.wap_codegen.specs.declared.fault.CompileFault.{CompileFault}
-use Rattle.wap_codegen.specs.declared.fault.CompileFault.TheVariants.{Lex, Parse, Scope, NoMemory}
-use Rattle.wap_codegen.specs.declared.fault.CompileFault.TheVariants.{TooManyConstants, CodeTooLong}
+use Rattle.wap_codegen.specs.declared.fault.CompileFault.TheVariants.{NoMemory}
+use Rattle.wap_codegen.specs.declared.fault.CompileFault.TheVariants.{CodeTooLong}
 use Rattle.wap_codegen.specs.inside.Units.{IsFunctionsCause, IsUnitCause}
 
 -- why functions have no code is why there is no unit, where the constants have room
@@ -15,10 +15,7 @@ pub many_or_long : (p : Program) → length (pool p) ≤ most_constants → (fau
     → IsFunctionsCause p fault → IsUnitCause p fault
 many_or_long p few (CodeTooLong function bytes) is = (few, is)
 many_or_long p few NoMemory is = tt
-many_or_long p few (Lex fault) is = absurd is
-many_or_long p few (Parse fault) is = absurd is
-many_or_long p few (Scope fault) is = absurd is
-many_or_long p few (TooManyConstants count) is = absurd is
+many_or_long p few _ is = absurd is
 
 -- where there is a unit, there is room for the program
 pub room : (p : Program) → length (pool p) ≤ most_constants → (r : Result CodeUnit CompileFault)

@@ -8,7 +8,7 @@ use Rattle.wap_value.specs.declared.value.Value.TheVariants.{Bool as Boolean, In
 use Rattle.wap_value.specs.declared.fault.ValueFault.{ValueFault}
 use Rattle.wap_value.specs.TooLong.{kept_within}
 use Rattle.wap_execution.specs.Effects.{Called}
-use Rattle.wap_execution.specs.Outcomes.{Outcome, value, exit, fatal, waits, stuck}
+use Rattle.wap_execution.specs.Outcomes.{Outcome, value, stuck}
 use Rattle.wap_execution.specs.Running.{ended, Calls}
 use Rattle.wap_meaning.specs.SourceParts.{Does, gave, over, give, given, load, store, kept, kept_by}
 use Rattle.wap_meaning.specs.SourceParts.{turn, calling, called_with, came_by}
@@ -58,10 +58,7 @@ turn_keeps variables (suc turns) state = omega arith
 came_keeps : {S : Type 0} (outcome : Outcome) (variables : List Value) (left turns : ℕ) (state : S)
     → left ≤ turns → Lessens variables turns (came_by outcome variables left state)
 came_keeps (value v) variables left turns state less = (less, refl)
-came_keeps (exit v) variables left turns state less = less
-came_keeps (fatal why) variables left turns state less = less
-came_keeps (waits dialog frames) variables left turns state less = less
-came_keeps stuck variables left turns state less = less
+came_keeps _ variables left turns state less = less
 
 -- a call gives no turns back
 pub calling_keeps : {S : Type 0} (call : Calls S) → GiveNoTurns call → (callee : Called)

@@ -1,6 +1,5 @@
 pub mod Drawing
 pub mod TreeNeeds
-pub mod Expressions
 pub mod Statements
 pub mod Programs
 pub mod Operators

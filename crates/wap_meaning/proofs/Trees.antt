@@ -32,17 +32,14 @@ use Rattle.wap_meaning.proofs.Meanings.{of_expr}
 pub if_goes_on_keeps : {S : Type 0} (next : Does Ending S) → Keeps next → (ending : Ending)
     → Keeps (if_goes_on next ending)
 if_goes_on_keeps next falls goes_on = falls
-if_goes_on_keeps next falls breaks = give_keeps breaks
-if_goes_on_keeps next falls continues = give_keeps continues
-if_goes_on_keeps next falls (returns v) = give_keeps (returns v)
+if_goes_on_keeps next falls ending = give_keeps ending
 
 -- what follows the body of a loop
 continues_keeps : {S : Type 0} (next : Does Ending S) → Keeps next → (ending : Ending)
     → Keeps (if_continues next ending)
-continues_keeps next falls goes_on = falls
 continues_keeps next falls breaks = give_keeps goes_on
-continues_keeps next falls continues = falls
 continues_keeps next falls (returns v) = give_keeps (returns v)
+continues_keeps next falls _ = falls
 
 -- a loop with so many turns
 looped_keeps : {S : Type 0} (test : Does Value S) (body : Does Ending S)

@@ -18,17 +18,15 @@ use Rattle.wap_execution.specs.laws.Forgetting.{forgotten}
 use Rattle.wap_meaning.specs.Names.{locals, names_in}
 use Rattle.wap_meaning.specs.SourceParts.{done}
 use Rattle.wap_meaning.specs.Expressions.{Around}
-use Rattle.wap_meaning.specs.Statements.{Ending, goes_on, breaks, continues, returns, in_order, run}
+use Rattle.wap_meaning.specs.Statements.{Ending, returns, in_order, run}
 
 -- ---- functions of sources
 
 -- what a function gives, by where its statements leave to: `""` where it ends without a return
 -- (section 6.4.3)
 abbrev pub result_of : Ending → Value
-result_of goes_on = Str []
-result_of breaks = Str []
-result_of continues = Str []
 result_of (returns v) = v
+result_of _ = Str []
 
 -- the statements of a function, from its first variables
 abbrev pub run_body : {S : Type 0} → Around S → List Stmt → List Value → ℕ → S → Ended S

@@ -6,7 +6,7 @@ use Rattle.wap_base.specs.Texts.{is_same_text}
 use Rattle.wap_unit.specs.Libraries.{lib_named}
 use Rattle.wap_grammar.specs.declared.program.program.Id.{Id}
 use Rattle.wap_grammar.specs.declared.program.program.Use.{Use}
-use Rattle.wap_grammar.specs.declared.program.program.Use.TheVariants.{Url, Access, Agent, Note}
+use Rattle.wap_grammar.specs.declared.program.program.Use.TheVariants.{Url}
 use Rattle.wap_grammar.specs.declared.program.program.Function.{Function}
 use Rattle.wap_grammar.specs.declared.program.program.Program.{Program}
 use Rattle.wap_scope.specs.Names.{mentions, said, names_declared}
@@ -70,9 +70,7 @@ locals f = names_declared (flat_map (λ s. mentions s false) f.body)
 -- the name and the URL of a pragma that makes a unit known
 abbrev pub url_in : Use → Option (List ℕ × List ℕ)
 url_in (Url u url) = Some (u.name, url)
-url_in (Access domain path span) = None
-url_in (Agent name content scheme) = None
-url_in Note = None
+url_in _ = None
 
 -- what the names in a function of a program mean
 abbrev pub names_in : Program → Function → Names

@@ -7,7 +7,7 @@ use Rattle.wap_value.specs.declared.fault.ValueFault.{ValueFault}
 use Rattle.wap_value.specs.TooLong.{kept_within}
 use Rattle.wap_execution.specs.declared.fatal.Fatal.TheVariants.{Budget, TooLong}
 use Rattle.wap_execution.specs.Effects.{Called}
-use Rattle.wap_execution.specs.Outcomes.{Outcome, value, exit, fatal, waits, stuck, Ended}
+use Rattle.wap_execution.specs.Outcomes.{Outcome, value, fatal, waits, stuck, Ended}
 use Rattle.wap_execution.specs.Running.{ended, Calls}
 
 -- what a part comes to: it gives something and leaves variables, turns and a state, or the script
@@ -85,10 +85,8 @@ kept string v = kept_by (kept_within string v)
 -- is over, or waits; which frames wait is forgotten, since a source has none
 abbrev pub came_by : {S : Type 0} → Outcome → Does Value S
 came_by (value v) variables turns state = gave v variables turns state
-came_by (exit v) variables turns state = over (ended (exit v) turns state)
-came_by (fatal why) variables turns state = over (ended (fatal why) turns state)
 came_by (waits dialog frames) variables turns state = over (ended (waits dialog []) turns state)
-came_by stuck variables turns state = over (ended stuck turns state)
+came_by outcome variables turns state = over (ended outcome turns state)
 
 -- what a call is to it
 abbrev pub came : {S : Type 0} → Ended S → List Value → Came Value S

@@ -32,9 +32,7 @@ pub data Ending : Type 0 where
 -- what follows a statement is done where that goes on
 abbrev pub if_goes_on : {S : Type 0} → Does Ending S → Ending → Does Ending S
 if_goes_on next goes_on = next
-if_goes_on next breaks = give breaks
-if_goes_on next continues = give continues
-if_goes_on next (returns v) = give (returns v)
+if_goes_on next ending = give ending
 
 -- one statement, and the next
 abbrev pub and_then : {S : Type 0} → Does Ending S → Does Ending S → Does Ending S
@@ -68,10 +66,9 @@ otherwise (Some s) = s
 -- what follows the body of a loop, by where the body leaves to: `continue` goes to the next turn,
 -- and `break` behind the loop
 abbrev pub if_continues : {S : Type 0} → Does Ending S → Ending → Does Ending S
-if_continues next goes_on = next
 if_continues next breaks = give goes_on
-if_continues next continues = next
 if_continues next (returns v) = give (returns v)
+if_continues next _ = next
 
 -- a loop with so many turns at most: a turn is taken after the body and the update, before the
 -- condition is tried again

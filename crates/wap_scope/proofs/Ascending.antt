@@ -6,7 +6,7 @@ use Rattle.std.proofs.lemmas.List.Elements.{All-nil, All-cons}
 use Rattle.std.specs.List.{flat_map}
 use Rattle.wap_grammar.specs.declared.program.program.Span.{Span}
 use Rattle.wap_grammar.specs.declared.program.program.Use.{Use}
-use Rattle.wap_grammar.specs.declared.program.program.Use.TheVariants.{Url, Access, Agent, Note}
+use Rattle.wap_grammar.specs.declared.program.program.Use.TheVariants.{Url, Access}
 use Rattle.wap_grammar.specs.declared.program.program.Function.{Function}
 use Rattle.wap_grammar.specs.declared.program.program.Program.{Program}
 use Rattle.wap_scope.specs.declared.fault.ScopeFault.{ScopeFault}
@@ -173,8 +173,7 @@ pick_use before (Url u url) fs ps picks =
     pick_one 0 _ (fault.TwoUnits u.span) fs u.span ps refl (least 6) (past fs u.span ps picks)
 pick_use before (Access domain path span) fs ps picks =
     pick_one 0 _ (fault.TwoAccess span) fs span ps refl (least 9) (past fs span ps picks)
-pick_use before (Agent name content scheme) fs ps picks = picks
-pick_use before Note fs ps picks = picks
+pick_use before _ fs ps picks = picks
 
 -- ---- programs
 

@@ -11,9 +11,8 @@ use Rattle.wap_grammar.specs.declared.program.program.Use.TheVariants.{Url, Acce
 use Rattle.wap_grammar.specs.declared.program.program.Function.{Function}
 use Rattle.wap_grammar.specs.declared.program.program.Program.{Program}
 use Rattle.wap_scope.specs.declared.limits.TheConstants.{VARIABLE_LIMIT, FUNCTION_LIMIT}
-use Rattle.wap_scope.specs.Names.{Reference, Variable, Local, External, Library}
-use Rattle.wap_scope.specs.Names.{Mention, Declares, Refers, Jumps}
-use Rattle.wap_scope.specs.Names.{names_declared, function_named, units, accesses}
+use Rattle.wap_scope.specs.Names.{Reference, Variable, Local, External, Library, Mention, Declares}
+use Rattle.wap_scope.specs.Names.{Refers, Jumps, names_declared, function_named, units, accesses}
 use Rattle.wap_scope.specs.Scoped.{is_among, takes, Says, HasFunction, HasUse, IsScoped}
 use Rattle.wap_scope.specs.Scoped as wrong
 

@@ -12,4 +12,5 @@ pub mod Listed
 pub mod Ascending
 pub mod Ordered
 pub mod AcceptedLemmas
+pub mod AmongLemmas
 pub mod OrderLemmas

@@ -8,22 +8,18 @@ use Rattle.std.proofs.lemmas.List.{append-nil}
 use Rattle.std.proofs.lemmas.List.Elements.{Contains-append_left, Contains-append_right}
 use Rattle.std.proofs.lemmas.List.Elements.{Contains-append_cases, Contains-push}
 use Rattle.std.proofs.lemmas.List.Elements.{Contains-push_cases}
-use Rattle.wap_unit.specs.Libraries.{lib_named}
 use Rattle.wap_grammar.specs.declared.program.program.Use.{Use}
-use Rattle.wap_grammar.specs.declared.program.program.Use.TheVariants.{Url, Access, Agent, Note}
+use Rattle.wap_grammar.specs.declared.program.program.Use.TheVariants.{Url, Access}
 use Rattle.wap_grammar.specs.declared.program.program.Function.{Function}
 use Rattle.wap_grammar.specs.declared.program.program.Program.{Program}
 use Rattle.wap_scope.specs.declared.limits.TheConstants.{VARIABLE_LIMIT, FUNCTION_LIMIT}
-use Rattle.wap_scope.specs.declared.limits.TheConstants.{ARGUMENT_LIMIT}
 use Rattle.wap_scope.specs.declared.fault.ScopeFault.{ScopeFault}
 use Rattle.wap_scope.specs.declared.fault.ScopeFault.TheVariants as fault
-use Rattle.wap_scope.specs.Names.{Reference, Variable, Local, External, Library}
-use Rattle.wap_scope.specs.Names.{Mention, Declares, Refers, Jumps, said}
-use Rattle.wap_scope.specs.Names.{names_declared, function_named, units, accesses}
-use Rattle.wap_scope.specs.Scoped.{is_among, arity_of, library_arity, is_taken}
+use Rattle.wap_scope.specs.Names.{Variable, Local, External, Library, Mention, Declares, Refers}
+use Rattle.wap_scope.specs.Names.{Jumps, said, function_named, accesses}
 use Rattle.wap_scope.specs.Scoped.{Says, HasFunction, HasUse, IsFault, IsScoped}
 use Rattle.wap_scope.specs.Scoped as wrong
-use Rattle.wap_scope.specs.Faults.{fault_if, scope_of, reference_faults, mention_rule}
+use Rattle.wap_scope.specs.Faults.{fault_if, scope_of, mention_rule}
 use Rattle.wap_scope.specs.Faults.{function_rule, use_rule, one_by_one, faults, first_fault}
 
 -- ---- lists
@@ -136,28 +132,27 @@ module _ (p : Program) where
 
   -- ---- each fault is listed
 
-  in_use : (before : List Use) (here : Use) (f : ScopeFault) → HasUse p before here →
+  in_use : {before : List Use} {here : Use} {f : ScopeFault} → HasUse p before here →
       Contains (use_rule before here) f → Contains (faults p) f
-  in_use before here f has there =
-      Contains-append_left (one_by_one use_rule [] p.uses) (one_by_one at_function [] p.functions) f
+  in_use {before = before} {here = here} {f = f} has there =
+      Contains-append_left _ (one_by_one at_function [] p.functions) f
       (subst (λ items. Contains (one_by_one use_rule [] items) f) (sym has.whole)
       (at_item use_rule f [] before here has.after there))
 
-  in_function : (before : List Function) (here : Function) (f : ScopeFault) →
+  in_function : {before : List Function} {here : Function} {f : ScopeFault} →
       HasFunction p before here → Contains (at_function before here) f → Contains (faults p) f
-  in_function before here f has there =
-      Contains-append_right (one_by_one use_rule [] p.uses)
-      (one_by_one at_function [] p.functions) f
+  in_function {before = before} {here = here} {f = f} has there =
+      Contains-append_right (one_by_one use_rule [] p.uses) _ f
       (subst (λ items. Contains (one_by_one at_function [] items) f) (sym has.whole)
       (at_item at_function f [] before here has.after there))
 
-  in_mention : (before : List Mention) (here : Mention) (f : ScopeFault) → Says p before here →
+  in_mention : {before : List Mention} {here : Mention} {f : ScopeFault} → Says p before here →
       Contains (at_mention before here) f → Contains (faults p) f
-  in_mention before here f says there =
+  in_mention {before = before} {here = here} {f = f} says there =
       let g = says.function in
-      in_function says.earlier g f (record { after = says.later; whole = says.functions })
-      (Contains-append_right (again says.earlier g) (full says.earlier g ++ inner g) f
-      (Contains-append_right (full says.earlier g) (inner g) f
+      in_function (record { after = says.later; whole = says.functions })
+      (Contains-append_right (again says.earlier g) _ f
+      (Contains-append_right (full says.earlier g) _ f
       (subst (λ items. Contains (one_by_one at_mention [] items) f) (sym says.whole)
       (at_item at_mention f [] before here says.after there))))
 
@@ -169,74 +164,33 @@ module _ (p : Program) where
   second a b f g is = Contains-append_right (fault_if a f) (fault_if b g) g (found_if b g is)
 
   pub listed : (f : ScopeFault) → IsFault p f → Contains (faults p) f
-  listed f' (wrong.no_variable before v says so) =
-      in_mention before (Refers (Variable v)) (fault.NoVariable v.span) says
-      (found_if (not (is_among v.name (names_declared before))) (fault.NoVariable v.span)
-      (ap not so))
-  listed f' (wrong.two_variables before v says so) =
-      in_mention before (Declares v) (fault.TwoVariables v.span) says
-      (first (is_among v.name (names_declared before))
-      (nat_le VARIABLE_LIMIT (length (names_declared before)))
-      (fault.TwoVariables v.span) (fault.TooManyLocals v.span) so)
+  listed f' (wrong.no_variable before v says so) = in_mention says (found_if _ _ (ap not so))
+  listed f' (wrong.two_variables before v says so) = in_mention says (first _ _ _ _ so)
   listed f' (wrong.no_function before f count says so) =
-      in_mention before (Refers (Local f count)) (fault.NoFunction f.span) says
-      (first (not (is_some (arity_of p.functions f.name)))
-      (not (is_taken count (arity_of p.functions f.name)))
-      (fault.NoFunction f.span) (fault.Arguments f.span)
-      (ap not (some_mapped (λ (g : Function). length g.params) (function_named f.name p.functions)
+      in_mention says (first _ _ _ _ (ap not (some_mapped _ (function_named f.name p.functions)
       ∙ so)))
   listed f' (wrong.two_functions before f has so) =
-      in_function before f (fault.TwoFunctions f.name.span) has
-      (Contains-append_left (again before f) (full before f ++ inner f)
-      (fault.TwoFunctions f.name.span)
-      (found_if (is_some (function_named f.name.name before)) (fault.TwoFunctions f.name.span) so))
+      in_function has (Contains-append_left (again before f) _ _ (found_if _ _ so))
   listed f' (wrong.arguments before (Variable v) says so) = absurd (cc so)
   listed f' (wrong.arguments before (Local f count) says so) =
-      in_mention before (Refers (Local f count)) (fault.Arguments f.span) says
-      (second (not (is_some (arity_of p.functions f.name)))
-      (not (is_taken count (arity_of p.functions f.name)))
-      (fault.NoFunction f.span) (fault.Arguments f.span) (ap not so))
+      in_mention says (second _ _ _ _ (ap not so))
   listed f' (wrong.arguments before (External unit f count) says so) =
-      in_mention before (Refers (External unit f count)) (fault.Arguments f.span) says
-      (second (not (is_among unit.name (units p.uses))) (not (nat_le count ARGUMENT_LIMIT))
-      (fault.NoUnit unit.span) (fault.Arguments f.span) (ap not so))
+      in_mention says (second _ _ _ _ (ap not so))
   listed f' (wrong.arguments before (Library l f count) says so) =
-      in_mention before (Refers (Library l f count)) (fault.Arguments f.span) says
-      (second (not (is_some (lib_named l.name f.name)))
-      (not (is_taken count (library_arity l.name f.name)))
-      (fault.NoLibrary l.span) (fault.Arguments f.span) (ap not so))
+      in_mention says (second _ _ _ _ (ap not so))
   listed f' (wrong.no_unit before unit f count says so) =
-      in_mention before (Refers (External unit f count)) (fault.NoUnit unit.span) says
-      (first (not (is_among unit.name (units p.uses))) (not (nat_le count ARGUMENT_LIMIT))
-      (fault.NoUnit unit.span) (fault.Arguments f.span) (ap not so))
-  listed f' (wrong.two_units before u url has so) =
-      in_use before (Url u url) (fault.TwoUnits u.span) has
-      (found_if (is_among u.name (units before)) (fault.TwoUnits u.span) so)
+      in_mention says (first _ _ _ _ (ap not so))
+  listed f' (wrong.two_units before u url has so) = in_use has (found_if _ _ so)
   listed f' (wrong.no_library before l f count says so) =
-      in_mention before (Refers (Library l f count)) (fault.NoLibrary l.span) says
-      (first (not (is_some (lib_named l.name f.name)))
-      (not (is_taken count (library_arity l.name f.name)))
-      (fault.NoLibrary l.span) (fault.Arguments f.span) (ap not so))
-  listed f' (wrong.lone_break before word says) =
-      in_mention before (Jumps word false) (fault.LoneBreak word) says
-      (found_if true (fault.LoneBreak word) refl)
+      in_mention says (first _ _ _ _ (ap not so))
+  listed f' (wrong.lone_break before word says) = in_mention says (found_if true _ refl)
   listed f' (wrong.two_access before domain path span has so) =
-      in_use before (Access domain path span) (fault.TwoAccess span) has
-      (found_if (nat_le 1 (length (accesses before))) (fault.TwoAccess span)
-      (any (accesses before) so))
+      in_use has (found_if _ _ (any (accesses before) so))
   listed f' (wrong.too_many_locals before v says so) =
-      in_mention before (Declares v) (fault.TooManyLocals v.span) says
-      (second (is_among v.name (names_declared before))
-      (nat_le VARIABLE_LIMIT (length (names_declared before)))
-      (fault.TwoVariables v.span) (fault.TooManyLocals v.span)
-      (so_many VARIABLE_LIMIT (length (names_declared before)) so))
+      in_mention says (second _ _ _ _ (so_many VARIABLE_LIMIT _ so))
   listed f' (wrong.too_many_functions before f has so) =
-      in_function before f (fault.TooManyFunctions f.name.span) has
-      (Contains-append_right (again before f) (full before f ++ inner f)
-      (fault.TooManyFunctions f.name.span)
-      (Contains-append_left (full before f) (inner f) (fault.TooManyFunctions f.name.span)
-      (found_if (nat_le FUNCTION_LIMIT (length before)) (fault.TooManyFunctions f.name.span)
-      (so_many FUNCTION_LIMIT (length before) so))))
+      in_function has (Contains-append_right (again before f) _ _
+      (Contains-append_left (full before f) _ _ (found_if _ _ (so_many FUNCTION_LIMIT _ so))))
 
   -- ---- each that is listed is one
 
@@ -256,59 +210,37 @@ module _ (p : Program) where
 
   both : (a b : Bool) (g h f : ScopeFault) → (a ≡ true → IsFault p g) → (b ≡ true → IsFault p h) →
       Contains (fault_if a g ++ fault_if b h) f → IsFault p f
-  both a b g h f make other =
-      either (fault_if a g) (fault_if b h) f (one a g f make) (one b h f other)
-
-  of_reference : (before : List Mention) (r : Reference) (f : ScopeFault) →
-      Says p before (Refers r) →
-      Contains (reference_faults (scope_of p) (names_declared before) r) f → IsFault p f
-  of_reference before (Variable v) f says =
-      one (not (is_among v.name (names_declared before))) (fault.NoVariable v.span) f
-      (λ so. wrong.no_variable before v says (is_not (is_among v.name (names_declared before)) so))
-  of_reference before (Local g count) f says =
-      let arity = arity_of p.functions g.name in
-      both (not (is_some arity)) (not (is_taken count arity)) (fault.NoFunction g.span)
-      (fault.Arguments g.span) f
-      (λ so. wrong.no_function before g count says
-      (sym (some_mapped (λ (g : Function). length g.params) (function_named g.name p.functions))
-      ∙ is_not (is_some arity) so))
-      (λ so. wrong.arguments before (Local g count) says (is_not (is_taken count arity) so))
-  of_reference before (External unit g count) f says =
-      let there = is_among unit.name (units p.uses) in
-      both (not there) (not (nat_le count ARGUMENT_LIMIT)) (fault.NoUnit unit.span)
-      (fault.Arguments g.span) f
-      (λ so. wrong.no_unit before unit g count says (is_not there so))
-      (λ so. wrong.arguments before (External unit g count) says
-      (is_not (nat_le count ARGUMENT_LIMIT) so))
-  of_reference before (Library l g count) f says =
-      let there = is_some (lib_named l.name g.name) in
-      let taken = is_taken count (library_arity l.name g.name) in
-      both (not there) (not taken) (fault.NoLibrary l.span) (fault.Arguments g.span) f
-      (λ so. wrong.no_library before l g count says (is_not there so))
-      (λ so. wrong.arguments before (Library l g count) says (is_not taken so))
+  both a b g h f make other = either _ _ f (one a g f make) (one b h f other)
 
   of_mention : (before : List Mention) (here : Mention) (f : ScopeFault) → Says p before here →
       Contains (at_mention before here) f → IsFault p f
-  of_mention before (Refers r) f says = of_reference before r f says
+  of_mention before (Refers (Variable v)) f says =
+      one _ _ f (λ so. wrong.no_variable before v says (is_not _ so))
+  of_mention before (Refers (Local g count)) f says =
+      both _ _ _ _ f
+      (λ so. wrong.no_function before g count says
+      (sym (some_mapped _ (function_named g.name p.functions)) ∙ is_not _ so))
+      (λ so. wrong.arguments before (Local g count) says (is_not _ so))
+  of_mention before (Refers (External unit g count)) f says =
+      both _ _ _ _ f (λ so. wrong.no_unit before unit g count says (is_not _ so))
+      (λ so. wrong.arguments before (External unit g count) says (is_not _ so))
+  of_mention before (Refers (Library l g count)) f says =
+      both _ _ _ _ f (λ so. wrong.no_library before l g count says (is_not _ so))
+      (λ so. wrong.arguments before (Library l g count) says (is_not _ so))
   of_mention before (Declares v) f says =
-      let known = names_declared before in
-      both (is_among v.name known) (nat_le VARIABLE_LIMIT (length known))
-      (fault.TwoVariables v.span) (fault.TooManyLocals v.span) f
-      (wrong.two_variables before v says)
-      (λ so. wrong.too_many_locals before v says (at_most VARIABLE_LIMIT (length known) so))
+      both _ _ _ _ f (wrong.two_variables before v says)
+      (λ so. wrong.too_many_locals before v says (at_most VARIABLE_LIMIT _ so))
   of_mention before (Jumps word true) f says = λ there. absurd (nowhere f there)
   of_mention before (Jumps word false) f says =
-      one true (fault.LoneBreak word) f (λ so. wrong.lone_break before word says)
+      one true _ f (λ so. wrong.lone_break before word says)
 
   of_function : (before : List Function) (g : Function) (f : ScopeFault) →
       HasFunction p before g → Contains (at_function before g) f → IsFault p f
   of_function before g f has =
       either (again before g) (full before g ++ inner g) f
-      (one (is_some (function_named g.name.name before)) (fault.TwoFunctions g.name.span) f
-      (wrong.two_functions before g has))
+      (one _ _ f (wrong.two_functions before g has))
       (either (full before g) (inner g) f
-      (one (nat_le FUNCTION_LIMIT (length before)) (fault.TooManyFunctions g.name.span) f
-      (λ so. wrong.too_many_functions before g has (at_most FUNCTION_LIMIT (length before) so)))
+      (one _ _ f (λ so. wrong.too_many_functions before g has (at_most FUNCTION_LIMIT _ so)))
       (λ there. let item = item_of at_mention f [] (said g) there in
       of_mention item.before item.here f (record {
         earlier = before;
@@ -321,14 +253,10 @@ module _ (p : Program) where
 
   of_use : (before : List Use) (here : Use) (f : ScopeFault) → HasUse p before here →
       Contains (use_rule before here) f → IsFault p f
-  of_use before (Url u url) f has =
-      one (is_among u.name (units before)) (fault.TwoUnits u.span) f
-      (wrong.two_units before u url has)
+  of_use before (Url u url) f has = one _ _ f (wrong.two_units before u url has)
   of_use before (Access domain path span) f has =
-      one (nat_le 1 (length (accesses before))) (fault.TwoAccess span) f
-      (λ so. wrong.two_access before domain path span has (not_none (accesses before) so))
-  of_use before (Agent name content scheme) f has = λ there. absurd (nowhere f there)
-  of_use before Note f has = λ there. absurd (nowhere f there)
+      one _ _ f (λ so. wrong.two_access before domain path span has (not_none _ so))
+  of_use before _ f has = λ there. absurd (nowhere f there)
 
   pub is_fault : (f : ScopeFault) → Contains (faults p) f → IsFault p f
   is_fault f =

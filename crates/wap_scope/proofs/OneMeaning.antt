@@ -1,9 +1,12 @@
 -- Each name of a scoped program means one thing.
-use Rattle.std.proofs.Common.{◌≡◌, ℕ, zero, suc, ◌<◌, ◌≤◌, Bool, true, false, ◌||◌, cond, nat_eq}
+use Rattle.std.proofs.Common.{◌≡◌, ℕ, suc, ◌<◌, ◌≤◌, Bool, true, false, ◌||◌, cond, nat_eq}
 use Rattle.std.proofs.Common.{nat_le, List, [], ◌∷◌, ◌++◌, length, get_or, take, drop, map, Option}
 use Rattle.std.proofs.Common.{Some, None, unwrap_or, refl, sym, ap, subst, ◌∙◌, append_assoc, arith}
 use Rattle.std.specs.List.{filter_map, cons_option}
 use Rattle.std.specs.Option.{is_some, option_map}
+use Rattle.std.proofs.Math.Seq.{split_at, length-take-le}
+use Rattle.std.proofs.Math.ListN.{get_or-append}
+use Rattle.std.proofs.lemmas.List.{length-append, length-map}
 use Rattle.std.proofs.lemmas.Bool.Decides.{nat_tests}
 use Rattle.std.proofs.lemmas.List.Elements.{filter_map-append}
 use Rattle.std.specs.Cmp.Lexicographic.{bytes_decides}
@@ -11,19 +14,19 @@ use Rattle.wap_base.specs.Texts.{is_same_text}
 use Rattle.wap_unit.specs.Libraries.{lib_named}
 use Rattle.wap_grammar.specs.declared.program.program.Id.{Id}
 use Rattle.wap_grammar.specs.declared.program.program.Use.{Use}
-use Rattle.wap_grammar.specs.declared.program.program.Use.TheVariants.{Url, Access, Agent, Note}
+use Rattle.wap_grammar.specs.declared.program.program.Use.TheVariants.{Url}
 use Rattle.wap_grammar.specs.declared.program.program.Function.{Function}
 use Rattle.wap_grammar.specs.declared.program.program.Program.{Program}
 use Rattle.wap_scope.specs.declared.limits.TheConstants.{VARIABLE_LIMIT, FUNCTION_LIMIT}
 use Rattle.wap_scope.specs.declared.limits.TheConstants.{ARGUMENT_LIMIT}
 use Rattle.wap_scope.specs.Names.{Variable, Local, External, Library, Mention}
-use Rattle.wap_scope.specs.Names.{Declares, Refers, Jumps, said, declared}
+use Rattle.wap_scope.specs.Names.{Declares, Refers, said, declared}
 use Rattle.wap_scope.specs.Names.{names_declared, function_named, unit_of, units}
-use Rattle.wap_scope.specs.Scoped.{is_among, arity_of, is_taken, Says}
-use Rattle.wap_scope.specs.Scoped.{HasFunction, HasUse}
+use Rattle.wap_scope.specs.Scoped.{is_among, arity_of, is_taken, Says, HasFunction, HasUse}
 use Rattle.wap_scope.proofs.InOrder.{InOrder}
 use Rattle.wap_scope.specs.Meanings.{StandsOnce, function_names, parameter_counts, HaveMeanings}
-use Rattle.wap_scope.proofs.Once.{NoneTwice, split_at, stands_once}
+use Rattle.wap_scope.proofs.Once.{NoneTwice, stands_once}
+use Rattle.wap_scope.proofs.Programs.{named_before}
 
 -- ---- lists of what has names
 
@@ -101,16 +104,13 @@ module _ {X : Type 0} (of : X → Option (List ℕ)) where
 declares_it : (m : Mention) (name : List ℕ) → declared m ≡ Some name →
     (v : Id) × (m ≡ Declares v) × (v.name ≡ name)
 declares_it (Declares v) name is = (v, refl, ap (λ found. unwrap_or found []) is)
-declares_it (Refers r) name is = absurd (cc is)
-declares_it (Jumps word inside) name is = absurd (cc is)
+declares_it _ name is = absurd (cc is)
 
 -- what names a unit
 names_it : (u : Use) (name : List ℕ) → unit_of u ≡ Some name →
     (id : Id) × (url : List ℕ) × (u ≡ Url id url) × (id.name ≡ name)
 names_it (Url id url) name is = (id, url, refl, ap (λ found. unwrap_or found []) is)
-names_it (Access domain path span) name is = absurd (cc is)
-names_it (Agent content value scheme) name is = absurd (cc is)
-names_it Note name is = absurd (cc is)
+names_it _ name is = absurd (cc is)
 
 among_more : (name : List ℕ) (names more : List (List ℕ)) → is_among name names ≡ true →
     is_among name (names ++ more) ≡ true
@@ -122,19 +122,6 @@ among_more name (first ∷ names) more is =
           (same || is_among name (names ++ more)) ≡ true
       by true is inner = refl
       by false is inner = inner is
-
-at_prefix : (names more : List (List ℕ)) (place : ℕ) → place < length names →
-    get_or (names ++ more) place [] ≡ get_or names place []
-at_prefix [] more place within = absurd (omega arith)
-at_prefix (first ∷ names) more zero within = refl
-at_prefix (first ∷ names) more (suc place) within = at_prefix names more place (omega arith)
-
-longer : (names more : List (List ℕ)) (place : ℕ) → place < length names →
-    place < length (names ++ more)
-longer [] more place within = absurd (omega arith)
-longer (first ∷ names) more zero within = omega arith
-longer (first ∷ names) more (suc place) within =
-    let inner = longer names more place (omega arith) in omega arith
 
 prefix_once : (names more : List (List ℕ)) → NoneTwice (names ++ more) → NoneTwice names
 prefix_once names more once before name after split =
@@ -148,19 +135,6 @@ as_names : (functions : List Function) →
     ≡ map (λ (f : Function). f.name.name) functions
 as_names [] = refl
 as_names (f ∷ functions) = ap (λ names. f.name.name ∷ names) (as_names functions)
-
-found_first : (same : Bool) (f : Function) (rest : Option Function) (others : Bool) →
-    is_some rest ≡ others → is_some (cond same (Some f) rest) ≡ (same || others)
-found_first true f rest others is = refl
-found_first false f rest others is = is
-
-found_among : (name : List ℕ) (functions : List Function) →
-    is_some (function_named name functions)
-    ≡ is_among name (map (λ (f : Function). f.name.name) functions)
-found_among name [] = refl
-found_among name (f ∷ functions) =
-    found_first (is_same_text name f.name.name) f (function_named name functions)
-    (is_among name (map (λ (f : Function). f.name.name) functions)) (found_among name functions)
 
 abbrev NamedPlace : List ℕ → List Function → ℕ → Type 0
 NamedPlace name functions arity =
@@ -193,16 +167,6 @@ named_place name (f ∷ functions) arity is =
     (λ inner. named_place name functions arity inner)
 
 -- ---- numbers
-
-length_taken : (names : List (List ℕ)) (place : ℕ) → place < length names →
-    length (take place names) ≡ place
-length_taken [] place within = absurd (omega arith)
-length_taken (first ∷ names) zero within = refl
-length_taken (first ∷ names) (suc place) within = ap suc (length_taken names place (omega arith))
-
-length_mapped : {X Y : Type 0} (f : X → Y) (xs : List X) → length (map f xs) ≡ length xs
-length_mapped f [] = refl
-length_mapped f (x ∷ xs) = ap suc (length_mapped f xs)
 
 at_most : (count limit : ℕ) → nat_le count limit ≡ true → count ≤ limit
 at_most count limit is = grind (arith, nat_tests)
@@ -264,7 +228,7 @@ module _ (p : Program) (scoped : InOrder p) where
       ap (λ names. is_among name names) (sym comes.names ∙ as_names comes.earlier)
       ∙ ap (λ name. is_among name (map (λ (f : Function). f.name.name) comes.earlier))
       (sym (ap (λ found. unwrap_or found []) comes.named))
-      ∙ sym (found_among comes.item.name.name comes.earlier)
+      ∙ named_before comes.item.name.name comes.earlier
       ∙ ap is_some (scoped.two_functions comes.earlier comes.item has)
 
   -- ---- numbers
@@ -276,7 +240,7 @@ module _ (p : Program) (scoped : InOrder p) where
       let names = names_declared (said f) in
       let name = get_or names place [] in
       let comes = comes_from declared (said f) (take place names) name (drop (suc place) names)
-      (split_at names place within) in
+      (split_at names place [] within) in
       let it = declares_it comes.item name comes.named in
       let says : Says p comes.earlier (Declares it.0) = record {
         earlier = earlier;
@@ -287,7 +251,7 @@ module _ (p : Program) (scoped : InOrder p) where
         whole = comes.whole ∙ ap (λ m. comes.earlier ++ m ∷ comes.later) it.1;
       } in
       let many : length (names_declared comes.earlier) ≡ place =
-      ap length comes.names ∙ length_taken names place within in
+      ap length comes.names ∙ length-take-le place names (omega (arith, within)) in
       let few = scoped.too_many_locals comes.earlier it.0 says in
       subst (λ count. count < VARIABLE_LIMIT) many few
 
@@ -297,13 +261,13 @@ module _ (p : Program) (scoped : InOrder p) where
       let name = get_or names place [] in
       let comes = comes_from (λ (f : Function). Some f.name.name) p.functions
       (take place names) name
-      (drop (suc place) names) (as_names p.functions ∙ split_at names place within) in
+      (drop (suc place) names) (as_names p.functions ∙ split_at names place [] within) in
       let has : HasFunction p comes.earlier comes.item =
       record { after = comes.later; whole = comes.whole } in
       let many : length comes.earlier ≡ place =
-      sym (length_mapped (λ (f : Function). f.name.name) comes.earlier)
+      sym (length-map comes.earlier (λ (f : Function). f.name.name))
       ∙ ap length (sym (as_names comes.earlier) ∙ comes.names)
-      ∙ length_taken names place within in
+      ∙ length-take-le place names (omega (arith, within)) in
       subst (λ count. count < FUNCTION_LIMIT) many
       (scoped.too_many_functions comes.earlier comes.item has)
 
@@ -321,18 +285,18 @@ module _ (p : Program) (scoped : InOrder p) where
       ∙ filter_map-append declared before (Refers (Variable v) ∷ says.after) in
       let once = variables_once says.earlier says.function says.later says.functions in
       let among = scoped.no_variable before v says in
-      let stands = stands_once v.name names once
+      let stands = stands_once names once v.name
       (subst (λ names. is_among v.name names ≡ true) (sym whole)
       (among_more v.name known more among)) in
-      let prefix = stands_once v.name known
-      (prefix_once known more (subst NoneTwice whole once)) among in
+      let prefix = stands_once known
+      (prefix_once known more (subst NoneTwice whole once)) v.name among in
       let within = prefix.1.within in
       let there : get_or names prefix.0 [] ≡ v.name =
       ap (λ names. get_or names prefix.0 []) whole
-      ∙ at_prefix known more prefix.0 within ∙ prefix.1.there in
+      ∙ get_or-append known more [] prefix.0 within ∙ prefix.1.there in
       let same : prefix.0 ≡ stands.0 =
       stands.1.only prefix.0
-      (subst (λ names. prefix.0 < length names) (sym whole) (longer known more prefix.0 within))
+      (omega (arith, within, ap length whole, length-append known more))
       there in (
         stands.0,
         stands.1,
@@ -346,8 +310,8 @@ module _ (p : Program) (scoped : InOrder p) where
   local before f count says =
       let names = function_names p in
       let some = scoped.no_function before f count says in
-      let stands = stands_once f.name names function_once
-      (sym (found_among f.name p.functions) ∙ some) in
+      let stands = stands_once names function_once f.name
+      (named_before f.name p.functions ∙ some) in
       let arity = arity_taken count (function_named f.name p.functions) some
       (scoped.arguments before (Local f count) says) in
       let one = named_place f.name p.functions count arity in
@@ -362,7 +326,7 @@ module _ (p : Program) (scoped : InOrder p) where
       Says p before (Refers (External unit f count)) →
       (place : ℕ) × StandsOnce unit.name (units p.uses) place × (count ≤ ARGUMENT_LIMIT)
   external before unit f count says =
-      let stands = stands_once unit.name (units p.uses) units_once
+      let stands = stands_once (units p.uses) units_once unit.name
       (scoped.no_unit before unit f count says) in (
         stands.0,
         stands.1,

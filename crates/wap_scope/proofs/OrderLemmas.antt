@@ -1,6 +1,4 @@
-pub mod Among
+pub mod Spans
 pub mod Tokens
 pub mod Says
-pub mod Expressions
-pub mod Statements
 pub mod Programs

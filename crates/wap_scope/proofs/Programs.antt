@@ -1,11 +1,11 @@
 -- Walks over programs find the faults that are listed.
-use Rattle.std.proofs.Common.{◌≡◌, ℕ, suc, Bool, true, false, ◌||◌, cond, nat_le, List, []}
+use Rattle.std.proofs.Common.{◌≡◌, ℕ, Bool, true, false, ◌||◌, cond, nat_le, List, []}
 use Rattle.std.proofs.Common.{◌∷◌, ◌++◌, length, map, Option, Some, Result, Ok, Err, refl}
 use Rattle.std.proofs.Common.{sym, ap, subst, ◌∙◌, append_assoc, arith}
 use Rattle.std.specs.List.{flat_map}
 use Rattle.std.specs.Option.{is_some}
 use Rattle.std.proofs.lemmas.Bool.Decides.{nat_tests}
-use Rattle.std.proofs.lemmas.List.{append-nil, map-append}
+use Rattle.std.proofs.lemmas.List.{append-nil, map-append, length-map}
 use Rattle.std.proofs.lemmas.List.Elements.{filter_map-append}
 use Rattle.wap_base.specs.Outcome.{◌>>=◌, Meets}
 use Rattle.wap_base.specs.Texts.{is_same_text}
@@ -19,7 +19,7 @@ use Rattle.wap_grammar.specs.declared.program.statement.Stmt.{Stmt}
 use Rattle.wap_scope.specs.declared.limits.TheConstants.{FUNCTION_LIMIT}
 use Rattle.wap_scope.specs.declared.fault.ScopeFault.{ScopeFault}
 use Rattle.wap_scope.specs.declared.fault.ScopeFault.TheVariants as fault
-use Rattle.wap_scope.specs.Names.{Mention, Declares, Refers, Jumps, declared, names_declared, said}
+use Rattle.wap_scope.specs.Names.{Mention, Declares, declared, names_declared, said}
 use Rattle.wap_scope.specs.Names.{mentions, function_named, unit_of, units, access_of, accesses}
 use Rattle.wap_scope.specs.Scoped.{is_among}
 use Rattle.wap_scope.specs.Faults.{fault_if, Scope, scope_of, mention_rule, function_rule}
@@ -86,8 +86,7 @@ module _ {S X : Type 0} (step : S → X → Result S ScopeFault) (rule : List X 
 more_names : (known : List (List ℕ)) (here : Mention) →
     known ++ names_declared (here ∷ []) ≡ more known (declared here)
 more_names known (Declares v) = refl
-more_names known (Refers r) = append-nil known
-more_names known (Jumps word inside) = append-nil known
+more_names known _ = append-nil known
 
 next_names : (before : List Mention) (here : Mention) →
     names_declared (before ++ here ∷ []) ≡ more (names_declared before) (declared here)
@@ -134,16 +133,12 @@ among_first : (same : Bool) (f : Function) (found : Option Function) (rest : Boo
 among_first true f found rest is = refl
 among_first false f found rest is = is
 
-named_before : (name : List ℕ) (before : List Function) →
+pub named_before : (name : List ℕ) (before : List Function) →
     is_among name (names before) ≡ is_some (function_named name before)
 named_before name [] = refl
 named_before name (f ∷ before) =
     among_first (is_same_text name f.name.name) f (function_named name before)
     (is_among name (names before)) (named_before name before)
-
-counted : (before : List Function) → length (names before) ≡ length before
-counted [] = refl
-counted (f ∷ before) = ap suc (counted before)
 
 one_function : (scope : Scope) (before : List Function) (f : Function) →
     function_at scope (names before) f
@@ -159,7 +154,7 @@ one_function scope before f =
     ap (λ (b : Bool). unless (again b) (unless (full (length (names before)))
     (walked scope [] (said f) >>= (λ known. Ok all)))) (named_before f.name.name before)
     ∙ ap (λ (n : ℕ). unless (again first) (unless (full n)
-    (walked scope [] (said f) >>= (λ known. Ok all)))) (counted before)
+    (walked scope [] (said f) >>= (λ known. Ok all)))) (length-map before (λ f. f.name.name))
     ∙ ap (λ (r : Result (List (List ℕ)) ScopeFault).
     unless (again first) (unless (full (length before)) r))
     (sym (mentions_listed scope (said f) all))

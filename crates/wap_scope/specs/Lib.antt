@@ -5,3 +5,4 @@ pub mod Meanings
 pub mod Places
 pub mod inside
 pub mod accepted
+pub mod Among

@@ -7,7 +7,7 @@ use Rattle.wap_base.specs.Texts.{is_same_text}
 use Rattle.wap_grammar.specs.declared.program.program.Span.{Span}
 use Rattle.wap_grammar.specs.declared.program.program.Id.{Id}
 use Rattle.wap_grammar.specs.declared.program.program.Use.{Use}
-use Rattle.wap_grammar.specs.declared.program.program.Use.TheVariants.{Url, Access, Agent, Note}
+use Rattle.wap_grammar.specs.declared.program.program.Use.TheVariants.{Url, Access}
 use Rattle.wap_grammar.specs.declared.program.program.Function.{Function}
 use Rattle.wap_grammar.specs.declared.program.expression.Expr.{Expr}
 use Rattle.wap_grammar.specs.declared.program.expression.Expr.TheOpen.{Expr-F}
@@ -97,8 +97,7 @@ said f = map Declares f.params ++ flat_map (λ s. mentions s false) f.body
 -- the variable that is declared
 abbrev pub declared : Mention → Option (List ℕ)
 declared (Declares v) = Some v.name
-declared (Refers reference) = None
-declared (Jumps word inside) = None
+declared _ = None
 
 -- the names of the variables and parameters that are declared
 abbrev pub names_declared : List Mention → List (List ℕ)
@@ -113,9 +112,7 @@ function_named name = find (λ f. is_same_text name f.name.name)
 -- the name of a unit that a pragma makes known
 abbrev pub unit_of : Use → Option (List ℕ)
 unit_of (Url u t) = Some u.name
-unit_of (Access domain path word) = None
-unit_of (Agent name content scheme) = None
-unit_of Note = None
+unit_of _ = None
 
 -- the names of units
 abbrev pub units : List Use → List (List ℕ)
@@ -123,10 +120,8 @@ units = filter_map unit_of
 
 -- the place of a pragma that says who may call the unit
 abbrev pub access_of : Use → Option Span
-access_of (Url u t) = None
 access_of (Access domain path span) = Some span
-access_of (Agent name content scheme) = None
-access_of Note = None
+access_of _ = None
 
 -- where who may call the unit is said
 abbrev pub accesses : List Use → List Span

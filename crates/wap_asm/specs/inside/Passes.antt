@@ -4,7 +4,7 @@ use Rattle.std.specs.Prelude.{length, slice_index, take, sum}
 use Rattle.wap_unit.specs.declared.row.OpName.{OpName}
 use Rattle.wap_unit.specs.declared.row.OpName.TheVariants.{JumpFw, JumpBw, TjumpFw, TjumpBw}
 use Rattle.wap_unit.specs.declared.row.Row.{Row}
-use Rattle.wap_asm.specs.Spelling.{limit, low_part, shortest}
+use Rattle.wap_asm.specs.Spelling.{shortest}
 use Rattle.wap_asm.specs.declared.form.Form.{Form}
 use Rattle.wap_asm.specs.declared.form.Form.TheVariants.{Op, Jump, Label}
 use Rattle.wap_asm.specs.declared.site.Kind.{Kind}
@@ -87,10 +87,3 @@ first_size (Label label) = 0
 pub record HasSpelling (operation : OpName) (a b c : ℕ) : Type 0 where
   pub row : Row
   pub is : shortest operation a b c ≡ Some row
-
--- a row has room for operands
-pub record HasRoom (row : Row) (a b c : ℕ) : Type 0 where
-  pub code_fits : row.first + low_part row.a a < 256
-  pub a_fits : a < limit 256 row.a
-  pub b_fits : b < limit 256 row.b
-  pub c_fits : c < limit 256 row.c

@@ -15,14 +15,13 @@ use Rattle.wap_codegen.specs.emission.inside.Loops.{exit_at}
 use Rattle.wap_codegen.proofs.EmissionLemmas.Extending.{adds_both, adds_one, adds_jump}
 
 -- a condition, and what is done where it holds
-pub branch_adds : (c body : Coded) (exits : Exits)
-    (old tested begun chosen ended new : List Form) (test end : ℕ)
+pub branch_adds : {c body : Coded} {exits : Exits}
+    {old tested begun chosen ended new : List Form} {test end : ℕ}
     → Adds c exits old tested → begun ≡ tested ++ Jump op.TjumpFw 0 ∷ [] → test ≡ length tested
     → Adds body exits begun chosen → Adds label exits chosen ended → end ≡ length chosen
     → new ≡ set ended test (Jump op.TjumpFw end)
     → Adds (c ⨾ branch_code body) exits old new
-branch_adds c body exits old tested begun chosen ended new test end first opens tests second third
-    ends last =
+branch_adds {body} {tested} {begun} {ended} {end} first opens tests second third ends last =
     let long : length begun ≡ length tested + 1 =
     ap length opens ∙ length_push tested (Jump op.TjumpFw 0) in
     let counts : end ≡ length tested + 1 + body.size = omega (arith, second.sized, long, ends) in

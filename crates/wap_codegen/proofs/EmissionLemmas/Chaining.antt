@@ -138,9 +138,9 @@ after_chain numbers first operands old middle new (Err e) adds chains = tt
 -- ---- conditions
 
 -- a condition, and a branch for each answer
-pub cond_adds : (c first second : Coded) (exits : Exits)
-    (old tested begun chosen over behind labelled ended closed new : List Form)
-    (test jump other end : ℕ)
+pub cond_adds : {c first second : Coded} {exits : Exits}
+    {old tested begun chosen over behind labelled ended closed new : List Form}
+    {test jump other end : ℕ}
     → Adds c exits old tested → begun ≡ tested ++ Jump op.TjumpFw 0 ∷ [] → test ≡ length tested
     → Adds first exits begun chosen → over ≡ chosen ++ Jump op.JumpFw 0 ∷ [] → jump ≡ length chosen
     → Adds label exits over behind → other ≡ length over
@@ -148,8 +148,8 @@ pub cond_adds : (c first second : Coded) (exits : Exits)
     → end ≡ length labelled → closed ≡ set ended jump (Jump op.JumpFw end)
     → new ≡ set closed test (Jump op.TjumpFw other)
     → Adds (cond_code c first second) exits old new
-cond_adds c first second exits old tested begun chosen over behind labelled ended closed new test
-    jump other end one opens tests two leaps jumps three others four five ends closes last =
+cond_adds {first} {second} {tested} {begun} {chosen} {over} {ended} {closed} {other} {end} one opens
+    tests two leaps jumps three others four five ends closes last =
     let begun_long : length begun ≡ length tested + 1 =
     ap length opens ∙ length_push tested (Jump op.TjumpFw 0) in
     let over_long : length over ≡ length chosen + 1 =

@@ -1,5 +1,5 @@
 -- The code of expressions that are statements, by what these are.
-use Rattle.std.proofs.Common.{◌≡◌, List, Option, Some, None, Bool, refl, sym, ap, ◌∙◌}
+use Rattle.std.proofs.Common.{◌≡◌, List, Option, Some, Bool, refl, sym, ap, ◌∙◌}
 use Rattle.wap_value.specs.declared.operator.BinOp.{BinOp}
 use Rattle.wap_value.specs.declared.operator.BinOp.TheVariants as bin
 use Rattle.wap_value.specs.declared.operator.UnOp.{UnOp}
@@ -22,10 +22,9 @@ use Rattle.wap_codegen.proofs.EmissionLemmas.StatementParts.{of_value}
 named : (numbers : Numbers) (v : Id) (o : Option BinOp) (e : Expr) (whole : Coded)
     → assignment_code numbers (variable_at numbers.names v) o e whole
     ≡ effect_code numbers (Expr-F.Assign v o e) whole
-named numbers v None e whole = refl
 named numbers v (Some bin.Add) e whole = refl
 named numbers v (Some bin.Sub) e whole = refl
-named numbers v (Some operator) e whole = refl
+named numbers v _ e whole = refl
 
 module _ (numbers : Numbers) (e : Expr) where
   -- an expression's own code

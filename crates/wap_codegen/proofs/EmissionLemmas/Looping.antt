@@ -149,7 +149,7 @@ module _ (numbers : Numbers) (condition : Option Expr) (body update : Coded) (ex
       (omega arith) test two ends closes)
 
   -- the body's jumps get their labels, and then that of the condition
-  pub whole_loop : (first begun tested bodied labelled updated jumped ended redone new : List Form)
+  pub whole_loop : {first begun tested bodied labelled updated jumped ended redone new : List Form}
       → Adds label exits first begun → start ≡ length first
       → Tests numbers condition begun tested index
       → Adds body (exits_in true) tested bodied
@@ -162,8 +162,8 @@ module _ (numbers : Numbers) (condition : Option Expr) (body update : Coded) (ex
       → redone ≡ before ++ (map (redirected end again) items ++ after))
       → new ≡ closed condition index end redone
       → Adds (loop_code (test_code numbers condition) body update) exits first new
-  whole_loop first begun tested bodied labelled updated jumped ended redone new one begins test
-      two three agains four back five ends few redirects closes =
+  whole_loop {first} {begun} {tested} {bodied} {labelled} {updated} {jumped} {ended} {redone} {new}
+      one begins test two three agains four back five ends few redirects closes =
       let long = test_sized numbers condition over begun tested index test in
       let behind : Adds rest exits bodied ended =
       rest_adds first begun tested bodied labelled updated jumped ended one begins long two

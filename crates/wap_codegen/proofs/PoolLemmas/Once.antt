@@ -8,11 +8,10 @@ use Rattle.indexmap.specs.IndexMap.{insert_entry}
 use Rattle.wap_base.specs.Texts.{is_same_text}
 use Rattle.wap_grammar.specs.declared.program.program.Id.{Id}
 use Rattle.wap_grammar.specs.declared.program.program.Use.{Use}
-use Rattle.wap_grammar.specs.declared.program.program.Use.TheVariants.{Url, Access, Agent, Note}
+use Rattle.wap_grammar.specs.declared.program.program.Use.TheVariants.{Url}
 use Rattle.wap_grammar.specs.declared.program.program.Function.{Function}
 use Rattle.wap_grammar.specs.declared.program.program.Program.{Program}
-use Rattle.wap_scope.specs.Names.{Declares, Refers, Jumps, declared, names_declared, said}
-use Rattle.wap_scope.specs.Names.{function_named, units}
+use Rattle.wap_scope.specs.Names.{Declares, declared, names_declared, said, function_named, units}
 use Rattle.wap_scope.specs.Scoped.{is_among, IsScoped}
 use Rattle.wap_scope.proofs.InOrder.{in_order}
 use Rattle.wap_scope.specs.Meanings.{function_names}
@@ -141,15 +140,9 @@ all_urls urls (Url u url ∷ us) new =
     (map-append (λ (pair : List ℕ × List ℕ). pair.0) urls ((u.name, url) ∷ []))))
     (new (Url u url ∷ before) v other after (ap (λ (ys : List Use). Url u url ∷ ys) split)))
     ∙ append_assoc urls ((u.name, url) ∷ []) (filter_map url_in us)
-all_urls urls (Access domain path span ∷ us) new =
-    all_urls urls us (λ before u url after split. new (Access domain path span ∷ before) u url after
-    (ap (λ (ys : List Use). Access domain path span ∷ ys) split))
-all_urls urls (Agent name content scheme ∷ us) new =
-    all_urls urls us (λ before u url after split. new (Agent name content scheme ∷ before) u url
-    after (ap (λ (ys : List Use). Agent name content scheme ∷ ys) split))
-all_urls urls (Note ∷ us) new =
-    all_urls urls us (λ before u url after split. new (Note ∷ before) u url after
-    (ap (λ (ys : List Use). Note ∷ ys) split))
+all_urls urls (other ∷ us) new =
+    all_urls urls us (λ before u url after split. new (other ∷ before) u url after
+    (ap (λ (ys : List Use). other ∷ ys) split))
 
 -- ---- a program
 
@@ -167,9 +160,7 @@ module _ (p : Program) (scoped : IsScoped p) where
         after = after;
         whole = split;
       }))
-  variables_new earlier f later functions before (Refers r) after n split is = absurd (cc is)
-  variables_new earlier f later functions before (Jumps word inside) after n split is =
-      absurd (cc is)
+  variables_new earlier f later functions before _ after n split is = absurd (cc is)
 
   -- each function's variables stand once
   pub variables_once : All (λ f. AreOnce (names_declared (said f))) p.functions

@@ -1,7 +1,6 @@
 -- A source that is accepted has no fault, and no source has two.
 use Rattle.std.proofs.Common.{◌≡◌, ℕ, zero, suc, ◌≤◌, List, [], ◌∷◌, length, take, Some, refl}
-use Rattle.std.proofs.Common.{Result, sym, ap, ap₂, subst, ◌∙◌, arith, All}
-use Rattle.std.proofs.lemmas.Option.{slice_get_within, get_or_from_slice_get}
+use Rattle.std.proofs.Common.{Result, sym, ap, ap₂, subst, ◌∙◌, arith}
 use Rattle.std.proofs.lemmas.List.Elements.{recursion_from_All, All-from_recursion}
 use Rattle.wap_base.proofs.Choices.{some_same, err_same}
 use Rattle.wap_lex.specs.declared.token.Token.{Token}
@@ -14,7 +13,6 @@ use Rattle.wap_grammar.specs.Lexemes.{lexemes_of}
 use Rattle.wap_grammar.specs.Programs.{IsProgram}
 use Rattle.wap_grammar.specs.reading.Statements.{statement_at}
 use Rattle.wap_grammar.specs.reading.Programs.{program_at}
-use Rattle.wap_grammar.proofs.Unique.{one}
 use Rattle.wap_grammar.specs.declared.program.program.Function.{Function}
 use Rattle.wap_grammar.specs.declared.program.program.Program.{Program}
 use Rattle.wap_scope.specs.declared.fault.ScopeFault.{ScopeFault}
@@ -27,21 +25,13 @@ use Rattle.wap_codegen.specs.declared.fault.CompileFault.{CompileFault}
 use Rattle.wap_codegen.specs.declared.fault.CompileFault.TheVariants as fault
 use Rattle.wap_codegen.specs.Faults.{HasNoProgram, IsFirstLong}
 use Rattle.wap_codegen.specs.source_faults.Faults.{IsFaultOf}
+use Rattle.wap_codegen.proofs.Causes.{one_program}
+use Rattle.wap_codegen.proofs.Causes as causes
 
 -- ---- the first function that is too long
 
 abbrev IsShort : Function → Type 0
 IsShort f = function_wide f ≤ most_code
-
--- no function is too long where none is
-not_long : (functions : List Function) (index wide : ℕ) → All IsShort functions
-    → IsFirstLong functions index wide → ⊥
-not_long functions index wide all first =
-    let within = slice_get_within functions index first.function first.here in
-    let there =
-    get_or_from_slice_get functions index first.function first.function first.here in
-    let short = subst IsShort there (all index first.function within) in
-    omega (arith, short, first.size, first.long)
 
 -- the first function isn't short and too long
 not_both : (f : Function) (functions : List Function) (wide : ℕ) → IsShort f
@@ -95,13 +85,6 @@ module _ (source : List ℕ) where
       subst (λ (ts : List Token). IsProgram source LEVEL_LIMIT (lexemes_of source ts) p)
       (one_list source tokens others are same)
 
-  one_program : (p q : Program) → IsSourceOf source p → IsSourceOf source q → p ≡ q
-  one_program p q first second =
-      one source (lexemes_of source first.tokens) p q (LEVEL_LIMIT, first.spells) (
-        LEVEL_LIMIT,
-        over second.tokens first.tokens second.are_tokens first.are_tokens q second.spells,
-      )
-
   -- a source with a program isn't one without
   not_none : (p : Program) (why : ParseFault) → IsSourceOf source p → HasNoProgram source why → ⊥
   not_none p why spells none =
@@ -111,35 +94,21 @@ module _ (source : List ℕ) where
   not_unscoped : (p q : Program) (why : ScopeFault) → IsSourceOf source p → IsSourceOf source q
       → IsScoped p → IsFault q why → ⊥
   not_unscoped p q why first second scoped found =
-      subst IsScoped (one_program p q first second) scoped why found
+      subst IsScoped (one_program source p q first second) scoped why found
 
   -- one with few constants isn't one with many
   not_many : (p q : Program) (count : ℕ) → IsSourceOf source p → IsSourceOf source q
       → length (pool p) ≤ most_constants → count ≡ length (pool q)
       → suc most_constants ≤ count → ⊥
   not_many p q count first second few needed past =
-      let same = ap (λ (r : Program). length (pool r)) (one_program p q first second) in
+      let same = ap (λ (r : Program). length (pool r)) (one_program source p q first second) in
       omega (arith, few, same, needed, past)
 
   -- ---- an accepted source has no fault
 
-  apart_by : (p : Program) → IsAccepted source p → (why : CompileFault) → IsFaultOf source why → ⊥
-  apart_by p is (fault.Lex why) of = apart source is.spells.tokens why is.spells.are_tokens of.cause
-  apart_by p is (fault.Parse why) of = not_none p why is.spells of.cause
-  apart_by p is (fault.Scope why) of =
-      not_unscoped p of.cause.program why is.spells of.cause.spelled is.scoped of.cause.found
-  apart_by p is (fault.TooManyConstants count) of =
-      not_many p of.cause.program count is.spells of.cause.spelled is.room.constants
-      of.cause.needed of.cause.past
-  apart_by p is (fault.CodeTooLong function wide) of =
-      not_long of.cause.program.functions function wide
-      (subst (λ (q : Program). All IsShort q.functions)
-      (one_program p of.cause.program is.spells of.cause.spelled) is.room.code) of.cause.first
-  apart_by p is fault.NoMemory of = of.some refl
-
   pub accepted_apart : (p : Program) (why : CompileFault) → IsAccepted source p
       → ¬ IsFaultOf source why
-  accepted_apart p why is = apart_by p is why
+  accepted_apart p why is of = causes.accepted_apart source p is why of.some of.cause
 
   -- ---- two faults
 
@@ -148,13 +117,14 @@ module _ (source : List ℕ) where
       → first_fault (faults q) ≡ Some other → why ≡ other
   same_scope p q why other first second is so =
       some_same why other (sym is
-      ∙ ap (λ (r : Program). first_fault (faults r)) (one_program p q first second) ∙ so)
+      ∙ ap (λ (r : Program). first_fault (faults r)) (one_program source p q first second) ∙ so)
 
   same_long : (p q : Program) (i w j v : ℕ) → IsSourceOf source p → IsSourceOf source q
       → IsFirstLong p.functions i w → IsFirstLong q.functions j v → (i ≡ j) × (w ≡ v)
   same_long p q i w j v first second is so =
       one_long q.functions i w j v
-      (subst (λ (r : Program). IsFirstLong r.functions i w) (one_program p q first second) is) so
+      (subst (λ (r : Program). IsFirstLong r.functions i w) (one_program source p q first second)
+      is) so
 
   abbrev spelled_by : List Token → Result Program ParseFault
   spelled_by tokens = program_at source (statement_at source LEVEL_LIMIT) (lexemes_of source tokens)
@@ -215,7 +185,7 @@ module _ (source : List ℕ) where
   alike (fault.TooManyConstants n) (fault.TooManyConstants m) is so =
       ap (λ (count : ℕ). fault.TooManyConstants count)
       (is.cause.needed ∙ ap (λ (r : Program). length (pool r))
-      (one_program is.cause.program so.cause.program is.cause.spelled so.cause.spelled)
+      (one_program source is.cause.program so.cause.program is.cause.spelled so.cause.spelled)
       ∙ sym so.cause.needed)
   alike (fault.TooManyConstants n) (fault.CodeTooLong i w) is so =
       absurd (not_many so.cause.program is.cause.program n so.cause.spelled is.cause.spelled

@@ -2,7 +2,7 @@
 ghost use Rattle.std.specs.Prelude.{OnOk};
 ghost use Rattle.std.specs.List.{flat_map};
 ghost use Rattle.wap_meaning.specs.needs.Drawn.{text_needs, function_needs};
-ghost use Rattle.wap_codegen.specs.pool.inside.Pools.{Pools, use_needs, program_needs};
+ghost use Rattle.wap_codegen.specs.pool.inside.Pools.{Pools, kept_needs, pooled_needs};
 
 use crate::pool::numbering::Numbering;
 use crate::pool::statements::add_statements;
@@ -22,7 +22,7 @@ fn add_text(alloc: Global, numbering: &mut Numbering, text: &Option<Text>) -> Re
 
 /// Adds those of a pragma.
 fn add_use(alloc: Global, numbering: &mut Numbering, pragma: &Use) -> Result<(), NoMemory>
-    ensures { OnOk result (Pools (use_needs pragma.now) numbering.old numbering.new) }
+    ensures { OnOk result (Pools (kept_needs pragma.now) numbering.old numbering.new) }
 {
     match pragma {
         Use::Url(_, _) => Ok(()),
@@ -41,7 +41,7 @@ fn add_use(alloc: Global, numbering: &mut Numbering, pragma: &Use) -> Result<(),
 
 /// Adds those of pragmas.
 fn add_uses(alloc: Global, numbering: &mut Numbering, uses: &[Use]) -> Result<(), NoMemory>
-    ensures { OnOk result (Pools (flat_map use_needs uses.now) numbering.old numbering.new) }
+    ensures { OnOk result (Pools (flat_map kept_needs uses.now) numbering.old numbering.new) }
 {
     for pragma in uses {
         add_use(alloc, numbering, pragma)?;
@@ -70,7 +70,7 @@ pub(crate) fn add_constants(
     numbering: &mut Numbering,
     program: &Program,
 ) -> Result<(), NoMemory>
-    ensures { OnOk result (Pools (program_needs program.now) numbering.old numbering.new) }
+    ensures { OnOk result (Pools (pooled_needs program.now) numbering.old numbering.new) }
 {
     add_uses(alloc, numbering, program.uses.as_slice())?;
     add_functions(alloc, numbering, program.functions.as_slice())

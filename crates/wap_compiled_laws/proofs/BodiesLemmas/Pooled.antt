@@ -13,6 +13,7 @@ use Rattle.wap_execution.specs.Frames.{constant_of, constant_at}
 use Rattle.wap_meaning.specs.Expressions.{value_of}
 use Rattle.wap_meaning.specs.coding.Constants.{same_literal, is_in, place_in, with_literal, pooled}
 use Rattle.wap_meaning.specs.coding.Constants.{integer_constant, constant_for, HasPool}
+use Rattle.wap_meaning.proofs.NeedsLemmas.Once.{same_is}
 use Rattle.wap_grammar.specs.declared.program.expression.Literal.TheVariants as literal
 use Rattle.std.proofs.Common.{arith}
 use Rattle.std.proofs.lemmas.Grind.{common_steps}
@@ -24,12 +25,6 @@ abbrev pub IsPoolable : Literal → Type 0
 IsPoolable (literal.Int z) = Unit {0}
 IsPoolable (literal.Str text) = Unit {0}
 IsPoolable _ = ⊥
-
--- literals that are one constant are the same
-pub same_is : (l x : Literal) → same_literal l x ≡ true → l ≡ x
-same_is (literal.Int a) (literal.Int b) same = ap literal.Int ((signed_Decides a b).0 same)
-same_is (literal.Str s) (literal.Str t) same = ap literal.Str ((bytes_decides s t).0 same)
-same_is _ _ same = absurd (cc same)
 
 -- a literal is one constant with itself
 is_same : (l : Literal) → IsPoolable l → same_literal l l ≡ true

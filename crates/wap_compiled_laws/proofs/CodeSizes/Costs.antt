@@ -12,7 +12,7 @@ use Rattle.wap_asm.specs.Spelling.{holds}
 use Rattle.wap_asm.specs.Spellings.{operation_of, longest}
 use Rattle.wap_asm.specs.Placing.{wide_size, wide}
 use Rattle.wap_asm.specs.declared.form.Form.{Form}
-use Rattle.wap_asm.specs.declared.form.Form.TheVariants.{Op, Jump, Label}
+use Rattle.wap_asm.specs.declared.form.Form.TheVariants.{Op}
 use Rattle.wap_meaning.specs.coding.Coded.{Exits, Coded, empty, one, ◌⨾◌, label, jump_over}
 use Rattle.wap_meaning.specs.coding.Coded.{jump_before, within}
 use Rattle.wap_meaning.specs.compiled.Savings.{form_saves, saved}
@@ -27,8 +27,7 @@ has_room form =
 -- the same of a form
 abbrev pub Fits : Form → Type 0
 Fits (Op form) = has_room form ≡ true
-Fits (Jump name n) = Unit {0}
-Fits (Label n) = Unit {0}
+Fits _ = Unit {0}
 
 -- how many bytes a form has in wide code, with those that it saves
 abbrev pub cost : Form → ℕ

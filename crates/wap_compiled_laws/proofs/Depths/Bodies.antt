@@ -11,7 +11,8 @@ use Rattle.wap_unit.specs.declared.row.OpName.{OpName}
 use Rattle.wap_unit.specs.declared.row.Operands.{Operands}
 use Rattle.wap_unit.specs.declared.row.Operands.TheVariants as operands
 use Rattle.wap_unit.specs.declared.instr.Instr.{Instr}
-use Rattle.wap_asm.specs.Spellings.{operation_of}
+use Rattle.wap_unit.specs.declared.row.OpName.TheVariants as op
+use Rattle.wap_asm.specs.Spellings.{operation_of, longest}
 use Rattle.wap_asm.specs.declared.form.Form.{Form}
 use Rattle.wap_grammar.specs.declared.program.statement.Stmt.{Stmt}
 use Rattle.wap_scope.specs.Names.{Mention, mentions}
@@ -65,7 +66,7 @@ module _ (layout : Layout) where
 
   -- the pieces of code do, whatever their sources say
   shapes : OfPieces unit variables (λ (m : Mention). Unit {0}) IsShaped
-  unfolding operation_of
+  unfolding operation_of longest
   shapes = record {
     none = λ {x}. shape_empty layout x;
     plain_op = λ name x has.
@@ -79,9 +80,12 @@ module _ (layout : Layout) where
     local_op = λ a x is.
         shape_op layout x (ap (λ (n : ℕ). goes n 1) (by_option (slice_get unit.functions a) _ is))
         ((refl, refl), function_within unit a _ is);
-    other_op = λ a b x one two said. shape_op layout x refl ((refl, refl), ((_, one), (_, two)));
+    other_op = λ a b {count} x one two said.
+        shape_op layout {form = instr op.CallUrl a b count} x refl
+        ((refl, refl), ((_, one), (_, two)));
     library_op = λ a b x is.
-        shape_op layout x (ap (λ (o : Option ℕ). goes (unwrap_or o 0) 1) is)
+        shape_op layout {form = instr op.CallLib a b 0} x
+        (ap (λ (o : Option ℕ). goes (unwrap_or o 0) 1) is)
         ((refl, refl), (_, is));
     both = shape_both layout;
     either = shape_branches layout;

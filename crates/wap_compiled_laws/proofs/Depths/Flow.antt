@@ -1,12 +1,14 @@
 -- How many values each operation of compiled code takes and gives.
-use Rattle.std.specs.Prelude.{ℕ, unwrap_or, slice_get}
+use Rattle.std.specs.Prelude.{ℕ}
 use Rattle.std.specs.Option.{option_map_or}
 use Rattle.wap_unit.specs.declared.unit.Unit.{Unit as CodeUnit}
-use Rattle.wap_unit.specs.declared.unit.Code.{Code}
 use Rattle.wap_unit.specs.declared.row.OpName.{OpName}
+use Rattle.wap_unit.specs.declared.row.After.{After}
+use Rattle.wap_unit.specs.declared.row.After.TheVariants.{Pair, Leave}
+use Rattle.wap_unit.specs.declared.row.Row.{Row}
 use Rattle.wap_unit.specs.declared.instr.Instr.{Instr}
-use Rattle.wap_unit.specs.Libraries.{lib_args}
-use Rattle.wap_unit.specs.declared.row.OpName.TheVariants as op
+use Rattle.wap_asm.specs.Spellings.{longest}
+use Rattle.wap_verify.specs.CodePlaces.{values_taken}
 
 -- what an operation takes and gives, where it goes on, or takes where it leaves the function;
 -- short-circuits aside
@@ -15,41 +17,18 @@ pub data Flow : Type 0 where
   leaves : (takes : ℕ) → Flow
   short : Flow
 
--- by the name of an operation
+-- by where it goes on, and how many values are taken and given
+abbrev pub flow_after : After → ℕ → ℕ → Flow
+flow_after Leave takes gives = leaves takes
+flow_after Pair takes gives = short
+flow_after _ takes gives = goes takes gives
+
+-- by the name of an operation, as its row has it
 abbrev pub flow_by : CodeUnit → OpName → Instr → Flow
-flow_by unit op.LoadConst instr = goes 0 1
-flow_by unit op.LoadVar instr = goes 0 1
-flow_by unit op.ConstEs instr = goes 0 1
-flow_by unit op.ConstInvalid instr = goes 0 1
-flow_by unit op.ConstTrue instr = goes 0 1
-flow_by unit op.ConstFalse instr = goes 0 1
-flow_by unit op.Const0 instr = goes 0 1
-flow_by unit op.Const1 instr = goes 0 1
-flow_by unit op.ConstM1 instr = goes 0 1
-flow_by unit op.Debug instr = goes 0 0
-flow_by unit op.StoreVar instr = goes 1 0
-flow_by unit op.AddAsg instr = goes 1 0
-flow_by unit op.SubAsg instr = goes 1 0
-flow_by unit op.Pop instr = goes 1 0
-flow_by unit op.IncrVar instr = goes 0 0
-flow_by unit op.DecrVar instr = goes 0 0
-flow_by unit op.Uminus instr = goes 1 1
-flow_by unit op.BNot instr = goes 1 1
-flow_by unit op.Not instr = goes 1 1
-flow_by unit op.Typeof instr = goes 1 1
-flow_by unit op.Isvalid instr = goes 1 1
-flow_by unit op.Tobool instr = goes 1 1
-flow_by unit op.Incr instr = goes 1 1
-flow_by unit op.Decr instr = goes 1 1
-flow_by unit op.Scand instr = short
-flow_by unit op.Scor instr = short
-flow_by unit op.Return instr = leaves 1
-flow_by unit op.ReturnEs instr = leaves 0
-flow_by unit op.Call instr =
-    goes (option_map_or (λ (code : Code). code.args) (slice_get unit.functions instr.a) 0) 1
-flow_by unit op.CallLib instr = goes (unwrap_or (lib_args instr.b instr.a) 0) 1
-flow_by unit op.CallUrl instr = goes instr.c 1
-flow_by unit _ instr = goes 2 1
+flow_by unit name instr =
+    option_map_or (λ (row : Row).
+    flow_after row.after (values_taken unit row.takes row.operands instr) row.gives)
+    (longest name) short
 
 -- by an instruction
 abbrev pub flow_of : CodeUnit → Instr → Flow

@@ -2,7 +2,7 @@
 use Rattle.std.proofs.Common.{◌≡◌, ℕ, suc, ◌+◌, ◌-◌, ◌≤◌, List, [], ◌∷◌, ◌++◌, length, Some, None}
 use Rattle.std.proofs.Common.{refl, sym, ap, ◌∙◌, subst, arith, slice_get, length-append}
 use Rattle.wap_unit.specs.declared.row.OpName.TheVariants as op
-use Rattle.wap_asm.specs.Spellings.{operation_of}
+use Rattle.wap_asm.specs.Spellings.{operation_of, longest}
 use Rattle.wap_asm.specs.declared.form.Form.TheVariants.{Jump, Label}
 use Rattle.wap_meaning.specs.coding.Coded.{Exits, Coded, empty, one, ◌⨾◌, jump_over}
 use Rattle.wap_meaning.specs.coding.Statements.{exit_form, loop_code}
@@ -143,7 +143,7 @@ module _ (layout : Layout) where
       → ((labels : ℕ × ℕ) (d : ℕ → ℕ) (end : ℕ) → Free layout (Some labels) d end
       → (d (which labels) ≡ 0) × HasLabel layout (which labels) × (end ≤ which labels))
       → Shape layout (one (λ exits at. exit_form exits which)) 0 0
-  unfolding operation_of
+  unfolding operation_of longest
   shape_exit {which} frees = record {
     sized = λ exits i. refl;
     depths = 0 ∷ [];

@@ -2,7 +2,7 @@
 use Rattle.std.proofs.Common.{◌≡◌, ℕ, suc, ◌+◌, ◌≤◌, [], ◌∷◌, ◌++◌, refl, sym, ap, ◌∙◌, subst}
 use Rattle.std.proofs.Common.{arith, length-append}
 use Rattle.wap_unit.specs.declared.row.OpName.{OpName}
-use Rattle.wap_asm.specs.Spellings.{operation_of}
+use Rattle.wap_asm.specs.Spellings.{operation_of, longest}
 use Rattle.wap_meaning.specs.coding.Coded.{Coded, instr}
 use Rattle.wap_meaning.specs.coding.Expressions.{short_code}
 use Rattle.wap_meaning.specs.coding.Statements.{branch_code}
@@ -111,7 +111,7 @@ module _ (layout : Layout) where
       → flow_of unit (instr name 0 0 0) ≡ short
       → IsOperation name × Ranged layout (instr name 0 0 0)
       → Shape layout second x (suc x) → Shape layout (short_code name second) (suc x) (suc x)
-  unfolding operation_of
+  unfolding operation_of longest
   shape_short {name} {second} {x} flows is p = record {
     sized = sized_short name second p.sized;
     depths = suc x ∷ suc x ∷ (p.depths ++ (suc x ∷ suc x ∷ []));

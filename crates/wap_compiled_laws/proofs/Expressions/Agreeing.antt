@@ -1,6 +1,6 @@
 -- Expressions and their code agree, by the ways in which they are made.
 use Rattle.std.proofs.Common.{◌≡◌, ℕ, suc, Bool, true, false, List, [], ◌∷◌, length}
-use Rattle.std.proofs.Common.{reverse, refl, ap, append_assoc}
+use Rattle.std.proofs.Common.{refl, ap, append_assoc}
 use Rattle.std.specs.Prelude.{if◌then◌else◌}
 use Rattle.std.proofs.lemmas.List.{reverse-append}
 use Rattle.wap_value.specs.declared.value.Value.{Value}
@@ -16,8 +16,7 @@ use Rattle.wap_meaning.specs.coding.Coded.{Coded, one, ◌⨾◌, plain}
 use Rattle.wap_meaning.specs.coding.Expressions.{binary_name, joined_code, cond_code, step_code}
 use Rattle.wap_meaning.proofs.Following.{Gave, gave_any, from_gave}
 use Rattle.wap_compiled_laws.proofs.Pieces.Pieces.{Site, onto, Piece, both}
-use Rattle.wap_compiled_laws.proofs.Pieces.Instructions.{as_is, pushed, binary_piece}
-use Rattle.wap_compiled_laws.proofs.Pieces.Instructions.{pop_piece}
+use Rattle.wap_compiled_laws.proofs.Pieces.Instructions.{as_is, pushed, binary_piece, pop_piece}
 use Rattle.wap_compiled_laws.proofs.Pieces.Jumps.{onto_shifts, branches_piece}
 use Rattle.wap_compiled_laws.proofs.Pieces.Shorts.{short_piece}
 use Rattle.wap_compiled_laws.proofs.Pieces.Assignments.{above, prefix_piece, postfix_piece, popped}

@@ -23,14 +23,15 @@ use Rattle.wap_grammar.specs.declared.program.expression.Expr.TheFolds.{fold-rol
 use Rattle.wap_execution.specs.Frames.{constant_at}
 use Rattle.wap_execution.specs.Effects.{onward, effect_of, Called}
 use Rattle.wap_meaning.specs.SourceParts.{Does, ◌>>=◌, give, kept, kept_by, calling}
-use Rattle.wap_meaning.specs.Names.{variable_at, callee_local}
-use Rattle.wap_meaning.specs.Names.{callee_external, callee_library}
+use Rattle.wap_meaning.specs.Names.{variable_at, callee_local, callee_external, callee_library}
 use Rattle.wap_meaning.specs.Expressions.{value_of, Around, eval_by, eval, joined, chained, each_of}
 use Rattle.wap_asm.specs.declared.form.Form.TheVariants.{Op}
 use Rattle.wap_meaning.specs.coding.Coded.{Coded, one, ◌⨾◌, instr, with_operand}
 use Rattle.wap_meaning.specs.coding.Constants.{Numbers, text_number, url_number}
 use Rattle.wap_meaning.specs.coding.Expressions.{literal_code, unary_code, expr_code_by, expr_code}
-use Rattle.wap_meaning.specs.coding.Needs.{Need, literal_needs, expr_needs_by, expr_needs, AreMet}
+use Rattle.wap_meaning.specs.coding.Needs.{Need, IsMet, AreMet, literal_needs, expr_needs_by}
+use Rattle.wap_meaning.specs.coding.Needs.{expr_needs}
+use Rattle.wap_compiled_laws.proofs.CodeSizes.Each.{each_front, each_back}
 use Rattle.wap_compiled_laws.proofs.Pieces.Pieces.{Site, onto, Piece, both, op_piece}
 use Rattle.wap_compiled_laws.proofs.Pieces.Instructions.{as_is, pushed, kept_settles, load_piece}
 use Rattle.wap_compiled_laws.proofs.Pieces.Instructions.{unary_piece, binary_piece}
@@ -62,13 +63,11 @@ module _ {S : Type 0} (site : Site S) (numbers : Numbers) where
 
   -- what meets two lists of needs meets the first
   pub met_front : (some other : List Need) → Met (some ++ other) → Met some
-  met_front [] other met = tt
-  met_front (need ∷ some) other met = (met.0, met_front some other met.1)
+  met_front = each_front (IsMet site.function.unit numbers)
 
   -- and the second
   pub met_back : (some other : List Need) → Met (some ++ other) → Met other
-  met_back [] other met = met
-  met_back (need ∷ some) other met = met_back some other met.1
+  met_back = each_back (IsMet site.function.unit numbers)
 
   -- ---- literals
 

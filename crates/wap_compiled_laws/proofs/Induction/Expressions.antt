@@ -14,8 +14,7 @@ use Rattle.wap_meaning.specs.Names.{variable_at, function_at, numbers_of}
 use Rattle.wap_meaning.specs.coding.Coded.{Coded, ◌⨾◌, all_code}
 use Rattle.wap_meaning.specs.coding.Constants.{text_number, url_number}
 use Rattle.wap_meaning.specs.coding.Needs.{Need, expr_needs}
-use Rattle.wap_meaning.specs.coding.Expressions.{joined_code, chain_code}
-use Rattle.wap_meaning.specs.coding.Expressions.{expr_code_by, expr_code}
+use Rattle.wap_meaning.specs.coding.Expressions.{joined_code, chain_code, expr_code_by, expr_code}
 use Rattle.wap_meaning.specs.compiled.Wide.{binary_wide, expr_wide_by, expr_wide}
 use Rattle.wap_compiled_laws.proofs.Induction.Pieces.{higher, Setting}
 use Rattle.wap_compiled_laws.proofs.Induction.Known.{Known, front, behind, Named, KnownOf, KnownBy}

@@ -1,11 +1,11 @@
 -- What is known of parts of sources: what they need is there, and what they say is said.
-use Rattle.std.proofs.Common.{◌≡◌, List, [], ◌∷◌, ◌++◌, sym, ap, ◌∙◌, subst}
+use Rattle.std.proofs.Common.{◌≡◌, List, ◌++◌, sym, ap, ◌∙◌, subst}
 use Rattle.std.specs.List.{AllByRecursion}
 use Rattle.wap_grammar.specs.declared.program.expression.Expr.{Expr, roll-Expr, map-Expr}
 use Rattle.wap_grammar.specs.declared.program.expression.Expr.TheOpen.{Expr-F}
 use Rattle.wap_grammar.specs.declared.program.expression.Expr.TheFolds.{fold-roll-Expr}
 use Rattle.wap_scope.specs.Names.{Reference, references, references_by, Refers}
-use Rattle.wap_meaning.specs.coding.Needs.{Need, AreMet, expr_needs_by, expr_needs}
+use Rattle.wap_meaning.specs.coding.Needs.{Need, IsMet, AreMet, expr_needs_by, expr_needs}
 use Rattle.wap_compiled_laws.proofs.CodeSizes.Each.{each_front, each_back}
 use Rattle.wap_compiled_laws.proofs.Induction.Pieces.{Setting}
 
@@ -17,24 +17,12 @@ module _ (here : Setting) where
     pub met : AreMet unit numbers needs
     pub said : AllByRecursion Q says
 
-  -- what meets two lists of needs meets the first
-  met_front : (some other : List Need) → AreMet unit numbers (some ++ other)
-      → AreMet unit numbers some
-  met_front [] other met = tt
-  met_front (need ∷ some) other met = (met.0, met_front some other met.1)
-
-  -- and the second
-  met_back : (some other : List Need) → AreMet unit numbers (some ++ other)
-      → AreMet unit numbers other
-  met_back [] other met = met
-  met_back (need ∷ some) other met = met_back some other met.1
-
   -- what is known of two parts is known of the first
   pub front : {X : Type 0} {Q : X
       → Type 0} {needs : List Need} (more : List Need) {says : List X} (after : List X)
       → Known Q (needs ++ more) (says ++ after) → Known Q needs says
   front {Q} {needs} more {says} after known = record {
-    met = met_front needs more known.met;
+    met = each_front (IsMet unit numbers) needs more known.met;
     said = each_front Q says after known.said;
   }
 
@@ -43,7 +31,7 @@ module _ (here : Setting) where
       → Type 0} (needs : List Need) {more : List Need} (says : List X) {after : List X}
       → Known Q (needs ++ more) (says ++ after) → Known Q more after
   behind {Q} needs {more} says {after} known = record {
-    met = met_back needs more known.met;
+    met = each_back (IsMet unit numbers) needs more known.met;
     said = each_back Q says after known.said;
   }
 

@@ -1,34 +1,26 @@
 -- What the operands of operations have to name, in a unit and a function with so many variables.
 use Rattle.std.proofs.Common.{◌≡◌, ℕ, ◌<◌, List, length, Option, Some, option_and_then}
 use Rattle.std.proofs.Common.{option_map, slice_get}
+use Rattle.std.specs.Option.{option_map_or}
 use Rattle.std.proofs.lemmas.Option.{slice_get_within}
 use Rattle.wap_value.specs.declared.value.Value.{Value}
 use Rattle.wap_unit.specs.declared.unit.Unit.{Unit as CodeUnit}
 use Rattle.wap_unit.specs.declared.unit.Code.{Code}
 use Rattle.wap_unit.specs.declared.row.OpName.{OpName}
-use Rattle.wap_unit.specs.declared.row.OpName.TheVariants as op
+use Rattle.wap_unit.specs.declared.row.Row.{Row}
 use Rattle.wap_unit.specs.declared.row.Operands.{Operands}
 use Rattle.wap_unit.specs.declared.row.Operands.TheVariants as operands
 use Rattle.wap_unit.specs.declared.instr.Instr.{Instr}
 use Rattle.wap_unit.specs.Libraries.{lib_args}
 use Rattle.wap_unit.specs.Strings.{string_at}
+use Rattle.wap_asm.specs.Spellings.{longest}
 use Rattle.wap_execution.specs.Frames.{constant_of, constant_at}
 use Rattle.std.proofs.Common.{arith}
 use Rattle.std.proofs.lemmas.Grind.{common_steps}
 
--- what the operands of an operation name; those of jumps name nothing
+-- what the operands of an operation name, as its row has it
 abbrev pub kind_of : OpName → Operands
-kind_of op.LoadVar = operands.Variable
-kind_of op.StoreVar = operands.Variable
-kind_of op.IncrVar = operands.Variable
-kind_of op.DecrVar = operands.Variable
-kind_of op.AddAsg = operands.Variable
-kind_of op.SubAsg = operands.Variable
-kind_of op.LoadConst = operands.Constant
-kind_of op.Call = operands.Function
-kind_of op.CallLib = operands.Library
-kind_of op.CallUrl = operands.Address
-kind_of _ = operands.Plain
+kind_of name = option_map_or (λ (row : Row). row.operands) (longest name) operands.Plain
 
 -- what they name is there
 abbrev pub AreThere : CodeUnit → ℕ → Operands → Instr → Type 0

@@ -1,5 +1,5 @@
 -- Assignments, steps, literals and calls.
-use Rattle.std.proofs.Common.{◌≡◌, ℕ, ◌+◌, Bool, true, false, ltb, leb, cond, List, ◌++◌}
+use Rattle.std.proofs.Common.{◌≡◌, ℕ, ◌+◌, Bool, true, false, ltb, cond, List, ◌++◌}
 use Rattle.std.proofs.Common.{length, reverse, Option, Some, None, refl, ap, ◌∙◌}
 use Rattle.std.proofs.Common.{arith, slice_get, slice_set, option_map, length-append, length-set}
 use Rattle.std.proofs.Common.{get_or-set_same, subst}

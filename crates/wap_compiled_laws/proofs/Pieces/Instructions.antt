@@ -13,8 +13,7 @@ use Rattle.wap_execution.specs.declared.action.Action.TheVariants.{Unary, Binary
 use Rattle.wap_execution.specs.Actions.{action_of}
 use Rattle.wap_execution.specs.Effects.{Effect, onward, with_value, with_kept, stored, effect_of}
 use Rattle.wap_execution.specs.Outcomes.{Ended}
-use Rattle.wap_meaning.specs.SourceParts.{Does, done, give, given, load, store, kept_by}
-use Rattle.wap_meaning.specs.SourceParts.{kept}
+use Rattle.wap_meaning.specs.SourceParts.{Does, done, give, given, load, store, kept_by, kept}
 use Rattle.wap_meaning.specs.coding.Coded.{Coded, plain, with_operand}
 use Rattle.wap_meaning.proofs.KeepingParts.{give_keeps, load_keeps, store_keeps, kept_keeps}
 use Rattle.wap_compiled_laws.proofs.Pieces.Standing.{at}

@@ -1,6 +1,6 @@
 -- Pieces of placed code do what parts of the source do, and pieces that follow one another what one
 -- part and then the next does.
-use Rattle.std.proofs.Common.{◌≡◌, ℕ, zero, suc, ◌+◌, ◌-◌, ◌<◌, ◌≤◌, false, ltb}
+use Rattle.std.proofs.Common.{◌≡◌, ℕ, zero, suc, ◌+◌, ◌-◌, ◌<◌, ◌≤◌}
 use Rattle.std.proofs.Common.{List, [], ◌∷◌, ◌++◌, length, Some, None, Ok, refl, sym, ap, ◌∙◌}
 use Rattle.std.proofs.Common.{append_assoc, subst, arith, length-append, slice_get, le_trans}
 use Rattle.std.proofs.lemmas.Bool.{ltb-false}

@@ -18,6 +18,7 @@ use Rattle.wap_unit.specs.declared.row.After.{After}
 use Rattle.wap_unit.specs.declared.row.Row.{Row}
 use Rattle.wap_unit.specs.declared.instr.Instr.{Instr}
 use Rattle.wap_unit.specs.Instructions.{has_code, row_of, read_row}
+use Rattle.wap_asm.specs.Spellings.{longest}
 use Rattle.wap_unit.specs.Rows.{rows}
 use Rattle.wap_unit.specs.Libraries.{lib_args}
 use Rattle.wap_unit.specs.Strings.{string_at}
@@ -47,7 +48,7 @@ use Rattle.std.proofs.lemmas.Grind.{common_steps}
 
 -- the row of a byte names what its operation names
 row_kind : (code : ℕ) (row : Row) → row_of code ≡ Some row → row.operands ≡ kind_of row.operation
-unfolding row_of
+unfolding row_of longest
 row_kind code row is =
     same_at (λ (r : Row). r.operands) (λ (r : Row). kind_of r.operation) rows (has_code code) refl
     is
@@ -125,7 +126,7 @@ module _ (unit : CodeUnit) (index : ℕ) (function : Code) where
         is = step_is stands there
             ∙ ap (λ (a : After). cond (is_pair a)
             (pair_at index function.code at instr.next values)
-            (Ok (step_of a at instr values row.gives))) so.0
+            (Ok (step_of a at instr values row.gives))) (ap (λ s. s.0) so)
             ∙ ap (λ (b : Bool). cond b
             (jump_by index function.code at instr.next values
             (row_of (slice_index function.code instr.next)))
@@ -133,7 +134,7 @@ module _ (unit : CodeUnit) (index : ℕ) (function : Code) where
             ∙ ap (jump_by index function.code at instr.next values) second.has_row
             ∙ ap (λ (a : After). cond (is_conditional_forward a)
             (jump_read index instr.next values (read_row second.row function.code instr.next))
-            (Err (fault.LoneShort index at))) other.0
+            (Err (fault.LoneShort index at))) (ap (λ s. s.0) other)
             ∙ ap (jump_read index instr.next values) second.reads;
         goes_to = refl;
         stays = refl;
@@ -213,14 +214,14 @@ module _ (site : Walk)
     goes_step : {takes gives : ℕ} → flow_of unit form ≡ goes takes gives
         → Has (pos k) (pos (k + 1)) None
     goes_step {takes} {gives} flows =
-        plain_step unit index function form.name (read_as k form here) found named (says flows).0
-        refl (λ takes gives. refl) (λ takes gives. refl) (λ takes gives. refl)
+        plain_step unit index function form.name (read_as k form here) found named
+        (ap (λ s. s.0) (says flows)) refl (λ takes gives. refl) (λ takes gives. refl) (λ takes gives. refl)
 
     -- or leaves the function
     leaves_step : {takes : ℕ} → flow_of unit form ≡ leaves takes → Has (pos k) (pos (k + 1)) None
     leaves_step {takes} flows =
-        plain_step unit index function form.name (read_as k form here) found named (says flows).0
-        refl (λ takes gives. refl) (λ takes gives. refl) (λ takes gives. refl)
+        plain_step unit index function form.name (read_as k form here) found named
+        (ap (λ s. s.0) (says flows)) refl (λ takes gives. refl) (λ takes gives. refl) (λ takes gives. refl)
 
     -- or is one with the jump behind it
     short_step : flow_of unit form ≡ short
@@ -240,6 +241,7 @@ module _ (site : Walk)
   -- a jump goes on behind itself, or at its label
   jump_step : {k n : ℕ} {name : OpName} → slice_get forms k ≡ Some (Jump name n)
       → Has (pos k) (pos (k + 1)) (Some (pos n))
+  unfolding longest
   jump_step {k} {n} {name} here = by (wired.jumps k n name here).1 (placed.jumps k n name here)
     where
       by : {name : OpName} → LeadsTo k n name → JumpAt function.code pos k n name
@@ -248,19 +250,19 @@ module _ (site : Walk)
           subst (λ (t : ℕ). Has (pos k) (pos (k + 1)) (Some t)) jump.lands
           (subst (λ (m : ℕ). Has (pos k) m (Some (jump.instr.next + jump.instr.a))) jump.ends
           (plain_step unit index function op.JumpFw jump.instr jump.stands tt
-          (stands_as unit jump.stands).0 refl (λ takes gives. refl) (λ takes gives. refl)
+          (ap (λ s. s.0) (stands_as unit jump.stands)) refl (λ takes gives. refl) (λ takes gives. refl)
           (λ takes gives. refl)))
       by (tests less) jump =
           subst (λ (t : ℕ). Has (pos k) (pos (k + 1)) (Some t)) jump.lands
           (subst (λ (m : ℕ). Has (pos k) m (Some (jump.instr.next + jump.instr.a))) jump.ends
           (plain_step unit index function op.TjumpFw jump.instr jump.stands tt
-          (stands_as unit jump.stands).0 refl (λ takes gives. refl) (λ takes gives. refl)
+          (ap (λ s. s.0) (stands_as unit jump.stands)) refl (λ takes gives. refl) (λ takes gives. refl)
           (λ takes gives. refl)))
       by (backward less) jump =
           subst (λ (t : ℕ). Has (pos k) (pos (k + 1)) (Some t)) jump.lands.1
           (subst (λ (m : ℕ). Has (pos k) m (Some (pos k - jump.instr.a))) jump.ends
           (plain_step unit index function op.JumpBw jump.instr jump.stands tt
-          (stands_as unit jump.stands).0 refl
+          (ap (λ s. s.0) (stands_as unit jump.stands)) refl
           (λ takes gives. le-ltb (pos k) jump.instr.a jump.lands.0) (λ takes gives. refl)
           (λ takes gives. refl)))
 
@@ -268,9 +270,8 @@ module _ (site : Walk)
 
   -- where it goes on behind an operation
   behind_op : ℕ → Flow → (ℕ → List ℕ) → List ℕ
-  behind_op k (goes takes gives) next = next (k + 1)
-  behind_op k (leaves takes) next = next (k + 1)
   behind_op k short next = next (k + 1 + 1)
+  behind_op k _ next = next (k + 1)
 
   -- the place of a form, and those behind it
   by_form : ℕ → Option Form → (ℕ → List ℕ) → List ℕ

@@ -13,6 +13,7 @@ use Rattle.wap_verify.specs.declared.step.Step.{Step}
 use Rattle.wap_verify.specs.declared.step.Way.{Way}
 use Rattle.wap_verify.specs.CodePlaces.{step_at}
 use Rattle.wap_verify.specs.Paths.{Stand, HasWay, IsPath, Reaches}
+use Rattle.wap_asm.specs.Spellings.{longest}
 use Rattle.wap_asm.specs.declared.form.Form.{Form}
 use Rattle.wap_asm.specs.declared.form.Form.TheVariants.{Op, Jump, Label}
 use Rattle.wap_compiled_laws.proofs.Labels.Wired.{is_jump, LeadsTo, forward, tests, backward}
@@ -38,6 +39,7 @@ says_of unit row _ instr plain is = is
 pub flow_same : (unit : CodeUnit) (name some other : OpName) (a b c n m : ℕ)
     → flow_by unit name (record { name = some; a = a; b = b; c = c; next = n })
     ≡ flow_by unit name (record { name = other; a = a; b = b; c = c; next = m })
+unfolding longest
 flow_same unit op.JumpFw some other a b c n m = refl
 flow_same unit _ some other a b c n m = refl
 

@@ -11,12 +11,11 @@ use Rattle.wap_unit.specs.declared.instr.Instr.{Instr}
 use Rattle.wap_unit.specs.Instructions.{read_row}
 use Rattle.wap_verify.specs.declared.step.Step.{Step}
 use Rattle.wap_verify.specs.declared.fault.VerifyFault.{VerifyFault}
-use Rattle.wap_verify.specs.CodePlaces.{values_taken, step_of, pair, pair_at}
-use Rattle.wap_verify.specs.CodePlaces.{jump_by, jump_read, is_conditional_forward, is_pair}
-use Rattle.wap_verify.specs.CodePlaces.{fine_at, step_at}
+use Rattle.wap_verify.specs.CodePlaces.{values_taken, step_of, pair, pair_at, jump_by, jump_read}
+use Rattle.wap_verify.specs.CodePlaces.{is_conditional_forward, is_pair, fine_at, step_at}
 use Rattle.wap_compiled_laws.proofs.Soundness.Spelled.{Stands}
 use Rattle.wap_compiled_laws.proofs.Depths.Flow.{short}
-use Rattle.wap_compiled_laws.proofs.Soundness.Table.{Says, IsAs, row_is_as}
+use Rattle.wap_compiled_laws.proofs.Soundness.Table.{row_says, Says, IsAs, row_is_as}
 use Rattle.wap_unit.specs.declared.row.OpName.TheVariants as op
 use Rattle.wap_verify.specs.declared.fault.VerifyFault.TheVariants as fault
 use Rattle.std.proofs.Common.{arith}
@@ -63,12 +62,12 @@ module _ (unit : CodeUnit) (index : ℕ) (function : Code) (at : ℕ) where
   -- an instruction that is no pair goes where its row says
   pub row_step : {operation : OpName} {instr : Instr} {after : After} {takes gives : ℕ}
       (stands : Stands function.code at operation instr) → is_pair after ≡ false
-      → (stands.row.after ≡ after)
-      × (values_taken unit stands.row.takes stands.row.operands instr ≡ takes) ×
-      (stands.row.gives ≡ gives) → {step : Step} → step_at unit index function at ≡ Ok step
+      → row_says unit instr stands.row ≡ (after, takes, gives) → {step : Step}
+      → step_at unit index function at ≡ Ok step
       → step ≡ step_of after at instr takes gives
   row_step {operation} {instr} stands single so is =
-      plain_step stands.row instr so.0 single so.1 so.2 (stands_step operation instr stands is)
+      plain_step stands.row instr (ap (λ s. s.0) so) single (ap (λ s. s.1) so) (ap (λ s. s.2) so)
+      (stands_step operation instr stands is)
 
   -- of a short-circuit with its jump
   pub pair_step : {operation : OpName} {instr jump : Instr}
@@ -82,16 +81,17 @@ module _ (unit : CodeUnit) (index : ℕ) (function : Code) (at : ℕ) where
       let paired : pair_at index function.code at instr.next values ≡ Ok step =
       sym (ap (λ (a : After). cond (is_pair a)
       (pair_at index function.code at instr.next values)
-      (Ok (step_of a at instr values row.gives))) so.0)
+      (Ok (step_of a at instr values row.gives))) (ap (λ s. s.0) so))
       ∙ stands_step operation instr stands is in
       let other = stands_as unit second in
       let jumped : jump_by index function.code at instr.next values (Some second.row)
       ≡ Ok (pair 1 jump) =
       ap (λ (a : After). cond (is_conditional_forward a)
       (jump_read index instr.next values
-      (read_row second.row function.code instr.next)) (Err (fault.LoneShort index at))) other.0
+      (read_row second.row function.code instr.next)) (Err (fault.LoneShort index at)))
+      (ap (λ s. s.0) other)
       ∙ ap (jump_read index instr.next values) second.reads
-      ∙ ap (λ (n : ℕ). Ok (pair n jump)) so.1 in
+      ∙ ap (λ s. Ok (pair s.1 jump)) so in
       by (ltb instr.next (length function.code)) paired
       (ap (jump_by index function.code at instr.next values) second.has_row ∙ jumped)
     where

@@ -1,7 +1,6 @@
 -- What a program needs has no more bytes than the tokens that it is drawn from.
-use Rattle.std.proofs.Common.{◌≡◌, ℕ, ◌+◌, ◌-◌, ◌≤◌, true, nat_le, List}
-use Rattle.std.proofs.Common.{length, Option, Some, None, encode_utf8_all, refl, sym}
-use Rattle.std.proofs.Common.{subst, arith, pos}
+use Rattle.std.proofs.Common.{◌≡◌, ℕ, ◌+◌, ◌-◌, ◌≤◌, true, nat_le, List, length, Option, Some, None}
+use Rattle.std.proofs.Common.{encode_utf8_all, refl, sym, subst, arith, pos}
 use Rattle.std.specs.List.{AllByRecursion, sum_by}
 use Rattle.std.specs.Str.{all_scalars}
 use Rattle.std.proofs.lemmas.Bool.{leb-true}

@@ -4,7 +4,7 @@ use Rattle.std.proofs.Common.{Some, None, refl, subst, arith, slice_get}
 use Rattle.std.specs.List.{flat_map, enumerate_from}
 use Rattle.wap_unit.specs.declared.row.OpName.{OpName}
 use Rattle.wap_unit.specs.declared.row.Slot.{Slot}
-use Rattle.wap_unit.specs.declared.row.Slot.TheVariants.{Absent, Low, Byte, Word}
+use Rattle.wap_unit.specs.declared.row.Slot.TheVariants.{Byte, Word}
 use Rattle.wap_unit.specs.declared.row.Row.{Row}
 use Rattle.wap_asm.specs.Spelling.{limit, slot_bytes, spelling}
 use Rattle.wap_asm.specs.Spellings.{spelling_of, row_bytes}
@@ -12,25 +12,27 @@ use Rattle.wap_asm.specs.declared.form.Form.{Form}
 use Rattle.wap_asm.specs.declared.form.Form.TheVariants.{Op, Jump, Label}
 use Rattle.wap_asm.specs.Placing.{form_bytes, bytes_at, wide, settled, placed}
 use Rattle.wap_asm.specs.Placed.{ArePlaceable}
-use Rattle.wap_asm.specs.inside.Passes.{HasRoom, HasSpelling}
+use Rattle.wap_asm.specs.Operands.{Holds}
+use Rattle.wap_asm.specs.inside.Passes.{HasSpelling}
+use Rattle.wap_asm.proofs.SlotLaws.{low_part-below}
 use Rattle.wap_asm.proofs.BytesLaws.{op_spelling, jump_spelling, has_room}
 use Rattle.wap_compiled_laws.proofs.SpellingLemmas.Written.{AreBytes, bytes_both}
 
 -- an operand that has room
-slot_fits : (slot : Slot) (n : ℕ) → n < limit 256 slot → AreBytes (slot_bytes slot n)
-slot_fits Absent n less = tt
-slot_fits Low n less = tt
-slot_fits Byte n less = (less, tt)
-slot_fits Word n less = (omega (arith, less), (omega arith, tt))
+slot_fits : (count n : ℕ) (slot : Slot) → n < limit count slot → AreBytes (slot_bytes slot n)
+slot_fits count n Byte less = (less, tt)
+slot_fits count n Word less = (omega (arith, less), (omega arith, tt))
+slot_fits count n _ less = tt
 
 -- an instruction whose operands have room
-row_fits : {row : Row} {a b c : ℕ} → HasRoom row a b c → AreBytes (spelling row a b c)
-row_fits {row} {a} {b} {c} room = (
-  room.code_fits,
+row_fits : {row : Row} {a b c : ℕ} → 0 < row.count → row.first + row.count ≤ 256
+    → Holds row a b c → AreBytes (spelling row a b c)
+row_fits {row} {a} {b} {c} some few room = (
+  omega (arith, few, low_part-below row.count row.a a some room.a_fits),
   bytes_both (slot_bytes row.a a) (slot_bytes row.b b ++ slot_bytes row.c c)
-      (slot_fits row.a a room.a_fits)
-      (bytes_both (slot_bytes row.b b) (slot_bytes row.c c) (slot_fits row.b b room.b_fits)
-      (slot_fits row.c c room.c_fits)),
+      (slot_fits row.count a row.a room.a_fits)
+      (bytes_both (slot_bytes row.b b) (slot_bytes row.c c) (slot_fits row.count b row.b room.b_fits)
+      (slot_fits row.count c row.c room.c_fits)),
 )
 
 -- one that has a spelling
@@ -40,7 +42,8 @@ spelled_fits {operation} {a} {b} {c} has = by (spelling_of operation a b c) refl
   where
     by : (o : Option Row) → spelling_of operation a b c ≡ o → AreBytes (row_bytes o a b c)
     by None is = tt
-    by (Some row) is = row_fits (has_room operation a b c row has is)
+    by (Some row) is =
+        let fits = has_room operation a b c row has is in row_fits fits.0 fits.1 fits.2
 
 module _ (forms : List Form) (placeable : ArePlaceable forms) (few : wide forms ≤ 65535) where
   -- each form

@@ -5,7 +5,8 @@ use Rattle.std.specs.List.{AllByRecursion, sum_by}
 use Rattle.std.proofs.lemmas.List.Sums.{sum_by-cons, sum_by-append}
 use Rattle.wap_grammar.specs.declared.program.expression.Literal.{Literal}
 use Rattle.wap_meaning.specs.coding.Constants.{same_literal, is_in, with_literal, pooled}
-use Rattle.wap_compiled_laws.proofs.BodiesLemmas.Pooled.{same_is, in_more}
+use Rattle.wap_meaning.proofs.NeedsLemmas.Once.{same_is}
+use Rattle.wap_compiled_laws.proofs.BodiesLemmas.Pooled.{in_more}
 use Rattle.wap_compiled_laws.proofs.SourceSizes.Sizes.{text_size}
 
 -- some literals without the first that is this one

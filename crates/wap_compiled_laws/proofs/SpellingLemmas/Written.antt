@@ -26,8 +26,7 @@ use Rattle.wap_grammar.specs.declared.program.expression.Literal.TheVariants.{In
 use Rattle.wap_meaning.specs.coding.Constants.{integer_constant, constant_for}
 use Rattle.wap_compiled_laws.proofs.SourceSizes.Sizes.{text_size, CanBeSaid}
 use Rattle.wap_unit.specs.Sequences.{InTurn, After, IsSized, IsRow}
-use Rattle.wap_unit.specs.Units.{IsUtf8Text, IsConstant, IsPair, IsPragma, IsName}
-use Rattle.wap_unit.specs.Units.{IsFunction}
+use Rattle.wap_unit.specs.Units.{IsUtf8Text, IsConstant, IsPair, IsPragma, IsName, IsFunction}
 use Rattle.wap_unit.specs.Spelling.{sized, constant_spelling, pragma_spelling, name_spelling}
 use Rattle.wap_unit.specs.Spelling.{function_spelling}
 use Rattle.std.proofs.lemmas.Grind.{common_steps}
@@ -259,10 +258,9 @@ pair_written one two = in_turn (small_number one) (small_number two)
 
 -- how many bytes a pragma has at most
 abbrev pub pragma_size : Pragma → ℕ
-pragma_size (Domain text) = 4
-pragma_size (Path text) = 4
 pragma_size (Property name content) = 7
 pragma_size (Scheme name content scheme) = 10
+pragma_size _ = 4
 
 -- its numbers are below 2^16
 abbrev pub HasSmall : Pragma → Type 0
@@ -273,11 +271,10 @@ HasSmall (Scheme name content scheme) = (name < 65536) × (content < 65536) × (
 
 pub pragma_written : (p : Pragma) → HasSmall p
     → Written (λ bytes. IsPragma bytes p) (pragma_spelling p) (pragma_size p)
-pragma_written (Domain text) small = behind (omega arith) (small_number small)
-pragma_written (Path text) small = behind (omega arith) (small_number small)
 pragma_written (Property name content) small = behind (omega arith) (pair_written small.0 small.1)
 pragma_written (Scheme name content scheme) small =
     behind (omega arith) (in_turn (small_number small.0) (pair_written small.1 small.2))
+pragma_written _ small = behind (omega arith) (small_number small)
 
 -- ---- names and functions
 

@@ -17,8 +17,7 @@ use Rattle.wap_meaning.specs.SourceParts.{Does, ◌>>=◌, done, give, load, sto
 use Rattle.wap_meaning.specs.Expressions.{assigned, stepped, step_of}
 use Rattle.wap_meaning.specs.Statements.{Ending, goes_on, breaks, continues, returns, if_goes_on}
 use Rattle.wap_meaning.specs.Statements.{and_then, dropped}
-use Rattle.wap_meaning.specs.coding.Coded.{Exits, Coded, empty, one, ◌⨾◌, plain}
-use Rattle.wap_meaning.specs.coding.Coded.{with_operand}
+use Rattle.wap_meaning.specs.coding.Coded.{Exits, Coded, empty, one, ◌⨾◌, plain, with_operand}
 use Rattle.wap_meaning.specs.coding.Expressions.{store_code, change_name}
 use Rattle.wap_meaning.specs.coding.Statements.{exit_form, dropped_code}
 use Rattle.wap_meaning.proofs.Following.{from_done, gave_any, keeps_both}

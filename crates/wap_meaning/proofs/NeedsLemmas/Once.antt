@@ -14,7 +14,7 @@ use Rattle.wap_meaning.specs.coding.Constants.{same_literal, is_in, with_literal
 use Rattle.wap_meaning.specs.compiled.Pool.{literals_needed, pool}
 
 -- literals that are one constant are the same
-same_is : (l x : Literal) → same_literal l x ≡ true → l ≡ x
+pub same_is : (l x : Literal) → same_literal l x ≡ true → l ≡ x
 same_is (literal.Int a) (literal.Int b) same = ap literal.Int ((signed_Decides a b).0 same)
 same_is (literal.Str s) (literal.Str t) same = ap literal.Str ((bytes_decides s t).0 same)
 same_is _ _ same = absurd (cc same)

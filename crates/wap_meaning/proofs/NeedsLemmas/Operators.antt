@@ -19,8 +19,7 @@ use Rattle.wap_grammar.specs.declared.word.Word.{Word}
 use Rattle.wap_grammar.specs.declared.word.Word.TheVariants as word
 use Rattle.wap_grammar.specs.Lexemes.{word_rows, word_spelled, word_of_kind, text_in, lexemes_of}
 use Rattle.wap_grammar.specs.Programs.{Spells}
-use Rattle.wap_meaning.specs.coding.Needs.{Need, Constant, Operator, Variable, Local, Other}
-use Rattle.wap_meaning.specs.coding.Needs.{Library}
+use Rattle.wap_meaning.specs.coding.Needs.{Need, Operator}
 use Rattle.wap_meaning.specs.needs.Drawn.{use_needs, function_needs, program_needs, HasOperator}
 use Rattle.wap_meaning.specs.needs.Drawn.{StandsFor, Drawn, no_more, skip, here}
 use Rattle.wap_meaning.proofs.NeedsLemmas.Programs.{drawn}
@@ -70,12 +69,9 @@ spelled_fine text = found_fine (is_same_text text) word_rows all_fine
 
 word_fine : (k : Kind) (text : List ℕ) → is_fine (word_of_kind k text) ≡ true
 unfolding is_fine
-word_fine kind.Name text = refl
 word_fine kind.Reserved text = spelled_fine text
-word_fine kind.Int text = refl
-word_fine kind.Float text = refl
-word_fine kind.Str text = refl
 word_fine kind.Mark text = spelled_fine text
+word_fine _ text = refl
 
 -- each token of a source
 Fine : Lexeme → Type 0
@@ -92,13 +88,9 @@ lexemes_fine src (token ∷ tokens) = (
 -- what is drawn from such tokens
 need_fine : (src : List ℕ) (l : Lexeme) (n : Need) → Fine l → StandsFor src l n → HasOperator n
 unfolding Fine is_fine
-need_fine src l (Constant c) fine is = tt
 need_fine src l (Operator o) fine is =
     takes o (subst (λ (w : Word). is_fine w ≡ true) is fine)
-need_fine src l (Variable v) fine is = tt
-need_fine src l (Local f count) fine is = tt
-need_fine src l (Other u f) fine is = tt
-need_fine src l (Library lib f count) fine is = tt
+need_fine src l _ fine is = tt
 
 drawn_fine : (src : List ℕ) (x : List Lexeme) (ns : List Need) (y : List Lexeme)
     → AllByRecursion Fine x → Drawn src x ns y → AllByRecursion HasOperator ns

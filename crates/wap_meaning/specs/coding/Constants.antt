@@ -55,9 +55,7 @@ abbrev pub constant_for : Literal → Constant
 constant_for (literal.Int z) = integer_constant z
 constant_for (literal.Str []) = constant.Empty
 constant_for (literal.Str (c ∷ cs)) = constant.Utf8 (c ∷ cs)
-constant_for literal.Float = constant.Empty
-constant_for (literal.Bool truth) = constant.Empty
-constant_for literal.Invalid = constant.Empty
+constant_for _ = constant.Empty
 
 -- ---- their numbers
 

@@ -1,7 +1,6 @@
 -- The code of expressions (WAP-193, section 10; which code is chosen is this project's own), one
 -- line a construct: it leaves one value more on the operands.
-use Rattle.std.specs.Prelude.{ℕ, ◌+◌, Bool, true, false, List, [], ◌∷◌, length}
-use Rattle.std.specs.Prelude.{Option, Some, None}
+use Rattle.std.specs.Prelude.{ℕ, ◌+◌, Bool, true, false, List, [], ◌∷◌, length, Option, Some, None}
 use Rattle.wap_value.specs.declared.operator.UnOp.{UnOp}
 use Rattle.wap_value.specs.declared.operator.UnOp.TheVariants as un
 use Rattle.wap_value.specs.declared.operator.BinOp.{BinOp}
@@ -16,8 +15,7 @@ use Rattle.wap_grammar.specs.declared.program.expression.Expr.TheOpen.{Expr-F}
 use Rattle.wap_grammar.specs.declared.program.expression.Expr.TheFolds.{fold-Expr}
 use Rattle.wap_meaning.specs.Names.{variable_at, function_at, numbers_of}
 use Rattle.wap_meaning.specs.coding.Coded.{Coded, one, ◌⨾◌, all_code, instr, plain, with_operand}
-use Rattle.wap_meaning.specs.coding.Coded.{label}
-use Rattle.wap_meaning.specs.coding.Coded.{jump_over}
+use Rattle.wap_meaning.specs.coding.Coded.{label, jump_over}
 use Rattle.wap_meaning.specs.coding.Constants.{Numbers, number_of, text_number, url_number}
 
 -- an integer or a text that isn't empty is a constant, and all other literals have operations of

@@ -2,7 +2,7 @@
 -- their tokens stand: constants, functions, units and libraries. This project's own.
 use Rattle.std.specs.Prelude.{◌≡◌, ℕ, ◌<◌, List, [], ◌∷◌, ◌++◌, length, Option, Some, None}
 use Rattle.std.specs.Prelude.{slice_get}
-use Rattle.std.specs.List.{flat_map}
+use Rattle.std.specs.List.{AllByRecursion, flat_map}
 use Rattle.std.specs.Option.{option_map}
 use Rattle.wap_value.specs.declared.operator.BinOp.{BinOp}
 use Rattle.wap_value.specs.Binary.{TakesBoth}
@@ -42,11 +42,9 @@ pub data Need : Type 0 where
 -- the constant of a literal that has one
 abbrev pub literal_needs : Literal → List Need
 literal_needs (literal.Int number) = Constant (literal.Int number) ∷ []
-literal_needs literal.Float = []
 literal_needs (literal.Str []) = []
 literal_needs (literal.Str (c ∷ cs)) = Constant (literal.Str (c ∷ cs)) ∷ []
-literal_needs (literal.Bool truth) = []
-literal_needs literal.Invalid = []
+literal_needs _ = []
 
 -- the operator of an assignment
 abbrev pub assign_needs : Option BinOp → List Need
@@ -86,7 +84,6 @@ otherwise_needs (Some needs) = needs
 
 -- what a statement needs, by what its parts need
 abbrev pub stmt_needs_by : Stmt-F (List Need) → List Need
-stmt_needs_by Stmt-F.Empty = []
 stmt_needs_by (Stmt-F.Expr e) = expr_needs e
 stmt_needs_by (Stmt-F.Block ss) = flat_map (λ s. s) ss
 stmt_needs_by (Stmt-F.Vars pairs) = flat_map declared_needs pairs
@@ -94,9 +91,8 @@ stmt_needs_by (Stmt-F.If c s other) = expr_needs c ++ (s ++ otherwise_needs othe
 stmt_needs_by (Stmt-F.While c s) = expr_needs c ++ s
 stmt_needs_by (Stmt-F.For first c update s) =
     first ++ (optional_needs c ++ (optional_needs update ++ s))
-stmt_needs_by (Stmt-F.Break word) = []
-stmt_needs_by (Stmt-F.Continue word) = []
 stmt_needs_by (Stmt-F.Return e) = optional_needs e
+stmt_needs_by _ = []
 
 -- what a statement needs
 unfoldable pub stmt_needs : Stmt → List Need
@@ -105,12 +101,9 @@ stmt_needs = fold-Stmt (List Need) stmt_needs_by
 -- the constants of a need
 abbrev pub literals_of : Names → Need → List Literal
 literals_of names (Constant l) = l ∷ []
-literals_of names (Operator op) = []
-literals_of names (Variable v) = []
-literals_of names (Local f count) = []
 literals_of names (Other u f) =
     literal.Str (url_of u.name names.urls) ∷ literal.Str f.name ∷ []
-literals_of names (Library l f count) = []
+literals_of names _ = []
 
 -- ---- a unit that has it
 
@@ -131,5 +124,4 @@ IsMet unit numbers (Library l f count) =
 
 -- all of them are
 abbrev pub AreMet : CodeUnit → Numbers → List Need → Type 0
-AreMet unit numbers [] = Unit {0}
-AreMet unit numbers (need ∷ needs) = IsMet unit numbers need × AreMet unit numbers needs
+AreMet unit numbers = AllByRecursion (IsMet unit numbers)

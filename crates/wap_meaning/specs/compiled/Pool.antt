@@ -3,7 +3,7 @@
 use Rattle.std.specs.Prelude.{ℕ, List, [], ◌∷◌, ◌++◌, Option, Some, None}
 use Rattle.std.specs.List.{flat_map}
 use Rattle.wap_grammar.specs.declared.program.program.Use.{Use}
-use Rattle.wap_grammar.specs.declared.program.program.Use.TheVariants.{Url, Access, Agent, Note}
+use Rattle.wap_grammar.specs.declared.program.program.Use.TheVariants.{Access, Agent}
 use Rattle.wap_grammar.specs.declared.program.program.Function.{Function}
 use Rattle.wap_grammar.specs.declared.program.program.Program.{Program}
 use Rattle.wap_grammar.specs.declared.program.expression.Literal.{Literal}
@@ -20,10 +20,9 @@ text_if (Some text) = Str text ∷ []
 -- the texts that a pragma puts into the unit; the URL of another unit is needed where a function of
 -- it is called, and not before
 abbrev pub use_literals : Use → List Literal
-use_literals (Url u url) = []
 use_literals (Access domain path span) = text_if domain ++ text_if path
 use_literals (Agent name content scheme) = Str name ∷ Str content ∷ text_if scheme
-use_literals Note = []
+use_literals _ = []
 
 -- the integers and texts that a function of a program needs, as often as it needs them
 abbrev pub function_literals : Program → Function → List Literal

@@ -3,7 +3,7 @@ use Rattle.std.specs.Prelude.{ℕ, ◌+◌, List, sum, sum_by, Option, Some, Non
 use Rattle.wap_unit.specs.declared.row.OpName.{OpName}
 use Rattle.wap_unit.specs.declared.row.OpName.TheVariants.{AddAsg, SubAsg}
 use Rattle.wap_asm.specs.declared.form.Form.{Form}
-use Rattle.wap_asm.specs.declared.form.Form.TheVariants.{Op, Jump, Label}
+use Rattle.wap_asm.specs.declared.form.Form.TheVariants.{Op}
 use Rattle.wap_grammar.specs.declared.program.program.Function.{Function}
 use Rattle.wap_grammar.specs.declared.program.expression.Expr.{Expr, out-Expr}
 use Rattle.wap_grammar.specs.declared.program.expression.Expr.TheOpen.{Expr-F}
@@ -23,8 +23,7 @@ operation_saves _ = 0
 -- how many bytes a form saves
 abbrev pub form_saves : Form → ℕ
 form_saves (Op instr) = operation_saves instr.name
-form_saves (Jump name label) = 0
-form_saves (Label label) = 0
+form_saves _ = 0
 
 -- how many bytes forms save
 abbrev pub saved : List Form → ℕ
@@ -46,17 +45,13 @@ effect_saves_if (Some e) = effect_saves (out-Expr e)
 
 -- how many bytes statements save in a statement, by what its parts save
 abbrev pub stmt_saves_by : Stmt-F ℕ → ℕ
-stmt_saves_by Stmt-F.Empty = 0
 stmt_saves_by (Stmt-F.Expr e) = effect_saves (out-Expr e)
 stmt_saves_by (Stmt-F.Block ss) = sum ss
-stmt_saves_by (Stmt-F.Vars pairs) = 0
 stmt_saves_by (Stmt-F.If c s None) = s
 stmt_saves_by (Stmt-F.If c s (Some other)) = s + other
 stmt_saves_by (Stmt-F.While c s) = s
 stmt_saves_by (Stmt-F.For first c update s) = first + effect_saves_if update + s
-stmt_saves_by (Stmt-F.Break word) = 0
-stmt_saves_by (Stmt-F.Continue word) = 0
-stmt_saves_by (Stmt-F.Return e) = 0
+stmt_saves_by _ = 0
 
 -- how many bytes statements save in a statement
 unfoldable pub stmt_saves : Stmt → ℕ

@@ -10,7 +10,7 @@ use Rattle.wap_unit.specs.declared.unit.Pragma.TheVariants.{Domain, Path, Proper
 use Rattle.wap_asm.specs.declared.form.Form.{Form}
 use Rattle.wap_asm.specs.Placing.{placed}
 use Rattle.wap_grammar.specs.declared.program.program.Use.{Use}
-use Rattle.wap_grammar.specs.declared.program.program.Use.TheVariants.{Url, Access, Agent, Note}
+use Rattle.wap_grammar.specs.declared.program.program.Use.TheVariants.{Access, Agent}
 use Rattle.wap_grammar.specs.declared.program.program.Function.{Function}
 use Rattle.wap_grammar.specs.declared.program.program.Program.{Program}
 use Rattle.wap_grammar.specs.declared.program.expression.Literal.{Literal}
@@ -35,11 +35,10 @@ property number name content (Some scheme) =
 
 -- the pragmas of the unit that a pragma of the source becomes
 abbrev pub pragmas_of : (List ℕ → ℕ) → Use → List Pragma
-pragmas_of number (Url u url) = []
 pragmas_of number (Access domain path span) =
     pragma_if (λ text. Domain (number text)) domain ++ pragma_if (λ text. Path (number text)) path
 pragmas_of number (Agent name content scheme) = property number name content scheme ∷ []
-pragmas_of number Note = []
+pragmas_of number _ = []
 
 -- the number of a text among constants
 abbrev pub text_place : List Literal → List ℕ → ℕ

@@ -21,11 +21,9 @@ use Rattle.wap_grammar.specs.declared.program.statement.Stmt.TheFolds.{fold-Stmt
 -- an integer and a text that isn't empty are constants
 abbrev pub literal_wide : Literal → ℕ
 literal_wide (literal.Int number) = 3
-literal_wide literal.Float = 1
 literal_wide (literal.Str []) = 1
 literal_wide (literal.Str (c ∷ cs)) = 3
-literal_wide (literal.Bool truth) = 1
-literal_wide literal.Invalid = 1
+literal_wide _ = 1
 
 -- an assignment adds to its right side a store and a load; with an operator a load before it and
 -- the operator too
@@ -36,14 +34,7 @@ assign_wide (Some op) = 7
 -- an operator of one operand; `+` takes 0 away
 abbrev pub unary_wide : UnOp → ℕ
 unary_wide un.Plus = 2
-unary_wide un.Minus = 1
-unary_wide un.BitNot = 1
-unary_wide un.Not = 1
-unary_wide un.TypeOf = 1
-unary_wide un.IsValid = 1
-unary_wide un.ToBool = 1
-unary_wide un.Incr = 1
-unary_wide un.Decr = 1
+unary_wide _ = 1
 
 -- an operator of two operands; `&&` and `||` have a jump
 abbrev pub binary_wide : BinOp → ℕ

@@ -12,9 +12,8 @@ use Rattle.wap_grammar.specs.declared.lexeme.Lexeme.{Lexeme}
 use Rattle.wap_grammar.specs.declared.word.Word.TheVariants as word
 use Rattle.wap_grammar.specs.Values.{literal_of}
 use Rattle.wap_grammar.specs.Lexemes.{text_in}
-use Rattle.wap_meaning.specs.coding.Needs.{Need, Constant, Operator, Variable, Local, Other}
-use Rattle.wap_meaning.specs.coding.Needs.{Library}
-use Rattle.wap_meaning.specs.coding.Needs.{stmt_needs}
+pub use Rattle.wap_scope.specs.Among.{StandAmong, no_more, skip, here}
+use Rattle.wap_meaning.specs.coding.Needs.{Need, Constant, Operator, Other, stmt_needs}
 
 -- ---- what programs need
 
@@ -41,12 +40,8 @@ program_needs p = flat_map use_needs p.uses ++ flat_map function_needs p.functio
 
 -- the operator of an assignment takes both values
 abbrev pub HasOperator : Need → Type 0
-HasOperator (Constant l) = Unit {0}
 HasOperator (Operator o) = TakesBoth o
-HasOperator (Variable v) = Unit {0}
-HasOperator (Local f count) = Unit {0}
-HasOperator (Other u f) = Unit {0}
-HasOperator (Library l f count) = Unit {0}
+HasOperator _ = Unit {0}
 
 -- ---- the tokens
 
@@ -55,16 +50,10 @@ HasOperator (Library l f count) = Unit {0}
 abbrev pub StandsFor : List ℕ → Lexeme → Need → Type 0
 StandsFor src token (Constant l) = literal_of src token.span token.word ≡ Some l
 StandsFor src token (Operator o) = token.word ≡ word.Assign (Some o)
-StandsFor src token (Variable v) = Unit {0}
-StandsFor src token (Local f count) = Unit {0}
 StandsFor src token (Other u f) =
     (token.word ≡ word.Name) × (f.name ≡ text_in src token.span)
-StandsFor src token (Library l f count) = Unit {0}
+StandsFor src token _ = Unit {0}
 
 -- each need is drawn from one of the tokens from one place on up to another, in their order
-pub data Drawn (src : List ℕ) : List Lexeme → List Need → List Lexeme → Type 0 where
-  no_more : (x : List Lexeme) → Drawn src x [] x
-  skip : (l : Lexeme) (x : List Lexeme) (ns : List Need) (y : List Lexeme) → Drawn src x ns y →
-      Drawn src (l ∷ x) ns y
-  here : (l : Lexeme) (n : Need) (x : List Lexeme) (ns : List Need) (y : List Lexeme) →
-      StandsFor src l n → Drawn src x ns y → Drawn src (l ∷ x) (n ∷ ns) y
+abbrev pub Drawn : List ℕ → List Lexeme → List Need → List Lexeme → Type 0
+Drawn src = StandAmong (StandsFor src)

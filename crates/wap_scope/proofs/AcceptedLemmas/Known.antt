@@ -18,8 +18,7 @@ use Rattle.wap_scope.specs.Scoped.{is_taken, Says}
 use Rattle.wap_scope.proofs.InOrder.{InOrder}
 use Rattle.wap_scope.specs.accepted.Known.{variables, IsAmong, IsKnown, CanBeCoded, AllCanBeCoded}
 use Rattle.wap_scope.proofs.AcceptedLemmas.Places.{all_by_places, first_within, among_first}
-use Rattle.wap_scope.proofs.AcceptedLemmas.Places.{among_itself}
-use Rattle.wap_scope.proofs.AcceptedLemmas.Places.{function_there}
+use Rattle.wap_scope.proofs.AcceptedLemmas.Places.{among_itself, function_there}
 
 -- what takes a number of arguments and is there takes that number
 taken : {X : Type 0} (count : ℕ) (size : X → ℕ) (found : Option X) → IsSome found →

@@ -1,5 +1,5 @@
 -- Where what a part of a program says stands, by what its parts say.
-use Rattle.std.proofs.Common.{◌≡◌, Bool, true, List, [], ◌∷◌, ◌++◌, Option, Some, None}
+use Rattle.std.proofs.Common.{◌≡◌, ℕ, Bool, true, false, List, [], ◌∷◌, ◌++◌, Option, Some, None}
 use Rattle.std.proofs.Common.{refl, ap, ◌∙◌}
 use Rattle.std.proofs.lemmas.Grind.{flat_map-append}
 use Rattle.std.proofs.lemmas.List.Folds.{flat_map-map}
@@ -14,8 +14,21 @@ use Rattle.wap_grammar.specs.declared.program.statement.Stmt.TheVariants as stmt
 use Rattle.wap_scope.specs.Names.{Reference, Mention, Refers, references, refers}
 use Rattle.wap_scope.specs.Names.{refers_if, declares, mentions}
 use Rattle.wap_scope.specs.Places.{reference_places, mention_places}
+use Rattle.wap_grammar.specs.declared.callee.Callee.{Callee}
+use Rattle.wap_grammar.specs.declared.callee.Callee.TheVariants as callee
+use Rattle.wap_grammar.specs.Values.{called}
+use Rattle.wap_grammar.specs.Expressions.{IsCallee}
+use Rattle.wap_grammar.specs.Expressions as expressed
+use Rattle.wap_scope.specs.Among.{no_more}
+use Rattle.wap_scope.proofs.TreeNames.{of_literal, of_variable, of_assignment, of_step, of_unary}
 use Rattle.wap_scope.proofs.TreeNames.{of_chain, of_choice, of_local, of_external, of_library}
-use Rattle.wap_scope.proofs.TreeNames.{of_block, of_variables, of_if, of_else, of_while, of_for}
+use Rattle.wap_scope.proofs.TreeNames.{of_empty, of_value, of_block, of_variables, of_if, of_else}
+use Rattle.wap_scope.proofs.TreeNames.{of_while, of_for, of_break, of_continue, of_return}
+use Rattle.wap_scope.proofs.AmongLemmas.Rows.{over, at, in_a_row, Finds}
+use Rattle.wap_scope.proofs.AmongLemmas.Sayings.{Sayings, if_there, declaring}
+use Rattle.wap_grammar.specs.Statements.{IsStatement}
+use Rattle.wap_scope.proofs.AmongLemmas.Statements.{finds_statement}
+use Rattle.wap_scope.proofs.OrderLemmas.Spans.{BeginsAt}
 
 -- ---- lists
 
@@ -33,19 +46,11 @@ flat_flat f g (x ∷ xs) =
 abbrev pub expr_places : Expr → List Span
 expr_places e = flat_map reference_places (references e)
 
--- where those of expressions stand
-abbrev pub all_places : List Expr → List Span
-all_places = flat_map expr_places
-
--- where that of an operand of a chain stand
-abbrev pub operand_places : BinOp × Expr → List Span
-operand_places pair = expr_places pair.1
-
 abbrev from_references : List Reference → List Span
 from_references = flat_map reference_places
 
-pub chain_places : (e : Expr) (pairs : List (BinOp × Expr)) →
-    expr_places (expr.Chain e pairs) ≡ expr_places e ++ flat_map operand_places pairs
+chain_places : (e : Expr) (pairs : List (BinOp × Expr)) → expr_places (expr.Chain e pairs)
+    ≡ expr_places e ++ flat_map (λ (pair : BinOp × Expr). expr_places pair.1) pairs
 chain_places e pairs =
     ap from_references (of_chain e pairs)
     ∙ flat_map-append reference_places (references e)
@@ -53,7 +58,7 @@ chain_places e pairs =
     ∙ ap (λ (rest : List Span). expr_places e ++ rest)
     (flat_flat reference_places (λ (pair : BinOp × Expr). references pair.1) pairs)
 
-pub choice_places : (c first second : Expr) → expr_places (expr.Cond c first second)
+choice_places : (c first second : Expr) → expr_places (expr.Cond c first second)
     ≡ expr_places c ++ (expr_places first ++ expr_places second)
 choice_places c first second =
     ap from_references (of_choice c first second)
@@ -61,21 +66,21 @@ choice_places c first second =
     ∙ ap (λ (rest : List Span). expr_places c ++ rest)
     (flat_map-append reference_places (references first) (references second))
 
-pub local_places : (f : Id) (es : List Expr) →
-    expr_places (expr.Call f es) ≡ f.span ∷ all_places es
+local_places : (f : Id) (es : List Expr) →
+    expr_places (expr.Call f es) ≡ f.span ∷ flat_map expr_places es
 local_places f es =
     ap from_references (of_local f es)
     ∙ ap (λ (rest : List Span). f.span ∷ rest) (flat_flat reference_places references es)
 
-pub external_places : (unit f : Id) (es : List Expr) →
-    expr_places (expr.External unit f es) ≡ unit.span ∷ f.span ∷ all_places es
+external_places : (unit f : Id) (es : List Expr) →
+    expr_places (expr.External unit f es) ≡ unit.span ∷ f.span ∷ flat_map expr_places es
 external_places unit f es =
     ap from_references (of_external unit f es)
     ∙ ap (λ (rest : List Span). unit.span ∷ f.span ∷ rest)
     (flat_flat reference_places references es)
 
-pub library_places : (library f : Id) (es : List Expr) →
-    expr_places (expr.Library library f es) ≡ library.span ∷ f.span ∷ all_places es
+library_places : (library f : Id) (es : List Expr) →
+    expr_places (expr.Library library f es) ≡ library.span ∷ f.span ∷ flat_map expr_places es
 library_places library f es =
     ap from_references (of_library library f es)
     ∙ ap (λ (rest : List Span). library.span ∷ f.span ∷ rest)
@@ -91,24 +96,17 @@ said_places = flat_map mention_places
 abbrev pub stmt_places : Bool → Stmt → List Span
 stmt_places inside s = said_places (mentions s inside)
 
--- the same of a statement that may be missing
-abbrev pub other_places : Bool → Option Stmt → List Span
-other_places inside None = []
-other_places inside (Some s) = stmt_places inside s
+-- where an identifier stands, and then what it begins with
+abbrev id_places : Id → List Span
+id_places v = v.span ∷ []
 
--- the same of an expression that may be missing
-abbrev pub optional_places : Option Expr → List Span
-optional_places None = []
-optional_places (Some e) = expr_places e
+abbrev declaration_places : Id × Option Expr → List Span
+declaration_places = declaring id_places expr_places
 
--- the same of a variable and what it begins with
-abbrev pub declaration_places : Id × Option Expr → List Span
-declaration_places pair = pair.0.span ∷ optional_places pair.1
-
-pub value_places : (e : Expr) → said_places (refers e) ≡ expr_places e
+value_places : (e : Expr) → said_places (refers e) ≡ expr_places e
 value_places e = flat_map-map mention_places Refers (references e)
 
-pub value_if_places : (e : Option Expr) → said_places (refers_if e) ≡ optional_places e
+value_if_places : (e : Option Expr) → said_places (refers_if e) ≡ if_there expr_places e
 value_if_places None = refl
 value_if_places (Some e) = value_places e
 
@@ -122,13 +120,13 @@ said_declared (pair ∷ pairs) =
     (value_if_places pair.1)
     ∙ ap (λ (rest : List Span). declaration_places pair ++ rest) (said_declared pairs)
 
-pub variables_places : (inside : Bool) (pairs : List (Id × Option Expr)) →
+variables_places : (inside : Bool) (pairs : List (Id × Option Expr)) →
     stmt_places inside (stmt.Vars pairs) ≡ flat_map declaration_places pairs
 variables_places inside pairs =
     ap said_places (of_variables inside pairs)
     ∙ flat_flat mention_places declares pairs ∙ said_declared pairs
 
-pub block_places : (inside : Bool) (ss : List Stmt) →
+block_places : (inside : Bool) (ss : List Stmt) →
     stmt_places inside (stmt.Block ss) ≡ flat_map (stmt_places inside) ss
 block_places inside ss =
     ap said_places (of_block inside ss)
@@ -141,9 +139,9 @@ two_places e ms =
     flat_map-append mention_places (refers e) ms
     ∙ ap (λ (first : List Span). first ++ said_places ms) (value_places e)
 
-pub if_places : (inside : Bool) (c : Expr) (s : Stmt) (other : Option Stmt) →
+if_places : (inside : Bool) (c : Expr) (s : Stmt) (other : Option Stmt) →
     stmt_places inside (stmt.If c s other)
-    ≡ expr_places c ++ (stmt_places inside s ++ other_places inside other)
+    ≡ expr_places c ++ (stmt_places inside s ++ if_there (stmt_places inside) other)
 if_places inside c s None =
     ap said_places (of_if inside c s) ∙ two_places c (mentions s inside ++ [])
     ∙ ap (λ (rest : List Span). expr_places c ++ rest)
@@ -154,14 +152,14 @@ if_places inside c s (Some other) =
     ∙ ap (λ (rest : List Span). expr_places c ++ rest)
     (flat_map-append mention_places (mentions s inside) (mentions other inside))
 
-pub while_places : (inside : Bool) (c : Expr) (s : Stmt) →
+while_places : (inside : Bool) (c : Expr) (s : Stmt) →
     stmt_places inside (stmt.While c s) ≡ expr_places c ++ stmt_places true s
 while_places inside c s = ap said_places (of_while inside c s) ∙ two_places c (mentions s true)
 
-pub for_places : (inside : Bool) (first : Stmt) (c update : Option Expr) (s : Stmt) →
+for_places : (inside : Bool) (first : Stmt) (c update : Option Expr) (s : Stmt) →
     stmt_places inside (stmt.For first c update s)
     ≡ stmt_places inside first
-    ++ (optional_places c ++ (optional_places update ++ stmt_places true s))
+    ++ (if_there expr_places c ++ (if_there expr_places update ++ stmt_places true s))
 for_places inside first c update s =
     let last = mentions s true in
     ap said_places (of_for inside first c update s)
@@ -170,6 +168,64 @@ for_places inside first c update s =
     ∙ ap (λ (rest : List Span). stmt_places inside first ++ rest)
     (flat_map-append mention_places (refers_if c) (refers_if update ++ last)
     ∙ ap (λ (one : List Span). one ++ said_places (refers_if update ++ last)) (value_if_places c)
-    ∙ ap (λ (rest : List Span). optional_places c ++ rest)
+    ∙ ap (λ (rest : List Span). if_there expr_places c ++ rest)
     (flat_map-append mention_places (refers_if update) last
     ∙ ap (λ (one : List Span). one ++ said_places last) (value_if_places update)))
+
+-- ---- all of it
+
+-- where what a call names stands
+abbrev callee_places : Callee → List Span
+callee_places (callee.Local f) = id_places f
+callee_places (callee.External unit f) = unit.span ∷ id_places f
+callee_places (callee.Library library f) = library.span ∷ id_places f
+
+call_places : (f : Callee) (es : List Expr) →
+    expr_places (called f es) ≡ callee_places f ++ flat_map expr_places es
+call_places (callee.Local f) es = local_places f es
+call_places (callee.External unit f) es = external_places unit f es
+call_places (callee.Library library f) es = library_places library f es
+
+finds_callee : (src : List ℕ) → Finds BeginsAt callee_places (IsCallee src)
+finds_callee src x' f' x (expressed.local f x'') = at refl
+finds_callee src x' f' x _ = in_a_row (at refl) (over (at refl))
+
+-- what the parts of a program say by the places of their names
+abbrev places_said : (src : List ℕ) → Sayings src BeginsAt
+places_said src = record {
+  variable = id_places;
+  operator = λ o. [];
+  literal = λ l. [];
+  callee = λ count. callee_places;
+  jump = λ word. word ∷ [];
+  expression = expr_places;
+  statement = stmt_places;
+  at_variable = λ v x. at refl;
+  at_operator = λ o span x. over (no_more x);
+  at_literal = λ w span l x is. over (no_more x);
+  at_callee = λ count. finds_callee src;
+  at_jump = λ w word x. at refl;
+  of_literal = λ l. ap from_references (of_literal l);
+  of_variable = λ v. ap from_references (of_variable v);
+  of_step = λ v up before. ap from_references (of_step v up before);
+  of_assignment = λ v o e. ap from_references (of_assignment v o e);
+  of_unary = λ o e. ap from_references (of_unary o e);
+  of_chain = chain_places;
+  of_choice = choice_places;
+  of_call = call_places;
+  of_empty = λ inside. ap said_places (of_empty inside);
+  of_value = λ inside e. ap said_places (of_value inside e) ∙ value_places e;
+  of_block = block_places;
+  of_variables = variables_places;
+  of_if = if_places;
+  of_while = while_places;
+  of_for = for_places;
+  of_break = λ inside word. ap said_places (of_break inside word);
+  of_continue = λ inside word. ap said_places (of_continue inside word);
+  of_return = λ inside e. ap said_places (of_return inside e) ∙ value_if_places e;
+}
+
+-- the names of a statement stand among the tokens that spell it
+pub finds_stmt : (src : List ℕ) (levels : ℕ) →
+    Finds BeginsAt (stmt_places false) (IsStatement src levels)
+finds_stmt src levels = finds_statement (places_said src) levels false

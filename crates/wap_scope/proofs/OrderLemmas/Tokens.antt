@@ -6,7 +6,7 @@ use Rattle.wap_lex.specs.Tokens.{kind_of, token_before, Lexes, ends, piece}
 use Rattle.wap_lex.proofs.Longest.{reach}
 use Rattle.wap_grammar.specs.Lexemes.{lexemes_of}
 use Rattle.wap_scope.proofs.Ordered.{Apart, from_earlier}
-use Rattle.wap_scope.proofs.OrderLemmas.Among.{spans}
+use Rattle.wap_scope.proofs.OrderLemmas.Spans.{spans}
 
 -- a token before others that begin where it ends or later
 before : (src : List ℕ) (kind : Option Kind) (from to : ℕ) (tokens : List Token) → from < to →

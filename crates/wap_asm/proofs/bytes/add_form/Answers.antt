@@ -2,8 +2,7 @@ use Rattle.std.proofs.Common.{◌++◌, arith, sym, ◌∙◌, ap, subst}
 use Rattle.wap_asm.specs.declared.form.Form.TheVariants.{Op, Jump, Label}
 use Rattle.wap_asm.proofs.PassLaws.{settled_few}
 use Rattle.wap_asm.proofs.BytesLaws.{op_spelling, jump_spelling, jump_small, form_at, distance_at}
-use Rattle.wap_asm.proofs.BytesLaws.{target_small}
-use Rattle.wap_asm.proofs.BytesLaws.{on_ok_then, form_same}
+use Rattle.wap_asm.proofs.BytesLaws.{target_small, on_ok_then, form_same}
 use Rattle.std.proofs.lemmas.List.{append-nil}
 use Rattle.wap_asm.specs.Spellings.{operation_of}
 use Rattle.wap_asm.specs.Placing.{instr_bytes, form_bytes, settled}

@@ -8,46 +8,33 @@ use Rattle.wap_codegen.proofs.savings.effect_saves.Goals as goal
 
 pub returns-in-None : goal.returns-in-None
 returns-in-None c =
-    sym (of_assignment c.args.expression.now c.in-Assign.field-0 c.in-Assign.operator
-    c.in-Assign.field-2 c.in-Assign.is
-    ∙ ap (λ (o : Option BinOp). effect_saves (Expr-F.Assign c.in-Assign.field-0 o
-    c.in-Assign.field-2)) c.in-None.is)
+    sym (of_assignment _ _ _ _ c.in-Assign.is
+    ∙ ap (λ (o : Option BinOp). effect_saves
+    (Expr-F.Assign c.in-Assign.field-0 o c.in-Assign.field-2)) c.in-None.is)
 
 pub returns-in-Lit : goal.returns-in-Lit
-returns-in-Lit c =
-    sym (of_literal c.args.expression.now c.in-Lit.field-0 c.in-Lit.is)
+returns-in-Lit c = sym (of_literal _ _ c.in-Lit.is)
 
 pub returns-in-Var : goal.returns-in-Var
-returns-in-Var c =
-    sym (of_variable c.args.expression.now c.in-Var.field-0 c.in-Var.is)
+returns-in-Var c = sym (of_variable _ _ c.in-Var.is)
 
 pub returns-in-Step : goal.returns-in-Step
-returns-in-Step c =
-    sym (of_step c.args.expression.now c.in-Step.id c.in-Step.up c.in-Step.prefix c.in-Step.is)
+returns-in-Step c = sym (of_step _ _ _ _ c.in-Step.is)
 
 pub returns-in-Unary : goal.returns-in-Unary
-returns-in-Unary c =
-    sym (of_unary c.args.expression.now c.in-Unary.field-0 c.in-Unary.field-1 c.in-Unary.is)
+returns-in-Unary c = sym (of_unary _ _ _ c.in-Unary.is)
 
 pub returns-in-Chain : goal.returns-in-Chain
-returns-in-Chain c =
-    sym (of_chain c.args.expression.now c.in-Chain.field-0 c.in-Chain.field-1 c.in-Chain.is)
+returns-in-Chain c = sym (of_chain _ _ _ c.in-Chain.is)
 
 pub returns-in-Cond : goal.returns-in-Cond
-returns-in-Cond c =
-    sym (of_choice c.args.expression.now c.in-Cond.field-0 c.in-Cond.field-1 c.in-Cond.field-2
-    c.in-Cond.is)
+returns-in-Cond c = sym (of_choice _ _ _ _ c.in-Cond.is)
 
 pub returns-in-Call : goal.returns-in-Call
-returns-in-Call c =
-    sym (of_local c.args.expression.now c.in-Call.field-0 c.in-Call.field-1 c.in-Call.is)
+returns-in-Call c = sym (of_local _ _ _ c.in-Call.is)
 
 pub returns-in-External : goal.returns-in-External
-returns-in-External c =
-    sym (of_external c.args.expression.now c.in-External.field-0 c.in-External.field-1
-    c.in-External.field-2 c.in-External.is)
+returns-in-External c = sym (of_external _ _ _ _ c.in-External.is)
 
 pub returns-in-Library : goal.returns-in-Library
-returns-in-Library c =
-    sym (of_library c.args.expression.now c.in-Library.field-0 c.in-Library.field-1
-    c.in-Library.field-2 c.in-Library.is)
+returns-in-Library c = sym (of_library _ _ _ _ c.in-Library.is)

@@ -19,13 +19,13 @@ pub record Pools (needs : List Need) (old new : Numbers) : Type 0 where
 -- ---- what programs need
 
 -- a pragma: the texts that the unit keeps; a URL is one where a call needs it
-abbrev pub use_needs : Use → List Need
-use_needs (Url unit url) = []
-use_needs (Access domain path span) = text_needs domain ++ text_needs path
-use_needs (Agent name content scheme) =
+abbrev pub kept_needs : Use → List Need
+kept_needs (Url unit url) = []
+kept_needs (Access domain path span) = text_needs domain ++ text_needs path
+kept_needs (Agent name content scheme) =
     Constant (literal.Str name) ∷ Constant (literal.Str content) ∷ text_needs scheme
-use_needs Note = []
+kept_needs Note = []
 
 -- a program: its pragmas stand before its functions
-abbrev pub program_needs : Program → List Need
-program_needs p = flat_map use_needs p.uses ++ flat_map function_needs p.functions
+abbrev pub pooled_needs : Program → List Need
+pooled_needs p = flat_map kept_needs p.uses ++ flat_map function_needs p.functions

@@ -16,60 +16,45 @@ use Rattle.wap_codegen.proofs.emission.expressions.+expressions.Goals as goal
 
 pub add_expression-returns-in-Lit : goal.add_expression-returns-in-Lit
 add_expression-returns-in-Lit t c =
-    on_ok_weaker c.add_literal.result
-    (extends_same (sym (ap (expr_code c.args.numbering.now) c.in-Lit.is
-    ∙ of_literal c.args.numbering.now c.in-Lit.literal))) c.add_literal.ensures
+    on_ok_weaker _ (extends_same (sym (ap (expr_code c.args.numbering.now) c.in-Lit.is
+    ∙ of_literal _ _))) c.add_literal.ensures
 
 pub add_expression-returns-in-Var : goal.add_expression-returns-in-Var
 add_expression-returns-in-Var t c =
-    on_ok_weaker c.add_with.result
-    (extends_same (ap (λ place. with_operand op.LoadVar place) c.variable.ensures
-    ∙ sym (ap (expr_code c.args.numbering.now) c.in-Var.is
-    ∙ of_variable c.args.numbering.now c.in-Var.variable))) c.add_with.ensures
+    on_ok_weaker _ (extends_same (ap (λ place. with_operand op.LoadVar place) c.variable.ensures
+    ∙ sym (ap (expr_code c.args.numbering.now) c.in-Var.is ∙ of_variable _ _))) c.add_with.ensures
 
 pub add_expression-returns-in_ok-add_expression-in-Assign :
     goal.add_expression-returns-in_ok-add_expression-in-Assign
 add_expression-returns-in_ok-add_expression-in-Assign t c =
-    on_ok_weaker c.add_after.result
-    (extends_same (ap (λ place. assigned_code place c.in-Assign.operator
+    on_ok_weaker _ (extends_same (ap (λ place. assigned_code place c.in-Assign.operator
     (expr_code c.args.numbering.now c.in-Assign.value)) c.variable-place.ensures
     ∙ sym (ap (expr_code c.args.numbering.now) c.in-Assign.is
-    ∙ of_assignment c.args.numbering.now c.in-Assign.variable c.in-Assign.operator
-    c.in-Assign.value))) (after_assignment c.variable-place.result c.in-Assign.operator
-    (expr_code c.args.numbering.now c.in-Assign.value) c.args.forms.now.items
-    c.add_before.new.forms.items c.add_expression.new.forms.items c.add_after.new.forms.items
-    c.add_after.result c.in_ok-add_before-in-Assign.ensures
+    ∙ of_assignment _ _ _ c.in-Assign.value)))
+    (after_assignment _ _ _ _ _ _ _ _ c.in_ok-add_before-in-Assign.ensures
     (part_same c.args.numbering.now _ _ _ _ c.get.ensures c.in_ok-add_expression-in-Assign.ensures)
     c.add_after.ensures)
 
 pub add_expression-returns-in-Step : goal.add_expression-returns-in-Step
 add_expression-returns-in-Step t c =
-    on_ok_weaker c.add_step.result
-    (extends_same (ap (λ place. step_code place c.in-Step.up c.in-Step.prefix)
-    c.variable-in-Step.ensures
-    ∙ sym (ap (expr_code c.args.numbering.now) c.in-Step.is
-    ∙ of_step c.args.numbering.now c.in-Step.id c.in-Step.up c.in-Step.prefix))) c.add_step.ensures
+    on_ok_weaker _ (extends_same (ap (λ place. step_code place c.in-Step.up c.in-Step.prefix)
+    c.variable-in-Step.ensures ∙ sym (ap (expr_code c.args.numbering.now) c.in-Step.is
+    ∙ of_step _ _ _ _))) c.add_step.ensures
 
 pub add_expression-returns-in_ok-add_expression-in-Unary :
     goal.add_expression-returns-in_ok-add_expression-in-Unary
 add_expression-returns-in_ok-add_expression-in-Unary t c =
-    on_ok_weaker c.add_operator.result
-    (extends_same (sym (ap (expr_code c.args.numbering.now) c.in-Unary.is
-    ∙ of_unary c.args.numbering.now c.in-Unary.operator c.in-Unary.operand)))
-    (on_ok_weaker c.add_operator.result
-    (extends_both (part_same c.args.numbering.now _ _ _ _ c.get-in-Unary.ensures
+    on_ok_weaker _ (extends_same (sym (ap (expr_code c.args.numbering.now) c.in-Unary.is
+    ∙ of_unary _ _ _))) (on_ok_weaker _ (extends_both
+    (part_same c.args.numbering.now _ _ _ _ c.get-in-Unary.ensures
     c.in_ok-add_expression-in-Unary.ensures)) c.add_operator.ensures)
 
 pub add_expression-returns-in_ok-add_expression-in-Chain :
     goal.add_expression-returns-in_ok-add_expression-in-Chain
 add_expression-returns-in_ok-add_expression-in-Chain t c =
-    on_ok_weaker c.add_operands.result
-    (extends_same (sym (ap (expr_code c.args.numbering.now) c.in-Chain.is
-    ∙ of_chain c.args.numbering.now c.in-Chain.first c.in-Chain.operands)))
-    (after_chain c.args.numbering.now (expr_code c.args.numbering.now c.in-Chain.first)
-    c.in-Chain.operands c.args.forms.now.items c.add_expression-in-Chain.new.forms.items
-    c.add_operands.new.forms.items c.add_operands.result
-    (part_same c.args.numbering.now _ _ _ _ c.get-in-Chain.ensures
+    on_ok_weaker _ (extends_same (sym (ap (expr_code c.args.numbering.now) c.in-Chain.is
+    ∙ of_chain _ _ _))) (after_chain c.args.numbering.now _ c.in-Chain.operands _ _
+    c.add_operands.new.forms.items _ (part_same c.args.numbering.now _ _ _ _ c.get-in-Chain.ensures
     c.in_ok-add_expression-in-Chain.ensures)
     (chains_same c.args.numbering.now _ _ _ _ c.add_operands.result c.as_slice.ensures
     c.add_operands.ensures))
@@ -77,85 +62,60 @@ add_expression-returns-in_ok-add_expression-in-Chain t c =
 pub add_expression-returns-in_ok-end-in-Cond : goal.add_expression-returns-in_ok-end-in-Cond
 add_expression-returns-in_ok-end-in-Cond t c = λ exits.
     adds_same (sym (ap (expr_code c.args.numbering.now) c.in-Cond.is
-    ∙ of_choice c.args.numbering.now c.in-Cond.condition c.in-Cond.yes c.in-Cond.no))
-    (cond_adds (expr_code c.args.numbering.now c.in-Cond.condition)
-    (expr_code c.args.numbering.now c.in-Cond.yes) (expr_code c.args.numbering.now c.in-Cond.no)
-    exits c.args.forms.now.items c.add_expression-in-Cond.new.forms.items
-    c.open.new.forms.items c.add_expression-in-Cond-2.new.forms.items
-    c.open-in-Cond.new.forms.items c.add_label.new.forms.items
-    c.add_expression-in-Cond-3.new.forms.items c.add_label-in-Cond.new.forms.items
-    c.close.new.forms.items c.close-in-Cond.new.forms.items
-    c.in_ok-test-in-Cond.test c.in_ok-over-in-Cond.over c.in_ok-other-in-Cond.other
-    c.in_ok-end-in-Cond.end
-    (part_same c.args.numbering.now _ _ _ _ c.get-in-Cond.ensures
-    c.in_ok-add_expression-in-Cond.ensures exits)
-    c.in_ok-test-in-Cond.ensures.added c.in_ok-test-in-Cond.ensures.index
+    ∙ of_choice _ _ _ _)) (cond_adds (part_same c.args.numbering.now _ _ _ _ c.get-in-Cond.ensures
+    c.in_ok-add_expression-in-Cond.ensures exits) c.in_ok-test-in-Cond.ensures.added
+    c.in_ok-test-in-Cond.ensures.index
     (part_same c.args.numbering.now _ _ _ _ c.get-in-Cond-2.ensures
-    c.in_ok-add_expression-in-Cond-2.ensures exits)
-    c.in_ok-over-in-Cond.ensures.added c.in_ok-over-in-Cond.ensures.index
+    c.in_ok-add_expression-in-Cond-2.ensures exits) c.in_ok-over-in-Cond.ensures.added
+    c.in_ok-over-in-Cond.ensures.index
     (c.in_ok-other-in-Cond.ensures.added exits) c.in_ok-other-in-Cond.ensures.number
     (part_same c.args.numbering.now _ _ _ _ c.get-in-Cond-3.ensures
     c.in_ok-add_expression-in-Cond-3.ensures exits)
-    (c.in_ok-end-in-Cond.ensures.added exits) c.in_ok-end-in-Cond.ensures.number
-    c.close.ensures c.close-in-Cond.ensures)
+    (c.in_ok-end-in-Cond.ensures.added exits) c.in_ok-end-in-Cond.ensures.number c.close.ensures
+    c.close-in-Cond.ensures)
 
 pub add_expression-returns-in_ok-add_arguments-in-Call :
     goal.add_expression-returns-in_ok-add_arguments-in-Call
 add_expression-returns-in_ok-add_arguments-in-Call t c =
-    on_ok_weaker c.add_with-in-Call.result
-    (extends_same (ap (λ place. all_code (map (expr_code c.args.numbering.now) c.in-Call.arguments)
-    ⨾ with_operand op.Call place) c.function.ensures
-    ∙ sym (ap (expr_code c.args.numbering.now) c.in-Call.is
-    ∙ of_local c.args.numbering.now c.in-Call.function c.in-Call.arguments)))
-    (on_ok_weaker c.add_with-in-Call.result
-    (extends_both (parts_same c.args.numbering.now _ _ _ _ c.as_slice-in-Call.ensures
+    on_ok_weaker _ (extends_same (ap (λ place. all_code
+    (map (expr_code c.args.numbering.now) c.in-Call.arguments) ⨾ with_operand op.Call place)
+    c.function.ensures ∙ sym (ap (expr_code c.args.numbering.now) c.in-Call.is
+    ∙ of_local _ _ _))) (on_ok_weaker _ (extends_both
+    (parts_same c.args.numbering.now _ _ _ _ c.as_slice-in-Call.ensures
     c.in_ok-add_arguments-in-Call.ensures)) c.add_with-in-Call.ensures)
 
 pub add_expression-returns-in_ok-name-in-External :
     goal.add_expression-returns-in_ok-name-in-External
 add_expression-returns-in_ok-name-in-External t c =
-    on_ok_weaker c.add_op.result (extends_same (call_code
-    (all_code (map (expr_code c.args.numbering.now) c.in-External.arguments)) _ _ _ _ _ _
+    on_ok_weaker _ (extends_same (call_code (all_code
+    (map (expr_code c.args.numbering.now) c.in-External.arguments)) _ _ _ _ _ _
     c.in_ok-url-in-External.ensures c.in_ok-name-in-External.ensures c.len.ensures
     ∙ sym (ap (expr_code c.args.numbering.now) c.in-External.is
-    ∙ of_external c.args.numbering.now c.in-External.unit c.in-External.function
-    c.in-External.arguments))) (on_ok_weaker c.add_op.result
-    (extends_both (parts_same c.args.numbering.now _ _ _ _ c.as_slice-in-External.ensures
+    ∙ of_external _ _ _ _))) (on_ok_weaker _ (extends_both
+    (parts_same c.args.numbering.now _ _ _ _ c.as_slice-in-External.ensures
     c.in_ok-add_arguments-in-External.ensures)) c.add_op.ensures)
 
 pub add_expression-returns-in_ok-add_arguments-in-Library :
     goal.add_expression-returns-in_ok-add_arguments-in-Library
 add_expression-returns-in_ok-add_arguments-in-Library t c =
-    on_ok_weaker c.add_library_call.result
-    (extends_same (sym (ap (expr_code c.args.numbering.now) c.in-Library.is
-    ∙ of_library c.args.numbering.now c.in-Library.library c.in-Library.function
-    c.in-Library.arguments))) (on_ok_weaker c.add_library_call.result
-    (extends_both (parts_same c.args.numbering.now _ _ _ _ c.as_slice-in-Library.ensures
+    on_ok_weaker _ (extends_same (sym (ap (expr_code c.args.numbering.now) c.in-Library.is
+    ∙ of_library _ _ _ _))) (on_ok_weaker _ (extends_both
+    (parts_same c.args.numbering.now _ _ _ _ c.as_slice-in-Library.ensures
     c.in_ok-add_arguments-in-Library.ensures)) c.add_library_call.ensures)
 
 pub add_arguments-loop-argument-preserved : goal.add_arguments-loop-argument-preserved
 add_arguments-loop-argument-preserved t c = λ exits.
-    leaves_more (expr_code c.args.numbering.now) exits c.args.arguments.now
-    c.loop-argument.argument-index c.argument-item.result c.args.forms.now.items
-    c.loop-argument.forms.items c.add_expression.new.forms.items c.loop-argument-test.true
-    c.argument-item.is (c.loop-argument.invariant exits) (c.in_ok-add_expression.ensures exits)
+    leaves_more _ _ _ _ _ _ _ _ c.loop-argument-test.true c.argument-item.is
+    (c.loop-argument.invariant exits) (c.in_ok-add_expression.ensures exits)
 
 pub add_arguments-returns : goal.add_arguments-returns
 add_arguments-returns t c = λ exits.
-    leaves_none (expr_code c.args.numbering.now) exits c.args.arguments.now
-    c.loop-argument.argument-index c.args.forms.now.items c.loop-argument.forms.items
-    c.loop-argument-test.false (c.loop-argument.invariant exits)
+    leaves_none _ _ _ _ _ _ c.loop-argument-test.false (c.loop-argument.invariant exits)
 
 pub add_operands-loop-operand-preserved : goal.add_operands-loop-operand-preserved
 add_operands-loop-operand-preserved t c =
-    operands_more c.args.numbering.now c.args.operands.now c.loop-operand.operand-index
-    c.operand-item.result c.args.forms.now.items c.loop-operand.forms.items
-    c.end_operand.new.forms.items c.loop-operand-test.true c.operand-item.is
-    c.loop-operand.invariant
-    (λ exits. adds_same
-    (sym (c.joint_of-joint.ensures (expr_code c.args.numbering.now c.operand-item.result.1)))
-    (operand_adds c.joint_of-joint.result
-    (expr_code c.args.numbering.now c.operand-item.result.1) c.loop-operand.forms.items
-    c.begin_operand.new.forms.items c.add_expression.new.forms.items
-    c.end_operand.new.forms.items c.in_ok-jump.jump c.in_ok-jump.ensures
-    c.in_ok-add_expression.ensures c.in_ok-end_operand.ensures exits))
+    operands_more _ _ _ _ _ _ _ c.loop-operand-test.true c.operand-item.is c.loop-operand.invariant
+    (λ exits. adds_same (sym (c.joint_of-joint.ensures
+    (expr_code c.args.numbering.now c.operand-item.result.1)))
+    (operand_adds _ _ _ _ _ _ _ c.in_ok-jump.ensures c.in_ok-add_expression.ensures
+    c.in_ok-end_operand.ensures exits))

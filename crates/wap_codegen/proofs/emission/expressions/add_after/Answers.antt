@@ -10,8 +10,7 @@ returns-in-None c = rw c.in-None.is c.add_stored.ensures
 
 pub returns-in_ok-add_plain-in-Some : goal.returns-in_ok-add_plain-in-Some
 returns-in_ok-add_plain-in-Some c =
-    rw c.in-Some.is (on_ok_weaker c.add_stored-in-Some.result
-    (extends_same (ap (λ name. plain name ⨾ store_code c.args.variable ⨾ load_code c.args.variable)
-    c.binary_name.ensures))
-    (on_ok_weaker c.add_stored-in-Some.result (extends_both c.in_ok-add_plain-in-Some.ensures)
+    rw c.in-Some.is (on_ok_weaker _ (extends_same
+    (ap (λ name. plain name ⨾ store_code c.args.variable ⨾ load_code c.args.variable)
+    c.binary_name.ensures)) (on_ok_weaker _ (extends_both c.in_ok-add_plain-in-Some.ensures)
     c.add_stored-in-Some.ensures))

@@ -8,6 +8,5 @@ use Rattle.wap_codegen.proofs.emission.expressions.add_library_call.Goals as goa
 
 pub returns : goal.returns
 returns c =
-    on_ok_weaker c.add_op.result (extends_same (ap (λ (numbers : ℕ × ℕ). one
-    (λ exits at. Op (instr op.CallLib numbers.1 numbers.0 0)))
-    c.library_numbers-numbers.ensures)) c.add_op.ensures
+    on_ok_weaker _ (extends_same (ap (λ (numbers : ℕ × ℕ). one (λ exits at. Op
+    (instr op.CallLib numbers.1 numbers.0 0))) c.library_numbers-numbers.ensures)) c.add_op.ensures

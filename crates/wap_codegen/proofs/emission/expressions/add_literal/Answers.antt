@@ -12,7 +12,7 @@ use Rattle.wap_codegen.proofs.emission.expressions.add_literal.Goals as goal
 pub returns-in-Int : goal.returns-in-Int
 returns-in-Int c =
     let same : to_z w32 (of_z w32 c.in-Int.integer) ≡ c.in-Int.integer = search rules in
-    on_ok_weaker c.add_with.result
+    on_ok_weaker _
     (extends_same (ap (λ number. with_operand op.LoadConst number) (c.integer.ensures
     ∙ ap (λ integer. number_of c.args.numbering.now (literal.Int integer)) same)
     ∙ sym (ap (literal_code c.args.numbering.now) c.in-Int.is))) c.add_with.ensures
@@ -25,8 +25,8 @@ returns-in-Str c = rw c.in-Str.is (search rules)
 
 pub returns-in-Bool : goal.returns-in-Bool
 returns-in-Bool c =
-    on_ok_weaker c.add_plain-in-Bool.result
-    (extends_same (ap plain c.truth_name.ensures ∙ truth_code c.args.numbering.now c.in-Bool.truth
+    on_ok_weaker _ (extends_same (ap plain c.truth_name.ensures
+    ∙ truth_code c.args.numbering.now c.in-Bool.truth
     ∙ sym (ap (literal_code c.args.numbering.now) c.in-Bool.is))) c.add_plain-in-Bool.ensures
 
 pub returns-in-Invalid : goal.returns-in-Invalid

@@ -5,8 +5,8 @@ use Rattle.wap_codegen.proofs.emission.expressions.add_operator.Goals as goal
 
 pub returns-in_ok-add_plain-in-Plus : goal.returns-in_ok-add_plain-in-Plus
 returns-in_ok-add_plain-in-Plus c =
-    rw c.in-Plus.is (on_ok_weaker c.add_plain-in-Plus.result
-    (extends_both c.in_ok-add_plain-in-Plus.ensures) c.add_plain-in-Plus.ensures)
+    rw c.in-Plus.is (on_ok_weaker _ (extends_both c.in_ok-add_plain-in-Plus.ensures)
+    c.add_plain-in-Plus.ensures)
 
 pub returns-in-Minus : goal.returns-in-Minus
 returns-in-Minus c = rw c.in-Minus.is (search rules)

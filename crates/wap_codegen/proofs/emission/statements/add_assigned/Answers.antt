@@ -11,7 +11,7 @@ returns-in-None c = rw c.in-None.is c.add_taken.ensures
 
 pub returns-in-Some : goal.returns-in-Some
 returns-in-Some c =
-    rw c.in-Some.is (on_ok_weaker c.add_operated.result
-    (extends_same (ap (λ (name : Option OpName). named_code c.args.numbering.now c.args.place name
+    rw c.in-Some.is (on_ok_weaker _ (extends_same
+    (ap (λ (name : Option OpName). named_code c.args.numbering.now c.args.place name
     c.args.value.now (expr_code c.args.numbering.now c.args.whole.now)) c.change_of-name.ensures))
     c.add_operated.ensures)

@@ -13,68 +13,50 @@ use Rattle.wap_codegen.proofs.emission.statements.add_effect.Goals as goal
 
 pub returns-in-Assign : goal.returns-in-Assign
 returns-in-Assign c =
-    on_ok_weaker c.add_assigned.result
-    (extends_same (ap (λ place. assignment_code c.args.numbering.now place c.in-Assign.operator
-    c.get.result.now (expr_code c.args.numbering.now c.args.expression.now))
-    c.variable-place.ensures
-    ∙ ap (λ (right : Expr). assignment_code c.args.numbering.now
+    on_ok_weaker _ (extends_same (ap (λ place. assignment_code c.args.numbering.now place
+    c.in-Assign.operator c.get.result.now (expr_code c.args.numbering.now c.args.expression.now))
+    c.variable-place.ensures ∙ ap (λ (right : Expr). assignment_code c.args.numbering.now
     (variable_at c.args.numbering.now.names c.in-Assign.variable) c.in-Assign.operator right
     (expr_code c.args.numbering.now c.args.expression.now)) c.get.ensures
-    ∙ of_assignment c.args.numbering.now c.args.expression.now c.in-Assign.variable
-    c.in-Assign.operator c.in-Assign.value c.in-Assign.is)) c.add_assigned.ensures
+    ∙ of_assignment _ _ _ _ _ c.in-Assign.is)) c.add_assigned.ensures
 
 pub returns-in-Lit : goal.returns-in-Lit
 returns-in-Lit c =
-    on_ok_weaker c.add_dropped.result
-    (extends_same (of_literal c.args.numbering.now c.args.expression.now c.in-Lit.field-0
-    c.in-Lit.is)) c.add_dropped.ensures
+    on_ok_weaker _ (extends_same (of_literal _ _ _ c.in-Lit.is)) c.add_dropped.ensures
 
 pub returns-in-Var : goal.returns-in-Var
 returns-in-Var c =
-    on_ok_weaker c.add_dropped-in-Var.result
-    (extends_same (of_variable c.args.numbering.now c.args.expression.now c.in-Var.field-0
-    c.in-Var.is)) c.add_dropped-in-Var.ensures
+    on_ok_weaker _ (extends_same (of_variable _ _ _ c.in-Var.is)) c.add_dropped-in-Var.ensures
 
 pub returns-in-Step : goal.returns-in-Step
 returns-in-Step c =
-    on_ok_weaker c.add_with.result
-    (extends_same (ap (λ name. with_operand name c.variable.result) c.change_name.ensures
-    ∙ ap (λ place. with_operand (change_name c.in-Step.up) place) c.variable.ensures
-    ∙ of_step c.args.numbering.now c.args.expression.now c.in-Step.id c.in-Step.up c.in-Step.prefix
-    c.in-Step.is)) c.add_with.ensures
+    on_ok_weaker _ (extends_same (ap (λ name. with_operand name c.variable.result)
+    c.change_name.ensures ∙ ap (λ place. with_operand
+    (change_name c.in-Step.up) place) c.variable.ensures
+    ∙ of_step _ _ _ _ _ c.in-Step.is)) c.add_with.ensures
 
 pub returns-in-Unary : goal.returns-in-Unary
 returns-in-Unary c =
-    on_ok_weaker c.add_dropped-in-Unary.result
-    (extends_same (of_unary c.args.numbering.now c.args.expression.now c.in-Unary.field-0
-    c.in-Unary.field-1 c.in-Unary.is)) c.add_dropped-in-Unary.ensures
+    on_ok_weaker _ (extends_same (of_unary _ _ _ _ c.in-Unary.is)) c.add_dropped-in-Unary.ensures
 
 pub returns-in-Chain : goal.returns-in-Chain
 returns-in-Chain c =
-    on_ok_weaker c.add_dropped-in-Chain.result
-    (extends_same (of_chain c.args.numbering.now c.args.expression.now c.in-Chain.field-0
-    c.in-Chain.field-1 c.in-Chain.is)) c.add_dropped-in-Chain.ensures
+    on_ok_weaker _ (extends_same (of_chain _ _ _ _ c.in-Chain.is)) c.add_dropped-in-Chain.ensures
 
 pub returns-in-Cond : goal.returns-in-Cond
 returns-in-Cond c =
-    on_ok_weaker c.add_dropped-in-Cond.result
-    (extends_same (of_choice c.args.numbering.now c.args.expression.now c.in-Cond.field-0
-    c.in-Cond.field-1 c.in-Cond.field-2 c.in-Cond.is)) c.add_dropped-in-Cond.ensures
+    on_ok_weaker _ (extends_same (of_choice _ _ _ _ _ c.in-Cond.is)) c.add_dropped-in-Cond.ensures
 
 pub returns-in-Call : goal.returns-in-Call
 returns-in-Call c =
-    on_ok_weaker c.add_dropped-in-Call.result
-    (extends_same (of_local c.args.numbering.now c.args.expression.now c.in-Call.field-0
-    c.in-Call.field-1 c.in-Call.is)) c.add_dropped-in-Call.ensures
+    on_ok_weaker _ (extends_same (of_local _ _ _ _ c.in-Call.is)) c.add_dropped-in-Call.ensures
 
 pub returns-in-External : goal.returns-in-External
 returns-in-External c =
-    on_ok_weaker c.add_dropped-in-External.result
-    (extends_same (of_external c.args.numbering.now c.args.expression.now c.in-External.field-0
-    c.in-External.field-1 c.in-External.field-2 c.in-External.is)) c.add_dropped-in-External.ensures
+    on_ok_weaker _ (extends_same
+    (of_external _ _ _ _ _ c.in-External.is)) c.add_dropped-in-External.ensures
 
 pub returns-in-Library : goal.returns-in-Library
 returns-in-Library c =
-    on_ok_weaker c.add_dropped-in-Library.result
-    (extends_same (of_library c.args.numbering.now c.args.expression.now c.in-Library.field-0
-    c.in-Library.field-1 c.in-Library.field-2 c.in-Library.is)) c.add_dropped-in-Library.ensures
+    on_ok_weaker _ (extends_same
+    (of_library _ _ _ _ _ c.in-Library.is)) c.add_dropped-in-Library.ensures

@@ -9,14 +9,12 @@ use Rattle.wap_codegen.proofs.emission.statements.add_return.Goals as goal
 
 pub returns-in-None : goal.returns-in-None
 returns-in-None c =
-    on_ok_weaker c.add_plain.result (extends_same (sym (ap
-    (λ (value : Option Expr). stmt_code c.args.numbering.now (stmt.Return value)) c.in-None.is
-    ∙ of_return c.args.numbering.now))) c.add_plain.ensures
+    on_ok_weaker _ (extends_same (sym (ap (λ (value : Option Expr). stmt_code c.args.numbering.now
+    (stmt.Return value)) c.in-None.is ∙ of_return _))) c.add_plain.ensures
 
 pub returns-in_ok-add_expression-in-Some : goal.returns-in_ok-add_expression-in-Some
 returns-in_ok-add_expression-in-Some c =
-    on_ok_weaker c.add_plain-in-Some.result (extends_same (sym (ap
-    (λ (value : Option Expr). stmt_code c.args.numbering.now (stmt.Return value)) c.in-Some.is
-    ∙ of_return_of c.args.numbering.now c.in-Some.value)))
-    (on_ok_weaker c.add_plain-in-Some.result (extends_both c.in_ok-add_expression-in-Some.ensures)
-    c.add_plain-in-Some.ensures)
+    on_ok_weaker _ (extends_same (sym (ap (λ (value : Option Expr). stmt_code c.args.numbering.now
+    (stmt.Return value)) c.in-Some.is
+    ∙ of_return_of _ c.in-Some.value))) (on_ok_weaker _
+    (extends_both c.in_ok-add_expression-in-Some.ensures) c.add_plain-in-Some.ensures)

@@ -5,5 +5,4 @@ use Rattle.wap_codegen.proofs.emission.statements.add_update.Goals as goal
 
 pub returns-in-Some : goal.returns-in-Some
 returns-in-Some c =
-    rw c.in-Some.is (on_ok_weaker c.add_effect.result
-    (extends_same (of_value c.args.numbering.now c.in-Some.update.now)) c.add_effect.ensures)
+    rw c.in-Some.is (on_ok_weaker _ (extends_same (of_value _ _)) c.add_effect.ensures)

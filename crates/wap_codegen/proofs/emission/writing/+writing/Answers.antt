@@ -39,14 +39,12 @@ third_of_three true b c is also = absurd (cc is)
 pub writes-returns-in-Lit : goal.writes-returns-in-Lit
 writes-returns-in-Lit t c =
     let does : Expr → Bool = λ e. writes c.args.numbering.now.names e c.args.variable in
-    sym (ap does c.in-Lit.is
-    ∙ of_literal c.args.numbering.now.names c.args.variable c.in-Lit.field-0)
+    sym (ap does c.in-Lit.is ∙ of_literal _ _ _)
 
 pub writes-returns-in-Var : goal.writes-returns-in-Var
 writes-returns-in-Var t c =
     let does : Expr → Bool = λ e. writes c.args.numbering.now.names e c.args.variable in
-    sym (ap does c.in-Var.is
-    ∙ of_variable c.args.numbering.now.names c.args.variable c.in-Var.field-0)
+    sym (ap does c.in-Var.is ∙ of_variable _ _ _)
 
 pub writes-returns-then-variable : goal.writes-returns-then-variable
 writes-returns-then-variable t c =
@@ -54,9 +52,7 @@ writes-returns-then-variable t c =
     by_first (eqb c.variable.result c.args.variable) (does c.in-Assign.value)
     (eq-eqb c.variable.result c.args.variable c.if-variable.true)
     ∙ ap (λ place. eqb place c.args.variable || does c.in-Assign.value) c.variable.ensures
-    ∙ sym (ap does c.in-Assign.is
-    ∙ of_assignment c.args.numbering.now.names c.args.variable c.in-Assign.id c.in-Assign.field-1
-    c.in-Assign.value)
+    ∙ sym (ap does c.in-Assign.is ∙ of_assignment _ _ _ _ _)
 
 pub writes-returns-else-variable : goal.writes-returns-else-variable
 writes-returns-else-variable t c =
@@ -65,24 +61,19 @@ writes-returns-else-variable t c =
     ∙ by_second (eqb c.variable.result c.args.variable) (does c.in-Assign.value)
     (ne_eqb c.variable.result c.args.variable c.if-variable.false)
     ∙ ap (λ place. eqb place c.args.variable || does c.in-Assign.value) c.variable.ensures
-    ∙ sym (ap does c.in-Assign.is
-    ∙ of_assignment c.args.numbering.now.names c.args.variable c.in-Assign.id c.in-Assign.field-1
-    c.in-Assign.value)
+    ∙ sym (ap does c.in-Assign.is ∙ of_assignment _ _ _ _ _)
 
 pub writes-returns-in-Step : goal.writes-returns-in-Step
 writes-returns-in-Step t c =
     let does : Expr → Bool = λ e. writes c.args.numbering.now.names e c.args.variable in
     ap (λ place. eqb place c.args.variable) c.variable-in-Step.ensures
-    ∙ sym (ap does c.in-Step.is
-    ∙ of_step c.args.numbering.now.names c.args.variable c.in-Step.id c.in-Step.up
-    c.in-Step.prefix)
+    ∙ sym (ap does c.in-Step.is ∙ of_step _ _ _ _ _)
 
 pub writes-returns-in-Unary : goal.writes-returns-in-Unary
 writes-returns-in-Unary t c =
     let does : Expr → Bool = λ e. writes c.args.numbering.now.names e c.args.variable in
     c.writes-in-Unary.ensures ∙ ap does c.get-in-Unary.ensures
-    ∙ sym (ap does c.in-Unary.is
-    ∙ of_unary c.args.numbering.now.names c.args.variable c.in-Unary.field-0 c.in-Unary.operand)
+    ∙ sym (ap does c.in-Unary.is ∙ of_unary _ _ _ _)
 
 pub writes-returns-then-writes : goal.writes-returns-then-writes
 writes-returns-then-writes t c =
@@ -92,8 +83,7 @@ writes-returns-then-writes t c =
     by_first c.writes-in-Chain.result (any c.in-Chain.operands) c.if-writes.true
     ∙ ap (λ truth. truth || any c.in-Chain.operands)
     (c.writes-in-Chain.ensures ∙ ap does c.get-in-Chain.ensures)
-    ∙ sym (ap does c.in-Chain.is
-    ∙ of_chain c.args.numbering.now.names c.args.variable c.in-Chain.first c.in-Chain.operands)
+    ∙ sym (ap does c.in-Chain.is ∙ of_chain _ _ _ _)
 
 pub writes-returns-else-writes : goal.writes-returns-else-writes
 writes-returns-else-writes t c =
@@ -104,17 +94,14 @@ writes-returns-else-writes t c =
     ∙ by_second c.writes-in-Chain.result (any c.in-Chain.operands) c.if-writes.false
     ∙ ap (λ truth. truth || any c.in-Chain.operands)
     (c.writes-in-Chain.ensures ∙ ap does c.get-in-Chain.ensures)
-    ∙ sym (ap does c.in-Chain.is
-    ∙ of_chain c.args.numbering.now.names c.args.variable c.in-Chain.first c.in-Chain.operands)
+    ∙ sym (ap does c.in-Chain.is ∙ of_chain _ _ _ _)
 
 pub writes-returns-then-writes-2 : goal.writes-returns-then-writes-2
 writes-returns-then-writes-2 t c =
     let does : Expr → Bool = λ e. writes c.args.numbering.now.names e c.args.variable in
     first_of_three (does c.in-Cond.condition) (does c.in-Cond.yes) (does c.in-Cond.no)
     (sym (c.writes-in-Cond.ensures ∙ ap does c.get-in-Cond.ensures) ∙ c.if-writes-2.true)
-    ∙ sym (ap does c.in-Cond.is
-    ∙ of_choice c.args.numbering.now.names c.args.variable c.in-Cond.condition c.in-Cond.yes
-    c.in-Cond.no)
+    ∙ sym (ap does c.in-Cond.is ∙ of_choice _ _ _ _ _)
 
 pub writes-returns-then-writes-3 : goal.writes-returns-then-writes-3
 writes-returns-then-writes-3 t c =
@@ -122,9 +109,7 @@ writes-returns-then-writes-3 t c =
     second_of_three (does c.in-Cond.condition) (does c.in-Cond.yes) (does c.in-Cond.no)
     (sym (c.writes-in-Cond.ensures ∙ ap does c.get-in-Cond.ensures) ∙ c.if-writes-2.false)
     (sym (c.writes-in-Cond-2.ensures ∙ ap does c.get-in-Cond-2.ensures) ∙ c.if-writes-3.true)
-    ∙ sym (ap does c.in-Cond.is
-    ∙ of_choice c.args.numbering.now.names c.args.variable c.in-Cond.condition c.in-Cond.yes
-    c.in-Cond.no)
+    ∙ sym (ap does c.in-Cond.is ∙ of_choice _ _ _ _ _)
 
 pub writes-returns-else-writes-3 : goal.writes-returns-else-writes-3
 writes-returns-else-writes-3 t c =
@@ -133,9 +118,7 @@ writes-returns-else-writes-3 t c =
     ∙ third_of_three (does c.in-Cond.condition) (does c.in-Cond.yes) (does c.in-Cond.no)
     (sym (c.writes-in-Cond.ensures ∙ ap does c.get-in-Cond.ensures) ∙ c.if-writes-2.false)
     (sym (c.writes-in-Cond-2.ensures ∙ ap does c.get-in-Cond-2.ensures) ∙ c.if-writes-3.false)
-    ∙ sym (ap does c.in-Cond.is
-    ∙ of_choice c.args.numbering.now.names c.args.variable c.in-Cond.condition c.in-Cond.yes
-    c.in-Cond.no)
+    ∙ sym (ap does c.in-Cond.is ∙ of_choice _ _ _ _ _)
 
 pub writes-returns-in-Call : goal.writes-returns-in-Call
 writes-returns-in-Call t c =
@@ -143,9 +126,7 @@ writes-returns-in-Call t c =
     let any : List Expr → Bool = λ es.
     list_any (λ e. writes c.args.numbering.now.names e c.args.variable) es in
     c.an_argument_writes.ensures ∙ ap any c.as_slice-in-Call.ensures
-    ∙ sym (ap does c.in-Call.is
-    ∙ of_local c.args.numbering.now.names c.args.variable c.in-Call.field-0
-    c.in-Call.arguments)
+    ∙ sym (ap does c.in-Call.is ∙ of_local _ _ _ _)
 
 pub writes-returns-in-External : goal.writes-returns-in-External
 writes-returns-in-External t c =
@@ -153,10 +134,7 @@ writes-returns-in-External t c =
     let any : List Expr → Bool = λ es.
     list_any (λ e. writes c.args.numbering.now.names e c.args.variable) es in
     c.an_argument_writes-in-External.ensures ∙ ap any c.as_slice-in-External.ensures
-    ∙ sym (ap does c.in-External.is
-    ∙ of_external c.args.numbering.now.names c.args.variable
-    c.in-External.field-0 c.in-External.field-1
-    c.in-External.arguments)
+    ∙ sym (ap does c.in-External.is ∙ of_external _ _ _ _ _)
 
 pub writes-returns-in-Library : goal.writes-returns-in-Library
 writes-returns-in-Library t c =
@@ -164,7 +142,4 @@ writes-returns-in-Library t c =
     let any : List Expr → Bool = λ es.
     list_any (λ e. writes c.args.numbering.now.names e c.args.variable) es in
     c.an_argument_writes-in-Library.ensures ∙ ap any c.as_slice-in-Library.ensures
-    ∙ sym (ap does c.in-Library.is
-    ∙ of_library c.args.numbering.now.names c.args.variable
-    c.in-Library.field-0 c.in-Library.field-1
-    c.in-Library.arguments)
+    ∙ sym (ap does c.in-Library.is ∙ of_library _ _ _ _ _)

@@ -8,7 +8,7 @@ use Rattle.wap_codegen.proofs.pool.expressions.add_literal.Goals as goal
 pub returns-in-Int : goal.returns-in-Int
 returns-in-Int c =
     let same : to_z w32 (of_z w32 c.in-Int.integer) ≡ c.in-Int.integer = search rules in
-    on_ok_weaker c.add_integer.result
+    on_ok_weaker _
     (pools_same (ap (λ integer. Constant (literal.Int integer) ∷ []) same
     ∙ ap literal_needs (sym c.in-Int.is)))
     (after_one (literal.Int (to_z w32 (of_z w32 c.in-Int.integer))) _ _ c.add_integer.result
@@ -19,8 +19,7 @@ returns-in-Float c = pools_same (ap literal_needs (sym c.in-Float.is)) (pools_no
 
 pub returns-in-Str : goal.returns-in-Str
 returns-in-Str c =
-    on_ok_weaker c.add_string.result (pools_same (ap literal_needs (sym c.in-Str.is)))
-    c.add_string.ensures
+    on_ok_weaker _ (pools_same (ap literal_needs (sym c.in-Str.is))) c.add_string.ensures
 
 pub returns-in-Bool : goal.returns-in-Bool
 returns-in-Bool c = pools_same (ap literal_needs (sym c.in-Bool.is)) (pools_none _ _ refl)

@@ -10,6 +10,6 @@ returns-in-None c = pools_same (ap text_needs (sym c.in-None.is)) (pools_none _ 
 
 pub returns-in-Some : goal.returns-in-Some
 returns-in-Some c =
-    on_ok_weaker c.add_text.result (pools_same (ap text_needs (sym c.in-Some.is)))
-    (after_one (literal.Str c.in-Some.text) _ _ c.add_text.result c.add_text.ensures.names
+    on_ok_weaker _ (pools_same (ap text_needs (sym c.in-Some.is))) (after_one
+    (literal.Str c.in-Some.text) _ _ c.add_text.result c.add_text.ensures.names
     c.add_text.ensures.pool)

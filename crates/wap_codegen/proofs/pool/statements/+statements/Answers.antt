@@ -20,99 +20,81 @@ add_statement-returns-in-Empty t c =
 
 pub add_statement-returns-in-Break : goal.add_statement-returns-in-Break
 add_statement-returns-in-Break t c =
-    pools_same (sym (ap stmt_needs c.in-Break.is ∙ of_break c.in-Break.field-0))
-    (pools_none _ _ refl)
+    pools_same (sym (ap stmt_needs c.in-Break.is ∙ of_break _)) (pools_none _ _ refl)
 
 pub add_statement-returns-in-Continue : goal.add_statement-returns-in-Continue
 add_statement-returns-in-Continue t c =
-    pools_same (sym (ap stmt_needs c.in-Continue.is ∙ of_continue c.in-Continue.field-0))
-    (pools_none _ _ refl)
+    pools_same (sym (ap stmt_needs c.in-Continue.is ∙ of_continue _)) (pools_none _ _ refl)
 
 pub add_statement-returns-in-Expr : goal.add_statement-returns-in-Expr
 add_statement-returns-in-Expr t c =
-    on_ok_weaker c.add_expression.result
-    (pools_same (sym (ap stmt_needs c.in-Expr.is ∙ of_value c.in-Expr.value)))
-    c.add_expression.ensures
+    on_ok_weaker _ (pools_same (sym (ap stmt_needs c.in-Expr.is
+    ∙ of_value c.in-Expr.value))) c.add_expression.ensures
 
 pub add_statement-returns-in-Block : goal.add_statement-returns-in-Block
 add_statement-returns-in-Block t c =
-    on_ok_weaker c.add_statements.result
-    (pools_same (ap (λ (ss : List Stmt). flat_map stmt_needs ss) c.as_slice.ensures
-    ∙ (sym (ap stmt_needs c.in-Block.is ∙ of_block c.in-Block.inner)))) c.add_statements.ensures
+    on_ok_weaker _ (pools_same (ap (λ (ss : List Stmt). flat_map stmt_needs ss) c.as_slice.ensures
+    ∙ (sym (ap stmt_needs c.in-Block.is ∙ of_block _)))) c.add_statements.ensures
 
 pub add_statement-returns-in-Vars : goal.add_statement-returns-in-Vars
 add_statement-returns-in-Vars t c =
-    on_ok_weaker c.add_declarations.result
-    (pools_same (ap (λ (pairs : List (Id × Option Expr)). flat_map declared_needs pairs)
-    c.as_slice-in-Vars.ensures
-    ∙ (sym (ap stmt_needs c.in-Vars.is ∙ of_variables c.in-Vars.pairs)))) c.add_declarations.ensures
+    on_ok_weaker _ (pools_same (ap (λ (pairs : List
+    (Id × Option Expr)). flat_map declared_needs pairs) c.as_slice-in-Vars.ensures
+    ∙ (sym (ap stmt_needs c.in-Vars.is ∙ of_variables _)))) c.add_declarations.ensures
 
 pub add_statement-returns-in-None : goal.add_statement-returns-in-None
 add_statement-returns-in-None t c =
-    pools_same
-    (ap (λ (s : Stmt). expr_needs c.in-If.condition ++ (stmt_needs s ++ [])) c.get.ensures
-    ∙ sym (ap stmt_needs (c.in-If.is
+    pools_same (ap (λ (s : Stmt). expr_needs c.in-If.condition ++
+    (stmt_needs s ++ [])) c.get.ensures ∙ sym (ap stmt_needs (c.in-If.is
     ∙ ap (λ (other : Option Stmt). stmt.If c.in-If.condition c.in-If.body other) c.in-None.is)
-    ∙ of_if c.in-If.condition c.in-If.body))
-    (pools_both c.in_ok-add_expression-in-If.ensures
+    ∙ of_if _ _)) (pools_both c.in_ok-add_expression-in-If.ensures
     (pools_both c.in_ok-add_statement-in-If.ensures (pools_none _ _ refl)))
 
 pub add_statement-returns-in-Some : goal.add_statement-returns-in-Some
 add_statement-returns-in-Some t c =
-    on_ok_weaker c.add_statement-in-Some.result
-    (pools_same (ap (λ (s : Stmt). expr_needs c.in-If.condition ++ (stmt_needs s ++ stmt_needs
-    c.get-in-Some.result.now)) c.get.ensures
-    ∙ ap (λ (s : Stmt). expr_needs c.in-If.condition ++ (stmt_needs c.in-If.body
-    ++ stmt_needs s)) c.get-in-Some.ensures
+    on_ok_weaker _ (pools_same (ap (λ (s : Stmt). expr_needs c.in-If.condition ++
+    (stmt_needs s ++ stmt_needs c.get-in-Some.result.now)) c.get.ensures
+    ∙ ap (λ (s : Stmt). expr_needs c.in-If.condition ++
+    (stmt_needs c.in-If.body ++ stmt_needs s)) c.get-in-Some.ensures
     ∙ sym (ap stmt_needs (c.in-If.is
     ∙ ap (λ (other : Option Stmt). stmt.If c.in-If.condition c.in-If.body other) c.in-Some.is)
-    ∙ of_else c.in-If.condition c.in-If.body c.in-Some.other)))
-    (on_ok_weaker c.add_statement-in-Some.result (pools_both c.in_ok-add_expression-in-If.ensures)
-    (on_ok_weaker c.add_statement-in-Some.result (pools_both c.in_ok-add_statement-in-If.ensures)
+    ∙ of_else _ _ _))) (on_ok_weaker _ (pools_both c.in_ok-add_expression-in-If.ensures)
+    (on_ok_weaker _ (pools_both c.in_ok-add_statement-in-If.ensures)
     c.add_statement-in-Some.ensures))
 
 pub add_statement-returns-in_ok-add_expression-in-While :
     goal.add_statement-returns-in_ok-add_expression-in-While
 add_statement-returns-in_ok-add_expression-in-While t c =
-    on_ok_weaker c.add_statement-in-While.result
-    (pools_same (ap (λ (s : Stmt). expr_needs c.in-While.condition ++ stmt_needs s)
-    c.get-in-While.ensures
-    ∙ (sym (ap stmt_needs c.in-While.is ∙ of_while c.in-While.condition c.in-While.body))))
-    (on_ok_weaker c.add_statement-in-While.result
-    (pools_both c.in_ok-add_expression-in-While.ensures) c.add_statement-in-While.ensures)
+    on_ok_weaker _ (pools_same (ap (λ (s : Stmt). expr_needs c.in-While.condition ++ stmt_needs s)
+    c.get-in-While.ensures ∙ (sym (ap stmt_needs c.in-While.is
+    ∙ of_while _ _)))) (on_ok_weaker _ (pools_both c.in_ok-add_expression-in-While.ensures)
+    c.add_statement-in-While.ensures)
 
 pub add_statement-returns-in_ok-add_optional-in-For-2 :
     goal.add_statement-returns-in_ok-add_optional-in-For-2
 add_statement-returns-in_ok-add_optional-in-For-2 t c =
     let rest : List Need = optional_needs c.in-For.condition
     ++ (optional_needs c.in-For.update ++ stmt_needs c.get-in-For-2.result.now) in
-    on_ok_weaker c.add_statement-in-For-2.result
+    on_ok_weaker _
     (pools_same (ap (λ (s : Stmt). stmt_needs s ++ rest) c.get-in-For.ensures
     ∙ ap (λ (s : Stmt). stmt_needs c.in-For.first ++ (optional_needs c.in-For.condition
     ++ (optional_needs c.in-For.update ++ stmt_needs s))) c.get-in-For-2.ensures
-    ∙ sym (ap stmt_needs c.in-For.is
-    ∙ of_for c.in-For.first c.in-For.condition c.in-For.update c.in-For.body)))
-    (on_ok_weaker c.add_statement-in-For-2.result (pools_both c.in_ok-add_statement-in-For.ensures)
-    (on_ok_weaker c.add_statement-in-For-2.result (pools_both c.in_ok-add_optional-in-For.ensures)
-    (on_ok_weaker c.add_statement-in-For-2.result (pools_both c.in_ok-add_optional-in-For-2.ensures)
+    ∙ sym (ap stmt_needs c.in-For.is ∙ of_for _ _ _ _)))
+    (on_ok_weaker _ (pools_both c.in_ok-add_statement-in-For.ensures)
+    (on_ok_weaker _ (pools_both c.in_ok-add_optional-in-For.ensures)
+    (on_ok_weaker _ (pools_both c.in_ok-add_optional-in-For-2.ensures)
     c.add_statement-in-For-2.ensures)))
 
 pub add_statement-returns-in-Return : goal.add_statement-returns-in-Return
 add_statement-returns-in-Return t c =
-    on_ok_weaker c.add_optional-in-Return.result
-    (pools_same (sym (ap stmt_needs c.in-Return.is ∙ of_return c.in-Return.value)))
-    c.add_optional-in-Return.ensures
+    on_ok_weaker _ (pools_same (sym (ap stmt_needs c.in-Return.is
+    ∙ of_return c.in-Return.value))) c.add_optional-in-Return.ensures
 
 pub add_statements-loop-statement-preserved : goal.add_statements-loop-statement-preserved
 add_statements-loop-statement-preserved t c =
-    leaves_more stmt_needs c.args.statements.now
-    c.loop-statement.statement-index c.statement-item.result c.args.numbering.now
-    c.loop-statement.numbering c.add_statement.new.numbering
-    c.loop-statement-test.true c.statement-item.is
+    leaves_more _ _ _ _ _ _ _ c.loop-statement-test.true c.statement-item.is
     c.loop-statement.invariant c.in_ok-add_statement.ensures
 
 pub add_statements-returns : goal.add_statements-returns
 add_statements-returns t c =
-    leaves_none stmt_needs c.args.statements.now c.loop-statement.statement-index
-    c.args.numbering.now c.loop-statement.numbering c.loop-statement-test.false
-    c.loop-statement.invariant
+    leaves_none _ _ _ _ _ c.loop-statement-test.false c.loop-statement.invariant

@@ -4,14 +4,9 @@ use Rattle.wap_codegen.proofs.pool.statements.add_declarations.Goals as goal
 
 pub loop-pair-preserved : goal.loop-pair-preserved
 loop-pair-preserved c =
-    leaves_more declared_needs c.args.pairs.now
-    c.loop-pair.pair-index c.pair-item.result c.args.numbering.now c.loop-pair.numbering
-    c.add_optional.new.numbering c.loop-pair-test.true c.pair-item.is
-    c.loop-pair.invariant
-    (pools_variable c.pair-item.result.0 (optional_needs c.pair-item.result.1) _ _
-    c.in_ok-add_optional.ensures)
+    leaves_more declared_needs _ _ _ _ _ _ c.loop-pair-test.true c.pair-item.is
+    c.loop-pair.invariant (pools_variable c.pair-item.result.0
+    (optional_needs c.pair-item.result.1) _ _ c.in_ok-add_optional.ensures)
 
 pub returns : goal.returns
-returns c =
-    leaves_none declared_needs c.args.pairs.now c.loop-pair.pair-index
-    c.args.numbering.now c.loop-pair.numbering c.loop-pair-test.false c.loop-pair.invariant
+returns c = leaves_none declared_needs _ _ _ _ c.loop-pair-test.false c.loop-pair.invariant

@@ -8,11 +8,8 @@ loop-pair-init c = leaves_all declares c.args.pairs.now c.args.names.now
 
 pub loop-pair-preserved : goal.loop-pair-preserved
 loop-pair-preserved c =
-    leaves_more declares c.args.pairs.now c.loop-pair.pair-index c.pair-item.result
-    c.args.names.now c.loop-pair.names c.add.new.self c.loop-pair-test.true c.pair-item.is
-    c.loop-pair.invariant (declares_name c.pair-item.result _ _ c.in_ok-add.ensures)
+    leaves_more _ _ _ _ _ _ _ c.loop-pair-test.true c.pair-item.is c.loop-pair.invariant
+    (declares_name c.pair-item.result _ _ c.in_ok-add.ensures)
 
 pub returns : goal.returns
-returns c =
-    leaves_none declares c.args.pairs.now c.loop-pair.pair-index c.args.names.now
-    c.loop-pair.names c.loop-pair-test.false c.loop-pair.invariant
+returns c = leaves_none _ _ _ _ _ c.loop-pair-test.false c.loop-pair.invariant

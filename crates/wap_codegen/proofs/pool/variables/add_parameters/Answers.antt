@@ -10,13 +10,10 @@ loop-param-init c = leaves_all (λ (v : Id). Declares v ∷ []) c.args.params.no
 
 pub loop-param-preserved : goal.loop-param-preserved
 loop-param-preserved c =
-    leaves_more (λ (v : Id). Declares v ∷ []) c.args.params.now c.loop-param.param-index
-    c.param-item.result c.args.names.now c.loop-param.names c.add.new.self
-    c.loop-param-test.true c.param-item.is c.loop-param.invariant
+    leaves_more _ _ _ _ _ _ _ c.loop-param-test.true c.param-item.is c.loop-param.invariant
     (declares_parameter c.param-item.result _ _ c.in_ok-add.ensures)
 
 pub returns : goal.returns
 returns c =
     declaring_same (parameters_flat c.args.params.now)
-    (leaves_none (λ (v : Id). Declares v ∷ []) c.args.params.now c.loop-param.param-index
-    c.args.names.now c.loop-param.names c.loop-param-test.false c.loop-param.invariant)
+    (leaves_none _ _ _ _ _ c.loop-param-test.false c.loop-param.invariant)
