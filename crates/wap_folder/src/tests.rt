@@ -1,4 +1,4 @@
-//! That two jobs are at work at once, and answers for some numbers of jobs and workers.
+//! That four jobs are at work at once, and answers for some numbers of jobs and workers.
 ghost use Rattle.std.specs.Prelude.{◌≡◌, ◌*◌};
 
 use crate::{Work, run_jobs};
@@ -8,7 +8,7 @@ use std::test::Fail;
 use std::thread;
 use wap_devices::{Gate, NoGate};
 
-/// How often a job looks for the other before it gives up.
+/// How often a job looks for the others before it gives up.
 const TURNS: u64 = 100_000_000;
 
 /// After so many looks a job lets other threads run.
@@ -30,28 +30,18 @@ impl Work for Squares {
     }
 }
 
-/// Where each of two jobs waits until the other has been here as often.
+/// Where each job waits until four have come that haven't met yet, so that each four meet.
 #[derive(Drop)]
 struct Meeting {
-    first: AtomicU64,
-    second: AtomicU64,
+    came: AtomicU64,
     failures: AtomicU64,
 }
 
-impl Meeting {
-    fn new() -> Meeting {
-        Meeting {
-            first: AtomicU64::new(0),
-            second: AtomicU64::new(0),
-            failures: AtomicU64::new(0),
-        }
-    }
-
-    /// Raises one count, and waits until the other is as great.
-    fn meet(&self, mine: &AtomicU64, other: &AtomicU64) {
-        let count = mine.fetch_add(1, Ordering::SeqCst).wrapping_add(1);
+impl Gate for Meeting {
+    fn pass(&self, _job: usize) {
+        let last = self.came.fetch_add(1, Ordering::SeqCst) | 3;
         for turn in 0..TURNS {
-            if other.load(Ordering::SeqCst) >= count {
+            if self.came.load(Ordering::SeqCst) > last {
                 return;
             }
             if turn % LOOKS == 0 {
@@ -62,25 +52,18 @@ impl Meeting {
     }
 }
 
-impl Gate for Meeting {
-    fn pass(&self, job: usize) {
-        if job == 0 {
-            self.meet(&self.first, &self.second);
-        } else {
-            self.meet(&self.second, &self.first);
-        }
-    }
-}
-
 #[test]
-fn two_jobs_meet(rt: HostRuntime) -> Result<(), Fail> {
-    let gate = Meeting::new();
-    let jobs = [3, 4];
-    let answers = run_jobs(&rt, rt.alloc(), &Squares, &jobs, 2, &gate)?;
-    assert_eq!(rt; answers.as_slice(), [9, 16].as_slice());
+fn four_workers_meet_at_each_job(rt: HostRuntime) -> Result<(), Fail> {
+    let gate = Meeting {
+        came: AtomicU64::new(0),
+        failures: AtomicU64::new(0),
+    };
+    let jobs = [1, 2, 3, 4, 5, 6, 7, 8, 9, 10, 11, 12];
+    let all = [1u64, 4, 9, 16, 25, 36, 49, 64, 81, 100, 121, 144];
+    let answers = run_jobs(&rt, rt.alloc(), &Squares, &jobs, 4, &gate)?;
+    assert_eq!(rt; answers.as_slice(), all.as_slice());
     assert_eq!(rt; gate.failures.load(Ordering::SeqCst), 0);
-    assert_eq!(rt; gate.first.load(Ordering::SeqCst), 1);
-    assert_eq!(rt; gate.second.load(Ordering::SeqCst), 1);
+    assert_eq!(rt; gate.came.load(Ordering::SeqCst), 12);
     Ok(())
 }
 

@@ -1,9 +1,8 @@
 -- The library Float (WAP-194, "Float"): there are no Floats, so each function gives invalid.
 use Rattle.wap_value.specs.declared.value.Value.TheVariants.{Invalid}
 use Rattle.wap_libs.specs.declared.function.FloatFunction.{FloatFunction}
-use Rattle.wap_libs.specs.declared.function.FloatFunction.TheVariants.{Int, Floor, Ceil, Pow}
-use Rattle.wap_libs.specs.declared.function.FloatFunction.TheVariants.{Round, Sqrt, MaxFloat}
-use Rattle.wap_libs.specs.declared.function.FloatFunction.TheVariants.{MinFloat}
+use Rattle.wap_libs.specs.declared.function.FloatFunction.TheVariants.{Int, Floor, Ceil, Pow, Round}
+use Rattle.wap_libs.specs.declared.function.FloatFunction.TheVariants.{Sqrt, MaxFloat, MinFloat}
 use Rattle.wap_libs.specs.Row.{Formula, of_none, of_one, of_two}
 
 -- each function at its name

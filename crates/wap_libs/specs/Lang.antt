@@ -13,23 +13,11 @@ use Rattle.wap_value.specs.Conversion.{integer_of, text_of, integer_value}
 use Rattle.wap_libs.specs.declared.outcome.LibOut.{LibOut}
 use Rattle.wap_libs.specs.declared.outcome.LibOut.TheVariants.{Exit as Exits, Abort as Aborts}
 use Rattle.wap_libs.specs.declared.function.LangFunction.{LangFunction}
-use Rattle.wap_libs.specs.declared.function.LangFunction.TheVariants.{
-  Abs,
-  Min,
-  Max,
-  ParseInt,
-  ParseFloat,
-  IsInt,
-  IsFloat,
-  MaxInt,
-  MinInt,
-  Float,
-  Exit,
-  Abort,
-  Random,
-  Seed,
-  CharacterSet,
-}
+use Rattle.wap_libs.specs.declared.function.LangFunction.TheVariants.{Abs, Min, Max, ParseInt}
+use Rattle.wap_libs.specs.declared.function.LangFunction.TheVariants.{ParseFloat, IsInt, IsFloat}
+use Rattle.wap_libs.specs.declared.function.LangFunction.TheVariants.{MaxInt, MinInt, Float, Exit}
+use Rattle.wap_libs.specs.declared.function.LangFunction.TheVariants.{Abort, Random, Seed}
+use Rattle.wap_libs.specs.declared.function.LangFunction.TheVariants.{CharacterSet}
 use Rattle.wap_libs.specs.Arguments.{on_integer, on_text, number}
 use Rattle.wap_libs.specs.Characters.{behind_blanks}
 use Rattle.wap_libs.specs.Generator.{Generator, started_from, next_word, after_word}

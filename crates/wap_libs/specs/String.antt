@@ -9,24 +9,12 @@ use Rattle.wap_value.specs.declared.value.Value.TheVariants.{Int, Bool as Boolea
 use Rattle.wap_value.specs.Conversion.{text_of, text_value, is_empty}
 use Rattle.wap_value.specs.Unary.{is_valid}
 use Rattle.wap_libs.specs.declared.function.StringFunction.{StringFunction}
-use Rattle.wap_libs.specs.declared.function.StringFunction.TheVariants.{
-  Length,
-  IsEmpty,
-  CharAt,
-  SubString,
-  Find,
-  Replace,
-  Elements,
-  ElementAt,
-  RemoveAt,
-  ReplaceAt,
-  InsertAt,
-  Squeeze,
-  Trim,
-  Compare,
-  ToString,
-  Format,
-}
+use Rattle.wap_libs.specs.declared.function.StringFunction.TheVariants.{Length, IsEmpty, CharAt}
+use Rattle.wap_libs.specs.declared.function.StringFunction.TheVariants.{SubString, Find, Replace}
+use Rattle.wap_libs.specs.declared.function.StringFunction.TheVariants.{Elements, ElementAt}
+use Rattle.wap_libs.specs.declared.function.StringFunction.TheVariants.{RemoveAt, ReplaceAt}
+use Rattle.wap_libs.specs.declared.function.StringFunction.TheVariants.{InsertAt, Squeeze, Trim}
+use Rattle.wap_libs.specs.declared.function.StringFunction.TheVariants.{Compare, ToString, Format}
 use Rattle.wap_libs.specs.Arguments.{on, on_integer, on_text, number, from_zero}
 use Rattle.wap_libs.specs.Characters.{part, squeezed, trimmed}
 use Rattle.wap_libs.specs.Occurrences.{place_of, replaced}

@@ -15,19 +15,11 @@ use Rattle.wap_value.specs.declared.value.Value.{Value}
 use Rattle.wap_value.specs.declared.value.Value.TheVariants.{Bool as Boolean, Str, Invalid}
 use Rattle.wap_value.specs.Conversion.{text_of, text_value}
 use Rattle.wap_libs.specs.declared.function.UrlFunction.{UrlFunction}
-use Rattle.wap_libs.specs.declared.function.UrlFunction.TheVariants.{
-  IsValid,
-  GetScheme,
-  GetHost,
-  GetPort,
-  GetPath,
-  GetParameters,
-  GetQuery,
-  GetFragment,
-  Resolve,
-  EscapeString,
-  UnescapeString,
-}
+use Rattle.wap_libs.specs.declared.function.UrlFunction.TheVariants.{IsValid, GetScheme, GetHost}
+use Rattle.wap_libs.specs.declared.function.UrlFunction.TheVariants.{GetPort, GetPath}
+use Rattle.wap_libs.specs.declared.function.UrlFunction.TheVariants.{GetParameters, GetQuery}
+use Rattle.wap_libs.specs.declared.function.UrlFunction.TheVariants.{GetFragment, Resolve}
+use Rattle.wap_libs.specs.declared.function.UrlFunction.TheVariants.{EscapeString, UnescapeString}
 use Rattle.wap_libs.specs.Arguments.{on, on_text}
 use Rattle.wap_libs.specs.Elements.{elements, joined as with_separators}
 use Rattle.wap_libs.specs.Elements.{element_at, without_element}

@@ -9,28 +9,30 @@ use wap_cli::{Status, run};
 use wap_devices::{MemSink, MemSource, MemStore, are_pages};
 
 #[test]
-fn two_pages_meet(rt: HostRuntime) -> Result<(), Fail> {
+fn four_pages_meet_twice(rt: HostRuntime) -> Result<(), Fail> {
     let alloc: Global = rt.alloc();
     let mut pages = Vec::new(alloc);
-    pages.push((Text::of(alloc, "h/a.txt")?, Bytes::of(alloc, b"a")?))?;
-    pages.push((Text::of(alloc, "h/b.txt")?, Bytes::of(alloc, b"b")?))?;
+    let mut shown = String::new(alloc);
+    for number in 0..8 {
+        let path = format!(in alloc; "h/{number}.txt")?;
+        shown.push_str(path.as_str())?;
+        shown.push_str(" text ok\n")?;
+        pages.push((Text::from_string(path), Bytes::of(alloc, b"a")?))?;
+    }
+    shown.push_str("pages 8 ok 8\n")?;
     let fit = are_pages(alloc, &pages)?;
     assert!(rt; fit);
     let mut words = Vec::new(alloc);
     words.push(Text::of(alloc, "prepare")?)?;
-    words.push(Text::of(alloc, "--workers=2")?)?;
+    words.push(Text::of(alloc, "--workers=4")?)?;
     let store = MemStore::new(pages, Vec::new(alloc));
     let mut keys = MemSource::new(Bytes::new(alloc), 1, Vec::new(alloc));
     let mut out = MemSink::new(alloc, 4096, 4096, Vec::new(alloc))?;
     let gate = Meeting::new();
     let (status, _store) = run(&rt, alloc, &words, store, &mut keys, &mut out, &gate);
     assert!(rt; status == Status::Done);
-    assert_eq!(rt;
-        out.bytes(),
-        b"h/a.txt text ok\nh/b.txt text ok\npages 2 ok 2\n".as_slice()
-    );
+    assert_eq!(rt; out.bytes(), shown.as_bytes());
     assert_eq!(rt; gate.failures.load(Ordering::SeqCst), 0);
-    assert_eq!(rt; gate.first.load(Ordering::SeqCst), 1);
-    assert_eq!(rt; gate.second.load(Ordering::SeqCst), 1);
+    assert_eq!(rt; gate.came.load(Ordering::SeqCst), 8);
     Ok(())
 }

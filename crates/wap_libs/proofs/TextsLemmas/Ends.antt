@@ -1,13 +1,18 @@
 -- Walks over the characters of a text, by its bytes.
 use Rattle.std.proofs.Common.{◌≡◌, ℕ, ◌+◌, ◌-◌, ◌<◌, ◌≤◌, List, [], ◌∷◌, ◌++◌, length, take, drop}
-use Rattle.std.proofs.Common.{refl, ap, ap₂, sym, ◌∙◌, subst, arith}
+use Rattle.std.proofs.Common.{ap, ap₂, sym, ◌∙◌, subst, arith}
 use Rattle.std.specs.Char.{encode_utf8}
 use Rattle.std.specs.Str.{IsUtf8, IsCharBoundary, chars}
 use Rattle.std.proofs.lemmas.List.{append_cancel_right, take-append-drop, drop_at, drop-drop}
 use Rattle.std.proofs.lemmas.List.{length-append}
 use Rattle.std.proofs.lemmas.Str.{chars_past_char, IsUtf8-past_char, length-encode, len_utf8_bounds}
 use Rattle.std.proofs.lemmas.Str.{chars_from_encodes, encodes-chars, encodes-append, chars-append}
-use Rattle.std.proofs.lemmas.Str.{IsUtf8-take, IsCharBoundary-from_drop}
+use Rattle.std.proofs.lemmas.Str.{IsUtf8-take, IsCharBoundary-from_drop, chars-nil}
+
+-- no bytes are no characters
+pub no_characters : (s : List ℕ) → length s ≡ 0 → chars s ≡ []
+no_characters [] none = chars-nil
+no_characters (b ∷ s) none = absurd (omega arith)
 
 -- the bytes of a text from a place on
 pub record IsEnd (s rest : List ℕ) : Type 0 where

@@ -1,12 +1,16 @@
 -- Where a text occurs in another, by bytes and by characters.
 use Rattle.std.proofs.Common.{◌≡◌, ◌≢◌, ℕ, zero, suc, ◌+◌, ◌<◌, ◌≤◌, true, false, List, [], ◌∷◌}
-use Rattle.std.proofs.Common.{◌++◌, length, take, drop, Option, Some, None, refl, ap, ap₂, sym}
-use Rattle.std.proofs.Common.{◌∙◌, subst, inl, inr, arith, encode_utf8_all, append_assoc}
-use Rattle.std.proofs.Common.{append-nil}
+use Rattle.std.proofs.Common.{◌++◌, length, take, drop, Option, Some, None, refl, ap, ap₂, sym, ◌∙◌}
+use Rattle.std.proofs.Common.{subst, inl, inr, arith, encode_utf8_all, append_assoc, append-nil}
 use Rattle.std.specs.Prelude.{nat_eq, option_map}
 use Rattle.std.specs.List.{starts_with, flat_map, join_by}
 use Rattle.std.specs.Str.{IsUtf8, IsCharBoundary, chars}
-use Rattle.std.specs.Str.Pattern.{FindsText, HasTextAt, SplitsAroundMatch}
+use Rattle.std.specs.Str.Pattern.{FindsText, FindsChar, HasTextAt, SplitsAroundMatch}
+use Rattle.std.specs.Prelude.{MatchOption}
+use Rattle.std.proofs.Common.{Bor, get_or}
+use Rattle.std.proofs.lemmas.Str.Pattern.{NoCharPasses-char, drop_at_char}
+use Rattle.std.proofs.lemmas.Str.{len_utf8_ascii}
+use Rattle.std.proofs.lemmas.List.{get_or-take, get_or-drop}
 use Rattle.std.proofs.Math.Seq.{take-append_seam}
 use Rattle.std.proofs.lemmas.Bool.{cases_Bool, cases_lt, cond-true, cond-false}
 use Rattle.std.proofs.lemmas.List.{drop_at, length-append, length-drop}
@@ -261,6 +265,55 @@ some_bytes p up some =
       length-encode_utf8_all (chars p),
       (utf8_len-bounds (chars p)).0,
     )
+
+-- the byte at a place, by what the text is from there on
+at_place : (s : List ℕ) (i c : ℕ) (rest : List ℕ) → drop i s ≡ c ∷ rest → get_or s i 0 ≡ c
+at_place s i c rest same =
+    let here : i + 0 ≡ i = omega arith in
+    sym (get_or-drop i s 0 0 ∙ ap (λ n. get_or s n 0) here) ∙ ap (λ t. get_or t 0 0) same
+
+-- where a character of one byte stands, its byte does as a text
+text_of_char : (c : ℕ) (s : List ℕ) (o : Option (ℕ × ℕ)) → c < 128 → FindsChar c s o
+    → FindsText (c ∷ []) s o
+text_of_char c s None low none = λ i within rest same.
+    NoCharPasses-char c s i none low
+    (omega (arith, ap length same, length-drop i s)) (at_place s i c rest same)
+text_of_char c s (Some (i, j)) low (free, at) =
+    let split = drop_at_char c s i j at low in
+    let inside : i < length s = omega (arith, ap length split, length-drop i s) in (
+      λ k early rest same.
+          NoCharPasses-char c (take i s) k free low (omega (arith, length-take-le i s (omega arith)))
+          (get_or-take i s k 0 early ∙ at_place s k c rest same),
+      record {
+        split = split;
+        ends = at.ends ∙ ap (λ n. i + n) (len_utf8_ascii c low);
+        after = subst (λ n. IsCharBoundary s (i + n)) (len_utf8_ascii c low) at.after;
+      },
+    )
+
+-- a text of one byte is that byte
+pub one_byte : (s : List ℕ) → 1 ≤ length s → length s < 2 → get_or s 0 0 ∷ [] ≡ s
+one_byte [] some few = absurd (omega arith)
+one_byte (b ∷ []) some few = refl
+one_byte (b ∷ d ∷ s) some few = absurd (omega arith)
+
+-- what is split at the one is split at the other
+pub split_text : (c : ℕ) (s : List ℕ) (r : Option (Bor (List ℕ) × Bor (List ℕ))) → c < 128
+    → MatchOption r (FindsChar c s None)
+    (λ x. SplitsAroundMatch (FindsChar c) s x.0.now x.1.now)
+    → MatchOption r (FindsText (c ∷ []) s None)
+    (λ x. SplitsAroundMatch (FindsText (c ∷ [])) s x.0.now x.1.now)
+split_text c s None low none = text_of_char c s None low none
+split_text c s (Some x) low found = (
+  found.0,
+  found.1,
+  text_of_char c s (Some (found.0, found.1)) low found.2,
+  found.3,
+  found.4,
+  found.5,
+  found.6,
+  found.7,
+)
 
 -- one occurrence is replaced, and the rest is still to come
 pub record IsStep (old new rest before behind : List ℕ) : Type 0 where

@@ -10,7 +10,7 @@ use Rattle.std.specs.List.{onto_first}
 use Rattle.std.specs.Str.{IsUtf8, NonePass, NoCharPasses, chars, all_scalars}
 use Rattle.std.specs.Str.Pattern.{FindsChar, FindsCharSuffix, HasCharAt, SplitsAroundMatch}
 use Rattle.std.specs.Str.Pattern.{StripsSuffix}
-use Rattle.std.proofs.lemmas.Bool.{cases_Bool, and_parts, eq-eqb, ne_eqb, cond-true, cond-false}
+use Rattle.std.proofs.lemmas.Bool.{cases_Bool, and_parts, eq-eqb, ne_eqb, cond-false}
 use Rattle.std.proofs.lemmas.List.{append_cancel_right, take-append-drop, take_at, take_all}
 use Rattle.std.proofs.lemmas.List.{drop_at, drop_all, drop-drop, length-take-le, length-append}
 use Rattle.std.proofs.lemmas.List.{length-drop, get_or_at, set_at}
@@ -362,13 +362,6 @@ with_after c s k place new some put late =
     (drop_all (length all) all (omega arith))
     ∙ join-push c all new (omega (arith, count))
     ∙ ap (λ t. t ++ (c ∷ new)) (join_with_byte-slice_split c s)
-
--- the empty text becomes the new element
-pub with_first : (c place : ℕ) (new s : List ℕ) → s ≡ [] → with_element_before c place new s ≡ new
-with_first c place new s none =
-    cond-true (eqb (length s) 0) new
-    (joined c (insert (elements c s) (min place (length (elements c s))) new))
-    (eq-eqb (length s) 0 (ap length none))
 
 -- the text before a separator at the end, by bytes
 pub stripped : (c : ℕ) (s others : List ℕ) → IsUtf8 s → StripsSuffix (FindsCharSuffix c) s others

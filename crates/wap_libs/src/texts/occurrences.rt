@@ -1,6 +1,7 @@
 //! Where a text occurs in another.
-ghost use Rattle.std.specs.Prelude.{◌≡◌, ◌<◌, length};
+ghost use Rattle.std.specs.Prelude.{◌≡◌, ◌<◌, length, None, MatchOption};
 ghost use Rattle.std.specs.Str.{chars};
+ghost use Rattle.std.specs.Str.Pattern.{FindsText, SplitsAroundMatch};
 ghost use Rattle.wap_base.specs.Outcome.{Meets};
 ghost use Rattle.wap_libs.specs.Occurrences.{place_of, replaced};
 ghost use Rattle.wap_libs.specs.Outcome.{kept_within};
@@ -22,6 +23,18 @@ pub fn place_of(part: &str, text: &str) -> Option<usize>
     }
 }
 
+/// What stands before the first occurrence of a part, and what follows it. One byte is looked for by
+/// itself.
+fn split_at_first<'a>(part: &str, text: &'a str) -> Option<(&'a str, &'a str)>
+    ensures { MatchOption result (FindsText part.now text.now None)
+        (λ split. SplitsAroundMatch (FindsText part.now) text.now split.0.now split.1.now) }
+{
+    match part.as_bytes() {
+        [byte] if *byte < 128 => text.split_once(char::from(*byte)),
+        _ => text.split_once(part),
+    }
+}
+
 /// The text with `new` in place of each occurrence of `old`.
 pub fn replace(
     alloc: Global,
@@ -37,8 +50,10 @@ pub fn replace(
 {
     let mut draft = Draft::new(alloc, limit);
     let mut rest = text;
-    while let Some((before, behind)) = rest.split_once(old) {
-        draft.add(before)?;
+    while let Some((before, behind)) = split_at_first(old, rest) {
+        if !before.is_empty() {
+            draft.add(before)?;
+        }
         draft.add(new)?;
         rest = behind;
     }

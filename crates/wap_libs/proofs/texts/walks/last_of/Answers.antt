@@ -1,13 +1,7 @@
-use Rattle.std.proofs.Common.{◌≡◌, ℕ, List, [], ◌∷◌, ◌++◌, length, sym, ap, ◌∙◌, arith}
+use Rattle.std.proofs.Common.{◌≡◌, ◌++◌, length, sym, ap, ◌∙◌}
 use Rattle.std.specs.Char.{encode_utf8}
-use Rattle.std.specs.Str.{chars}
-use Rattle.std.proofs.lemmas.Str.{chars-nil}
-use Rattle.wap_libs.proofs.TextsLemmas.Ends.{before_last, before_smaller}
+use Rattle.wap_libs.proofs.TextsLemmas.Ends.{before_last, before_smaller, no_characters}
 use Rattle.wap_libs.proofs.texts.walks.last_of.Goals as goal
-
-no_characters : (s : List ℕ) → length s ≡ 0 → chars s ≡ []
-no_characters [] none = chars-nil
-no_characters (b ∷ s) none = absurd (omega arith)
 
 pub returns-in-Some : goal.returns-in-Some
 returns-in-Some c =
