@@ -5,7 +5,7 @@ use Rattle.wap_base.specs.Contents.{Contents}
 use Rattle.wap_devices.specs.Stores.{Known, Fits, Agrees, Grew}
 use Rattle.wap_devices.specs.Sources.{Coming, Left, Unknown, MayCome}
 use Rattle.wap_devices.proofs.Telling.{held_still}
-use Rattle.wap_keys.proofs.GivingLaws.{may_split, held_gives, once_ended}
+use Rattle.wap_keys.proofs.GivingLaws.{may_split, held_gives}
 use Rattle.wap_world.specs.Sessions.{Begun}
 use Rattle.wap_site_laws.specs.pages.SourcePages.{ArePages}
 use Rattle.wap_cli.specs.declared.status.Status.{Status}
@@ -36,8 +36,7 @@ held_are_browsed begun capacity contents bytes old new status holds so =
     let agrees : Agrees new.store.known contents =
     subst (λ (known : Known). Agrees known contents) (sym held)
     (record { distinct = holds.distinct; fits = refl }) in
-    let may = held_gives taken bytes old.source new.source reads.takes holds.left
-    (once_ended old.source new.source holds.low reads.end_once) in
+    let may = held_gives taken bytes old.source new.source reads.takes holds.left in
     let split = may_split old.source new.source taken bytes reads.takes may in
     let left = left_of taken bytes may.rest new.source.coming
     (λ others came. subst (λ (coming : Coming). MayCome coming (taken ++ others)) holds.left

@@ -1,8 +1,7 @@
 -- Browsing over a store and a source in memory, which hold their contents and their bytes. This
 -- project's own.
-use Rattle.std.specs.Prelude.{◌≡◌, ℕ, ◌<◌, List}
+use Rattle.std.specs.Prelude.{◌≡◌, ℕ, List}
 use Rattle.wap_base.specs.Contents.{Contents, names_of}
-use Rattle.wap_base.specs.Count.{greatest_count}
 use Rattle.wap_base.specs.Texts.{AreDistinct}
 use Rattle.wap_devices.specs.Stores.{Held}
 use Rattle.wap_devices.specs.Sources.{Left, MayGive}
@@ -12,12 +11,11 @@ use Rattle.wap_cli.specs.Devices.{Devices}
 use Rattle.wap_cli.specs.Browsing.{PagesAndCalls, ArePagesAndCalls}
 
 -- at first the store holds these contents, of which no name stands twice, and the source these
--- bytes, whose count of ends isn't the greatest
+-- bytes
 pub record HoldAll (contents : Contents) (bytes : List ℕ) (old : Devices) : Type 0 where
   pub held : old.store.known ≡ Held contents
   pub distinct : AreDistinct (names_of contents)
   pub left : old.source.coming ≡ Left bytes
-  pub low : old.source.ends < greatest_count
 
 -- the contents are these pages, and fragments call what they spell
 abbrev pub AreHeld : Contents → PagesAndCalls → Type 0

@@ -1,7 +1,6 @@
 -- What is seen of a source of bytes, and what a read does. This project's own.
 use Rattle.std.specs.Prelude.{⊤, ◌≡◌, ℕ, ◌≤◌, ◌==◌, if◌then◌else◌, List, [], ◌++◌, length, take}
-use Rattle.std.specs.Prelude.{drop}
-use Rattle.std.specs.Prelude.{Result, Ok, Err, IfOk, OnOk, OnErr}
+use Rattle.std.specs.Prelude.{drop, Result, Ok, Err, IfOk, OnOk, OnErr}
 use Rattle.wap_base.specs.Count.{raised, Rose}
 use Rattle.wap_devices.specs.declared.fault.Failed.{Failed}
 
@@ -32,12 +31,12 @@ pub record Gives (bytes : List ℕ) (before after : SourceSeen) : Type 0 where
   pub coming : (rest : List ℕ) → MayCome after.coming rest → MayCome before.coming (bytes ++ rest)
 
 -- from the first moment on these may be its bytes: those that it gave till the second are the first
--- of them, and all of them where it reported its end
+-- of them, and all of them where it reported its end and nothing need come
 pub record MayGive (before after : SourceSeen) (bytes : List ℕ) : Type 0 where
   pub rest : List ℕ
   pub split : before.given ++ bytes ≡ after.given ++ rest
   pub coming : MayCome after.coming rest
-  pub ended : Rose before.ends after.ends → rest ≡ []
+  pub ended : Rose before.ends after.ends → MayCome after.coming [] → rest ≡ []
 
 -- how often a source has reported its end, after a read that answers so
 abbrev pub ends_after : ℕ → Result ℕ Failed → ℕ

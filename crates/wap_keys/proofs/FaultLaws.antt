@@ -2,7 +2,7 @@
 use Rattle.std.proofs.Common.{◌≡◌, ℕ, ◌≤◌, Result, Ok, Err, subst, arith}
 use Rattle.wap_base.specs.declared.fault.NoMemory.{NoMemory}
 use Rattle.wap_keys.specs.declared.ending.Ending.{Ending}
-use Rattle.wap_keys.specs.declared.ending.Ending.TheVariants.{End, BadKey, TooManyKeys, ReadFault}
+use Rattle.wap_keys.specs.declared.ending.Ending.TheVariants.{ReadFault}
 use Rattle.wap_keys.specs.declared.ending.Next.{Next}
 use Rattle.wap_keys.specs.declared.ending.Next.TheVariants as next
 use Rattle.wap_keys.specs.KeyReaders.{CountsFaults}
@@ -15,7 +15,5 @@ lost_steady result lost before after is counts = subst (CountsFaults before afte
 -- and the count never falls
 pub ended_counts : (ending : Ending) (before after : ℕ)
     → CountsFaults before after (Ok (next.Ended ending)) → before ≤ after
-ended_counts End before after counts = omega (arith, counts)
-ended_counts (BadKey line fault) before after counts = omega (arith, counts)
-ended_counts TooManyKeys before after counts = omega (arith, counts)
 ended_counts ReadFault before after counts = counts.0
+ended_counts _ before after counts = omega (arith, counts)

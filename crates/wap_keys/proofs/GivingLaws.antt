@@ -1,11 +1,10 @@
 -- What a source gave between two moments, and which bytes it may give.
-use Rattle.std.proofs.Common.{◌≡◌, ℕ, ◌<◌, List, [], ◌++◌, length, drop, refl, sym, ap, ◌∙◌, subst}
-use Rattle.std.proofs.Common.{append_assoc, inl, inr, arith}
+use Rattle.std.proofs.Common.{◌≡◌, ℕ, List, [], ◌++◌, length, drop, refl, sym, ap, ◌∙◌, subst}
+use Rattle.std.proofs.Common.{append_assoc, arith}
 use Rattle.std.proofs.lemmas.List.{append-nil, drop_at}
-use Rattle.wap_base.specs.Count.{greatest_count, raised, Rose}
 use Rattle.wap_devices.specs.Sources.{SourceSeen, Coming, Left, Unknown, MayCome, Gives, MayGive}
 use Rattle.wap_devices.proofs.Transfers.{Appends-then}
-use Rattle.wap_keys.specs.Read.{EndsAtMostOnce}
+use Rattle.wap_keys.specs.Read.{GivesEnd}
 
 -- ---- what it gave
 
@@ -46,20 +45,14 @@ may_split start now taken bytes gives may =
 
 -- nothing is to come of a source that gave its end
 pub none_to_come : (start now : SourceSeen) (bytes : List ℕ) (may : MayGive start now bytes)
-    → now.ends ≡ raised start.ends → may.rest ≡ []
-none_to_come start now bytes may ends = may.ended (omega (arith, ends))
+    → GivesEnd start now → may.rest ≡ []
+none_to_come start now bytes may end = may.ended (omega (arith, end.ends)) end.none
 
 -- ---- a source that holds its bytes
 
--- where its count of ends isn't the greatest yet, nothing may be to come once that rose
-pub once_ended : (before after : SourceSeen) → before.ends < greatest_count
-    → EndsAtMostOnce before after → Rose before.ends after.ends → MayCome after.coming []
-once_ended before after few (inl same) rose = absurd (omega (arith, few, same, rose))
-once_ended before after few (inr end) rose = end.none
-
 held_by : (taken bytes rest : List ℕ) (before after : SourceSeen) → Gives taken before after
     → before.coming ≡ Left bytes → MayCome after.coming rest
-    → (Rose before.ends after.ends → rest ≡ []) → MayGive before after bytes
+    → (MayCome after.coming [] → rest ≡ []) → MayGive before after bytes
 held_by taken bytes rest before after gives held may none = record {
   rest = rest;
   split =
@@ -68,22 +61,22 @@ held_by taken bytes rest before after gives held may none = record {
       ∙ sym (append_assoc before.given taken rest)
       ∙ ap (λ (l : List ℕ). l ++ rest) (sym gives.given);
   coming = may;
-  ended = none;
+  ended = λ rose. none;
 }
 
 held_as : (taken bytes : List ℕ) (before after : SourceSeen) (coming : Coming)
     → after.coming ≡ coming → Gives taken before after → before.coming ≡ Left bytes
-    → (Rose before.ends after.ends → MayCome coming []) → MayGive before after bytes
-held_as taken bytes before after (Left left) is gives held ended =
+    → MayGive before after bytes
+held_as taken bytes before after (Left left) is gives held =
     held_by taken bytes left before after gives held
-    (subst (λ (c : Coming). MayCome c left) (sym is) refl) ended
-held_as taken bytes before after Unknown is gives held ended =
+    (subst (λ (c : Coming). MayCome c left) (sym is) refl)
+    (subst (λ (c : Coming). MayCome c []) is)
+held_as taken bytes before after Unknown is gives held =
     held_by taken bytes [] before after gives held
-    (subst (λ (c : Coming). MayCome c []) (sym is) tt) (λ rose. refl)
+    (subst (λ (c : Coming). MayCome c []) (sym is) tt) (λ none. refl)
 
 -- it may give them
 pub held_gives : (taken bytes : List ℕ) (before after : SourceSeen) → Gives taken before after
-    → before.coming ≡ Left bytes → (Rose before.ends after.ends → MayCome after.coming [])
-    → MayGive before after bytes
-held_gives taken bytes before after gives held ended =
-    held_as taken bytes before after after.coming refl gives held ended
+    → before.coming ≡ Left bytes → MayGive before after bytes
+held_gives taken bytes before after gives held =
+    held_as taken bytes before after after.coming refl gives held

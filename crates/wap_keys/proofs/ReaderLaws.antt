@@ -145,7 +145,8 @@ module _ {A : Type 0} {meaning : Meaning A} {start now : SourceSeen} {taken : Li
     first = first_by;
     of_all = λ bytes may.
         of_all_by bytes may.rest (may_split start now taken bytes read.takes may)
-        (λ over. none_to_come start now bytes may (over_ends over));
+        (λ over. none_to_come start now bytes may
+        (record { none = read.ended over; ends = over_ends over }));
     end_once = once_by start now reader.over read.ends read.ended;
   }
 

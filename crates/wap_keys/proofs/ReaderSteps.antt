@@ -15,8 +15,7 @@ use Rattle.wap_keys.specs.declared.ending.Ending.TheVariants.{End, BadKey, TooMa
 use Rattle.wap_keys.specs.declared.ending.Step.{Step}
 use Rattle.wap_keys.specs.declared.ending.Step.TheVariants as step
 use Rattle.wap_keys.specs.Lines.{KeysOf, Meaning, lines_of, key_before, said_from, said_at}
-use Rattle.wap_keys.specs.Read.{IsPromptBy, IsJustRead, GivesEnd, HasGivenBy}
-use Rattle.wap_keys.specs.Read.{IsReadBy, ReadsToBy}
+use Rattle.wap_keys.specs.Read.{IsPromptBy, IsJustRead, GivesEnd, HasGivenBy, IsReadBy, ReadsToBy}
 use Rattle.wap_keys.specs.KeyReaders.{Reading, keys_then, said_yet, HasReadBy, AnswersAt}
 use Rattle.wap_keys.specs.KeyReaders.{AnswersBy, GivesUpBy, CountsAt, FallsAt, room}
 use Rattle.wap_keys.specs.inside.Taking.{TakesSaid, ReadsPiece, ReadsEnd, ReadsPast, FailsToRead}

@@ -27,10 +27,9 @@ use Rattle.wap_keys.specs.declared.word.Word.{Word}
 use Rattle.wap_keys.specs.declared.word.Word.TheVariants as word
 use Rattle.wap_keys.specs.Decimal.{decimal_of}
 use Rattle.wap_keys.specs.Hexadecimal.{bytes_of}
-use Rattle.wap_keys.specs.Forms.{Form, nothing, text, text_or_none, number, hexadecimal}
-use Rattle.wap_keys.specs.Forms.{form_of, name_of, words, word_named, is_space, prefix_of}
-use Rattle.wap_keys.specs.Forms.{rest_of, or_bad, value_in, argument_at, nothing_at}
-use Rattle.wap_keys.specs.Forms.{key_by, key_of_word, key_at}
+use Rattle.wap_keys.specs.Forms.{Form, nothing, text, text_or_none, number, hexadecimal, form_of}
+use Rattle.wap_keys.specs.Forms.{name_of, words, word_named, is_space, prefix_of, rest_of, or_bad}
+use Rattle.wap_keys.specs.Forms.{value_in, argument_at, nothing_at, key_by, key_of_word, key_at}
 use Rattle.wap_keys.specs.Spelling.{spaced, HasNoSpace, SpellsArgument, MisspellsArgument}
 use Rattle.wap_keys.specs.Spelling.{Spells, Misspells, IsTextLine}
 use Rattle.wap_keys.specs.Spelling.{IsKeyLine, IsUnknown, MisspellsLine, IsNoKeyLine}

@@ -9,8 +9,7 @@ use Rattle.wap_keys.specs.declared.limits.TheConstants.{KEYS_LIMIT}
 use Rattle.wap_keys.specs.declared.ending.Ending.{Ending}
 use Rattle.wap_keys.specs.declared.ending.Ending.TheVariants.{End, BadKey, TooManyKeys, ReadFault}
 use Rattle.wap_keys.specs.Lines.{KeysOf, Meaning, said_at, said_of, keys_of}
-use Rattle.wap_keys.specs.Read.{IsReadBefore, TakesAtMost, HasGiven, IsBad, EndsBy, IsReadBy}
-use Rattle.wap_keys.specs.Read.{IsRead}
+use Rattle.wap_keys.specs.Read.{IsReadBefore, IsBad, EndsBy, IsReadBy, IsRead}
 use Rattle.wap_keys.proofs.GivingLaws.{may_split, none_to_come}
 use Rattle.wap_keys.proofs.ReaderLaws.{ending_past, all_by, none_follows}
 
@@ -37,7 +36,7 @@ module _ {A : Type 0} (meaning : Meaning A) where
       ap (said_of meaning) is ∙ all_by meaning taken may.rest few
       ∙ so (ending_past (taken ++ may.rest)) (take (KEYS_LIMIT - length taken) may.rest)
   bad_here start now bytes taken all may is few (inr (end, ends)) =
-      end_here bytes taken may.rest all is few (none_to_come start now bytes may end.ends) ends
+      end_here bytes taken may.rest all is few (none_to_come start now bytes may end) ends
 
   -- what holds where a byte past the limit was taken
   past_by : (taken rest : List ℕ) → length taken ≡ KEYS_LIMIT + 1
@@ -55,7 +54,7 @@ module _ {A : Type 0} (meaning : Meaning A) where
       → said_of meaning bytes ≡ record { keys = keys; ending = ending }
   known_by start now bytes taken keys End may is (end, few, ends) no_fault =
       end_here bytes taken may.rest (record { keys = keys; ending = End }) is few
-      (none_to_come start now bytes may end.ends) ends
+      (none_to_come start now bytes may end) ends
   known_by start now bytes taken keys (BadKey line fault) may is (known, few, bad) no_fault =
       bad_here start now bytes taken (record { keys = keys; ending = BadKey line fault }) may is
       few bad
@@ -87,8 +86,3 @@ before_of start now taken keys ending read fault = record {
   takes = read.given.takes;
   said = (subst (EndsBy _ start now taken keys) fault read.ends).1;
 }
-
--- at most one byte past the limit is taken
-pub few_of : (start now : SourceSeen) (taken : List ℕ) (keys : List Key)
-    → HasGiven start now taken keys → TakesAtMost (KEYS_LIMIT + 1) start now
-few_of start now taken keys given = (taken, given.few, given.takes)

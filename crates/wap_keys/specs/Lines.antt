@@ -9,7 +9,7 @@ use Rattle.wap_keys.specs.declared.limits.TheConstants.{KEYS_LIMIT, LINE_LIMIT}
 use Rattle.wap_keys.specs.declared.fault.KeyFault.{KeyFault}
 use Rattle.wap_keys.specs.declared.fault.KeyFault.TheVariants.{TooLong}
 use Rattle.wap_keys.specs.declared.ending.Ending.{Ending}
-use Rattle.wap_keys.specs.declared.ending.Ending.TheVariants.{End, BadKey, TooManyKeys, ReadFault}
+use Rattle.wap_keys.specs.declared.ending.Ending.TheVariants.{End, BadKey, TooManyKeys}
 use Rattle.wap_keys.specs.Forms.{key_at}
 
 -- ---- lines
@@ -55,9 +55,7 @@ content_key (c ∷ cs) = if c == number_sign then Ok None else some_key (key_at 
 -- whether the bytes came to their end
 abbrev pub is_end : Ending → Bool
 is_end End = true
-is_end (BadKey line fault) = false
-is_end TooManyKeys = false
-is_end ReadFault = false
+is_end _ = false
 
 -- what the content of a line says: nothing, something, or why it is refused
 abbrev pub Meaning : Type 0 → Type 0

@@ -154,12 +154,6 @@ ReadsToBy meaning start now keys ending =
 
 -- ---- by key lines
 
-abbrev pub keys_among : Bool → List ℕ → List Key
-keys_among = said_among content_key
-
-abbrev pub IsPrompt : SourceSeen → SourceSeen → List ℕ → List Key → Type 0
-IsPrompt = IsPromptBy content_key
-
 -- no key was given; or no read began since the one that gave the end of the line of the last, its
 -- line feed or the end of all bytes
 abbrev pub IsAtLast : SourceSeen → SourceSeen → List ℕ → List Key → Type 0

@@ -52,6 +52,8 @@ impl Says for Key {
 
     ghost empty = { refl };
 
+    // Inlined, so that what it answers isn't copied once more.
+    #[inline(always)]
     fn of(alloc: Global, content: &[u8]) -> Result<Result<Option<Key>, KeyFault>, NoMemory> {
         match content_key(alloc, content) {
             Err(KeyFault::NoMemory) => Err(NoMemory),

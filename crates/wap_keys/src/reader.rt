@@ -260,6 +260,8 @@ impl Reader {
     }
 
     /// The next key, or how the keys came to their end.
+    // Inlined, so that a key isn't copied once more.
+    #[inline(always)]
     pub fn next<I: Source>(&mut self, alloc: Global, source: &mut I) -> Result<Next, NoMemory>
         ensures answers { IfOk result (Answers (I.seen source.old) (I.seen source.new)
             self.old self.new) }

@@ -26,8 +26,7 @@ use Rattle.wap_world.proofs.SiteLemmas.Asking.{Stays-same, Stays-then, Stays-may
 use Rattle.wap_world.specs.Steps.{Step, then_step}
 use Rattle.wap_world.specs.scripting.UnitSites.{Pages, unit_pages}
 use Rattle.wap_world.specs.scripting.Waiting.{Waits}
-use Rattle.wap_session.specs.Feeding.{left_open}
-use Rattle.wap_session.specs.Feeding.{State, step_of}
+use Rattle.wap_session.specs.Feeding.{left_open, State, step_of}
 use Rattle.wap_cli.specs.declared.status.Status.{Status}
 use Rattle.wap_cli.specs.declared.status.Status.TheVariants.{Done, Refused, StoreFault}
 use Rattle.wap_cli.specs.declared.status.Status.TheVariants.{WriteFault, NoMemory}
@@ -77,7 +76,7 @@ module _ (play : Play) (old last : Outside) (taken : List ℕ) (given : List Key
   all_taken read bytes may =
       may_split old.source last.source taken bytes read.given.takes may
       ∙ ap (λ (rest : List ℕ). taken ++ rest)
-      (none_to_come old.source last.source bytes may read.ends.0.ends)
+      (none_to_come old.source last.source bytes may read.ends.0)
       ∙ append-nil taken
 
   -- so the session ends, by whether a dialog is open there
@@ -155,9 +154,7 @@ done_so : (waiting : Option Waits) (ending : Ending) → ended (is_some waiting)
     → (waiting ≡ None) × (ending ≡ way.End)
 done_so None way.End is = (refl, refl)
 done_so (Some one) way.End is = absurd cc
-done_so waiting (way.BadKey line fault) is = absurd cc
-done_so waiting way.TooManyKeys is = absurd cc
-done_so waiting way.ReadFault is = absurd cc
+done_so waiting _ is = absurd cc
 
 -- a step outside a dialog leaves none open
 left_closed : (step : Step) → step.is_open ≡ false → left_open step ≡ step

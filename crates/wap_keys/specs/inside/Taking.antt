@@ -1,7 +1,6 @@
 -- Lines that are taken from a reader, and bytes that are read after them. This project's own.
-use Rattle.std.specs.Prelude.{◌≡◌, ◌≢◌, ℕ, ◌+◌, ◌-◌, ◌<◌, ◌≤◌, true, false, List, [], ◌++◌}
-use Rattle.std.specs.Prelude.{length, take, drop}
-use Rattle.std.specs.Prelude.{Option, Some, None, Result, Ok, Err}
+use Rattle.std.specs.Prelude.{◌≡◌, ◌≢◌, ℕ, ◌+◌, ◌-◌, ◌<◌, ◌≤◌, true, false, List, [], ◌++◌, length}
+use Rattle.std.specs.Prelude.{take, drop, Option, Some, None, Result, Ok, Err}
 use Rattle.wap_base.specs.Count.{raised, Rose}
 use Rattle.wap_devices.specs.Sources.{SourceSeen, MayCome, Reads}
 use Rattle.wap_devices.specs.declared.fault.Failed.{Failed}

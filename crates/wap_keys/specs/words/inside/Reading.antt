@@ -1,6 +1,5 @@
 -- What was given by words, as it is read. This project's own.
-use Rattle.std.specs.Prelude.{◌≡◌, ℕ, Bool, true, false, List, map, option_map, Option, Some}
-use Rattle.std.specs.Prelude.{None}
+use Rattle.std.specs.Prelude.{◌≡◌, ℕ, Bool, true, false, List, map, option_map, Option, Some, None}
 use Rattle.std.specs.Borrow.{Bor}
 use Rattle.wap_keys.specs.declared.words.arguments.Form.{Form as ReadForm}
 use Rattle.wap_keys.specs.declared.words.arguments.Use.{Use as ReadUse}
