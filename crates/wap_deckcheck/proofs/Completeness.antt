@@ -5,6 +5,7 @@ use Rattle.std.proofs.Common.{sym, ap, subst, ◌∙◌, append_assoc, arith}
 use Rattle.std.specs.Prelude.{◌≢◌, filter, slice_get, Result, Ok, Err, IfErr}
 use Rattle.std.specs.List.{filter_map, flat_map, cons_option, list_any, AllByRecursion, IsDistinct}
 use Rattle.std.specs.Option.{option_to_list}
+use Rattle.std.proofs.lemmas.List.{append-nil}
 use Rattle.wap_base.specs.Texts.{AreDistinct}
 use Rattle.wap_tokens.specs.declared.markup.name.AttrName.{AttrName}
 use Rattle.wap_tokens.specs.declared.markup.document.TheConstants.{LEVEL_LIMIT}
@@ -28,9 +29,9 @@ use Rattle.wap_deckcheck.specs.Faults.{is_misplaced, has_twice, is_taken, fault_
 use Rattle.wap_deckcheck.specs.Faults.{own_faults, lacks_card, faults, first_fault, Judges}
 use Rattle.wap_deckcheck.specs.inside.Walks.{judged, inner_faults}
 use Rattle.wap_deckcheck.proofs.Distinctness.{taken_no_more, distinct_before}
-use Rattle.wap_deckcheck.proofs.Walking.{one_step, append-none, names-append, ids-append}
+use Rattle.wap_deckcheck.proofs.Walking.{no_deeper, one_step, names-append, ids-append}
 use Rattle.wap_deckcheck.proofs.Soundness.{deeper_one, names_by, names_with}
-use Rattle.wap_deckcheck.proofs.GoodDecks.{none_distinct, same_ids, same_names}
+use Rattle.wap_deckcheck.proofs.GoodDecks.{none_distinct, id_alone, same_ids, same_names}
 
 -- ---- no faults at all
 
@@ -74,7 +75,7 @@ Stand rule earlier items =
 stand_first : (rule : Rule) (earlier : List Item) (item : Item) (items : List Item) →
     Stand rule earlier (item ∷ items) → stands rule earlier (node_of item) (words_of item) ≡ true
 stand_first rule earlier item items all =
-    ap (λ before. stands rule before (node_of item) (words_of item)) (sym (append-none earlier))
+    ap (λ before. stands rule before (node_of item) (words_of item)) (sym (append-nil earlier))
     ∙ all 0 item refl
 
 stand_rest : (rule : Rule) (earlier : List Item) (item : Item) (items : List Item) →
@@ -197,13 +198,8 @@ items_none levels apart names inner path rule earlier (item ∷ items) all good 
     (stand_rest rule earlier item items all)
     (rest_good levels (node_of item) (filter_map node_of items) good) joined)
 
-none_places : (apart : Bool) (names : List (List ℕ)) (path : List ℕ) (node : Node) →
-    judged (node_places 0 apart names path node) ≡ []
-unfolding node_places
-none_places apart names path node = refl
-
 node_none : (levels : ℕ) (apart : Bool) → Faultless levels apart
-node_none zero apart names path node children good distinct = none_places apart names path node
+node_none zero apart names path node children good distinct = no_deeper apart names path node
 node_none (suc levels) apart names path node children good distinct =
     ap judged (deeper_one levels apart names path node)
     ∙ items_none levels apart names (node_none levels apart) path (rule_of node.tag) [] node.kids
@@ -301,10 +297,6 @@ named_rest : (limit : ℕ) (found : Option Node) (rest : List Node) →
 named_rest limit None rest named = named
 named_rest limit (Some node) rest named =
     named_if limit (holds_dos node.tag) node (filter (λ node. holds_dos node.tag) rest) named
-
-id_alone : (found : Option (List ℕ)) → cons_option found [] ≡ option_to_list found
-id_alone None = refl
-id_alone (Some id) = refl
 
 top_none : (b : ℕ) (others : List (List ℕ)) (path : List ℕ) (level : ItemLevel) (rest : List Node) →
     IsItem (IsNode (suc b)) level →

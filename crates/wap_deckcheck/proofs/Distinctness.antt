@@ -1,10 +1,12 @@
 -- Texts that stay distinct.
-use Rattle.std.proofs.Common.{◌≡◌, ℕ, Bool, true, false, ◌||◌, List, [], ◌∷◌, ◌++◌}
+use Rattle.std.proofs.Common.{◌≡◌, ℕ, false, ◌||◌, List, [], ◌∷◌, ◌++◌}
 use Rattle.std.proofs.Common.{Option, Some, None, refl, sym, ap, subst, ◌∙◌}
 use Rattle.std.specs.List.{list_any, AllByRecursion, IsDistinct}
 use Rattle.std.specs.Option.{option_to_list}
 use Rattle.std.specs.Bool.{Decides, one_answer}
 use Rattle.std.specs.Cmp.Lexicographic.{bytes_decides}
+use Rattle.std.proofs.lemmas.List.{append-nil}
+use Rattle.std.proofs.lemmas.Bool.{or_parts}
 use Rattle.wap_base.specs.Texts.{is_same_text, AreDistinct}
 use Rattle.wap_deckcheck.specs.Faults.{is_taken}
 
@@ -14,14 +16,6 @@ flips a b =
     let there : Decides (is_same_text b a) (a ≡ b) =
     (λ so. sym ((bytes_decides b a).0 so), λ same. (bytes_decides b a).1 (sym same)) in
     one_answer (is_same_text a b) (is_same_text b a) here there
-
-neither : (a b : Bool) → (a || b) ≡ false → (a ≡ false) × (b ≡ false)
-neither true b so = absurd (cc so)
-neither false b so = (refl, so)
-
-append-none : {X : Type 0} (xs : List X) → xs ++ [] ≡ xs
-append-none [] = refl
-append-none (x ∷ xs) = ap (λ xs. x ∷ xs) (append-none xs)
 
 each_last : (P : List ℕ → Type 0) (texts : List (List ℕ)) (last : List ℕ) → AllByRecursion P texts
     → P last → AllByRecursion P (texts ++ last ∷ [])
@@ -33,7 +27,7 @@ last_apart : (texts : List (List ℕ)) (last : List ℕ) → list_any (is_same_t
 unfolding IsDistinct
 last_apart [] last none distinct = (tt, tt)
 last_apart (text ∷ texts) last none distinct =
-    let both = neither (is_same_text last text) (list_any (is_same_text last) texts) none in (
+    let both = or_parts (is_same_text last text) (list_any (is_same_text last) texts) none in (
       each_last (λ other. is_same_text text other ≡ false) texts last distinct.0
           (flips text last ∙ both.0),
       last_apart texts last both.1 distinct.1,
@@ -41,7 +35,7 @@ last_apart (text ∷ texts) last none distinct =
 
 pub taken_last : (texts : List (List ℕ)) (last : Option (List ℕ)) → is_taken texts last ≡ false
     → AreDistinct texts → AreDistinct (texts ++ option_to_list last)
-taken_last texts None none distinct = subst AreDistinct (sym (append-none texts)) distinct
+taken_last texts None none distinct = subst AreDistinct (sym (append-nil texts)) distinct
 taken_last texts (Some last) none distinct = last_apart texts last none distinct
 
 -- ---- and those that are distinct

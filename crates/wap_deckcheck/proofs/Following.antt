@@ -24,9 +24,6 @@ is_used_with rule tag earlier =
     list_any (λ group. is_among group tag && list_any (is_among group) earlier) rule.once
 
 module _ (rule : Rule) (tag : Tag) (earlier : List Tag) where
-  in_order : Tag → Bool
-  in_order first = is_not_behind (place_in rule.groups first) (place_in rule.groups tag)
-
   once_apart : list_all (λ first.
       list_all (λ group. not (is_among group first && is_among group tag)) rule.once) earlier
       ≡ not (is_used_with rule tag earlier)

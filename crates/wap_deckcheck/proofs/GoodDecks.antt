@@ -4,6 +4,8 @@ use Rattle.std.proofs.Common.{length, Option, Some, None, refl, sym, ap, subst, 
 use Rattle.std.specs.Prelude.{filter}
 use Rattle.std.specs.List.{filter_map, cons_option, AllByRecursion, IsDistinct}
 use Rattle.std.specs.Option.{option_to_list}
+use Rattle.std.proofs.lemmas.List.{append-nil}
+use Rattle.std.proofs.lemmas.Bool.{not-false}
 use denote.Enum.Bare.{same_true}
 use Rattle.wap_base.specs.Texts.{AreDistinct}
 use Rattle.wap_tokens.specs.declared.markup.document.TheConstants.{LEVEL_LIMIT}
@@ -23,8 +25,8 @@ use Rattle.wap_deckcheck.specs.Places.{node_places, ids_level, places}
 use Rattle.wap_deckcheck.specs.Faults.{fault_if, own_faults, lacks_card, faults}
 use Rattle.wap_deckcheck.specs.inside.Walks.{judged}
 use Rattle.wap_deckcheck.proofs.Distinctness.{taken_last}
-use Rattle.wap_deckcheck.proofs.Walking.{append-none, ids-append}
-use Rattle.wap_deckcheck.proofs.Soundness.{fault_none, both_none, isnt, own_sound, AnySound}
+use Rattle.wap_deckcheck.proofs.Walking.{ids-append}
+use Rattle.wap_deckcheck.proofs.Soundness.{fault_none, both_none, own_sound, AnySound}
 use Rattle.wap_deckcheck.proofs.Soundness.{AreSound, items_sound, kids_stand, items_good}
 use Rattle.wap_deckcheck.proofs.Soundness.{node_kept, node_apart}
 
@@ -34,17 +36,17 @@ pub none_distinct : AreDistinct []
 unfolding IsDistinct
 none_distinct = tt
 
-cons_to_list : (found : Option (List ℕ)) → cons_option found [] ≡ option_to_list found
-cons_to_list None = refl
-cons_to_list (Some id) = refl
+pub id_alone : (found : Option (List ℕ)) → cons_option found [] ≡ option_to_list found
+id_alone None = refl
+id_alone (Some id) = refl
 
 any_id : (level_inner : List (List ℕ) → List ℕ → Node → List Place) (others : List (List ℕ))
     (path : List ℕ) (found : Option Node) →
     AnySound (record { own = own_id; others = ids_among; inner = level_inner }) others path found →
     AreDistinct others → AreDistinct (others ++ filter_map own_id (cons_option found []))
-any_id inner others path None sound distinct = subst AreDistinct (sym (append-none others)) distinct
+any_id inner others path None sound distinct = subst AreDistinct (sym (append-nil others)) distinct
 any_id inner others path (Some node) sound distinct =
-    subst (λ ids. AreDistinct (others ++ ids)) (sym (cons_to_list (own_id node)))
+    subst (λ ids. AreDistinct (others ++ ids)) (sym (id_alone (own_id node)))
     (taken_last others (own_id node) sound.apart distinct)
 
 items_ids : (inner : List (List ℕ) → List ℕ → Node → List Place) (path : List ℕ) (rule : Rule)
@@ -52,7 +54,7 @@ items_ids : (inner : List (List ℕ) → List ℕ → Node → List Place) (path
     AreSound (record { own = own_id; others = ids_among; inner = inner }) path rule earlier items →
     AreDistinct (ids_among earlier) → AreDistinct (ids_among (earlier ++ items))
 items_ids inner path rule earlier [] sound distinct =
-    subst (λ items. AreDistinct (ids_among items)) (sym (append-none earlier)) distinct
+    subst (λ items. AreDistinct (ids_among items)) (sym (append-nil earlier)) distinct
 items_ids inner path rule earlier (item ∷ items) sound distinct =
     let one =
     any_id inner (ids_among earlier) (path_behind path earlier)
@@ -154,7 +156,7 @@ good_without_faults deck none =
     let by_itself = own_sound [] root own.0 in
     record {
       root =
-          same_true type.the_type tt root.tag tags.Wml (isnt (is_same_tag root.tag tags.Wml)
+          same_true type.the_type tt root.tag tags.Wml (not-false (is_same_tag root.tag tags.Wml)
           (fault_none (not (is_same_tag root.tag tags.Wml)) (fault.Child []) all.0));
       nodes = (
         record {

@@ -1,9 +1,11 @@
 -- A deck without faults is good.
-use Rattle.std.proofs.Common.{◌≡◌, ℕ, zero, suc, Bool, true, false, not, ◌||◌, List, [], ◌∷◌, ◌++◌}
+use Rattle.std.proofs.Common.{◌≡◌, ℕ, zero, suc, Bool, true, false, not, List, [], ◌∷◌, ◌++◌}
 use Rattle.std.proofs.Common.{take, Option, Some, None, refl, sym, ap, subst, ◌∙◌, append_assoc}
 use Rattle.std.specs.Prelude.{slice_get}
 use Rattle.std.specs.List.{filter_map, flat_map, cons_option, list_any, AllByRecursion, IsDistinct}
 use Rattle.std.specs.Option.{option_to_list}
+use Rattle.std.proofs.lemmas.List.{append-nil}
+use Rattle.std.proofs.lemmas.Bool.{or_parts, not-false}
 use Rattle.wap_base.specs.Texts.{AreDistinct}
 use Rattle.wap_tokens.specs.declared.markup.name.AttrName.{AttrName}
 use Rattle.wap_tokens.specs.declared.markup.deck.Node.{Node}
@@ -19,7 +21,7 @@ use Rattle.wap_deckcheck.specs.Places.{items_places, names_level, node_places}
 use Rattle.wap_deckcheck.specs.Faults.{is_misplaced, has_twice, is_taken, fault_if, own_faults}
 use Rattle.wap_deckcheck.specs.inside.Walks.{judged, inner_faults, item_faults}
 use Rattle.wap_deckcheck.proofs.Distinctness.{taken_last}
-use Rattle.wap_deckcheck.proofs.Walking.{one_step, append-none, names-append, names_none}
+use Rattle.wap_deckcheck.proofs.Walking.{one_step, cons_to_list, names-append, names_none}
 
 -- ---- no faults at all
 
@@ -31,28 +33,20 @@ pub both_none : (some more : List DeckFault) → some ++ more ≡ [] → (some �
 both_none [] more none = (refl, none)
 both_none (first ∷ some) more none = absurd (cc none)
 
-pub isnt : (b : Bool) → not b ≡ false → b ≡ true
-isnt true so = refl
-isnt false so = absurd (cc so)
-
-neither : (a b : Bool) → (a || b) ≡ false → (a ≡ false) × (b ≡ false)
-neither true b so = absurd (cc so)
-neither false b so = (refl, so)
-
 -- ---- a node by itself
 
 none_same : (one : AttrName) (names : List AttrName) → list_any (is_same_attr one) names ≡ false →
     AllByRecursion (λ other. is_same_attr one other ≡ false) names
 none_same one [] none = tt
 none_same one (other ∷ names) none =
-    let both = neither (is_same_attr one other) (list_any (is_same_attr one) names) none in
+    let both = or_parts (is_same_attr one other) (list_any (is_same_attr one) names) none in
     (both.0, none_same one names both.1)
 
 once_each : (names : List AttrName) → has_twice names ≡ false → IsDistinct is_same_attr names
 unfolding IsDistinct
 once_each [] none = tt
 once_each (one ∷ names) none =
-    let both = neither (list_any (is_same_attr one) names) (has_twice names) none in
+    let both = or_parts (list_any (is_same_attr one) names) (has_twice names) none in
     (none_same one names both.0, once_each names both.1)
 
 pub record IsSoundNode (node : Node) : Type 0 where
@@ -74,9 +68,11 @@ own_sound path node none =
           once_each (names_of node)
           (fault_none (has_twice (names_of node)) (fault.Attr path) twice.0);
       whole =
-          isnt (has_needs (rule_of node.tag) node)
+          not-false (has_needs (rule_of node.tag) node)
           (fault_none (not (has_needs (rule_of node.tag) node)) (fault.Missing path) others.0);
-      forms = isnt (has_forms node) (fault_none (not (has_forms node)) (fault.Value path) others.1);
+      forms =
+          not-false (has_forms node)
+          (fault_none (not (has_forms node)) (fault.Value path) others.1);
     }
 
 -- ---- the items of a node
@@ -134,7 +130,7 @@ items_sound level path rule earlier (item ∷ items) none =
     (inner_faults level.own level.inner others here (node_of item)) step.0 in (
       record {
         stands =
-            isnt (stands rule earlier (node_of item) (words_of item))
+            not-false (stands rule earlier (node_of item) (words_of item))
             (fault_none (is_misplaced rule earlier item) (fault.Child here) child.0);
         node = any_sound level others here (node_of item) child.1;
       },
@@ -149,7 +145,7 @@ stands_at : (level : Level) (path : List ℕ) (rule : Rule) (earlier items : Lis
 stands_at level path rule earlier [] sound i item is = absurd (cc is)
 stands_at level path rule earlier (first ∷ items) sound zero item is =
     let same : first ≡ item = cc in
-    ap (λ before. stands rule before (node_of item) (words_of item)) (append-none earlier)
+    ap (λ before. stands rule before (node_of item) (words_of item)) (append-nil earlier)
     ∙ ap (λ one. stands rule earlier (node_of one) (words_of one)) (sym same) ∙ sound.0.stands
 stands_at level path rule earlier (first ∷ items) sound (suc i) item is =
     ap (λ before. stands rule before (node_of item) (words_of item))
@@ -243,11 +239,6 @@ names_by apart levels None = []
 names_by apart levels (Some node) =
     option_to_list (own_name apart node) ++ names_among apart levels node.kids
 
-cons_to_list : (found : Option (List ℕ)) (rest : List (List ℕ)) →
-    cons_option found rest ≡ option_to_list found ++ rest
-cons_to_list None rest = refl
-cons_to_list (Some name) rest = refl
-
 names_of_one : (apart : Bool) (levels : ℕ) (found : Option Node) →
     filter_map (own_name apart)
     (flat_map (λ node. node ∷ nodes_in levels node.kids) (cons_option found []))
@@ -257,7 +248,7 @@ names_of_one apart levels (Some node) =
     cons_to_list (own_name apart node)
     (filter_map (own_name apart) (nodes_in levels node.kids ++ [])) ∙
     ap (λ nodes. option_to_list (own_name apart node) ++ filter_map (own_name apart) nodes)
-    (append-none (nodes_in levels node.kids))
+    (append-nil (nodes_in levels node.kids))
 
 pub names_with : (apart : Bool) (levels : ℕ) (names : List (List ℕ))
     (earlier : List Item) (item : Item) →
@@ -280,7 +271,7 @@ any_apart : (apart : Bool) (levels : ℕ) (all : ℕ) (names : List (List ℕ)) 
     AnySound (names_level (node_places levels apart) apart all names) others path found →
     AreDistinct others → AreDistinct (others ++ names_by apart levels found)
 any_apart apart levels all names inner others path None sound distinct =
-    subst AreDistinct (sym (append-none others)) distinct
+    subst AreDistinct (sym (append-nil others)) distinct
 any_apart apart levels all names inner others path (Some node) sound distinct =
     let own = option_to_list (own_name apart node) in
     subst AreDistinct (append_assoc others own (names_among apart levels node.kids)) (inner (others
@@ -294,7 +285,7 @@ items_apart : (apart : Bool) (levels : ℕ) (names : List (List ℕ)) → Apart 
     AreDistinct (names ++ names_among apart (suc levels) (earlier ++ items))
 items_apart apart levels names inner path rule earlier [] sound distinct =
     subst (λ items. AreDistinct (names ++ names_among apart (suc levels) items))
-    (sym (append-none earlier)) distinct
+    (sym (append-nil earlier)) distinct
 items_apart apart levels names inner path rule earlier (item ∷ items) sound distinct =
     let one =
     any_apart apart levels (suc levels) names inner (names ++ names_among apart
@@ -306,7 +297,7 @@ items_apart apart levels names inner path rule earlier (item ∷ items) sound di
 
 pub node_apart : (levels : ℕ) (apart : Bool) → Apart apart levels
 node_apart zero apart names path node none distinct =
-    subst AreDistinct (sym (append-none names)) distinct
+    subst AreDistinct (sym (append-nil names)) distinct
 node_apart (suc levels) apart names path node none distinct =
     let sound =
     items_sound (names_level (node_places levels apart) apart (suc levels) names) path
@@ -314,4 +305,4 @@ node_apart (suc levels) apart names path node none distinct =
     (sym (ap judged (deeper_one levels apart names path node)) ∙ none) in
     items_apart apart levels names (node_apart levels apart) path
     (rule_of node.tag) [] node.kids sound (subst AreDistinct
-    (sym (ap (λ more. names ++ more) (names_none apart (suc levels)) ∙ append-none names)) distinct)
+    (sym (ap (λ more. names ++ more) (names_none apart (suc levels)) ∙ append-nil names)) distinct)

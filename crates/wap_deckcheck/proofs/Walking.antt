@@ -12,6 +12,7 @@ use Rattle.wap_deckcheck.specs.inside.Reached.{HasReached}
 use Rattle.std.specs.Option.{option_and_then, option_to_list}
 use Rattle.std.proofs.lemmas.Grind.{flat_map-append}
 use Rattle.std.proofs.lemmas.List.Elements.{filter_map-append}
+use Rattle.std.proofs.lemmas.List.{append-nil}
 use Rattle.wap_tokens.specs.declared.markup.deck.Node.{Node}
 use Rattle.wap_tokens.specs.declared.markup.deck.Item.{Item, out-Item}
 use Rattle.wap_tokens.specs.declared.markup.deck.Item.TheOpen.{Item-F}
@@ -99,14 +100,10 @@ names-append apart (suc levels) items more =
     filter_map-append (own_name apart) (flat_map below (filter_map node_of items))
     (flat_map below (filter_map node_of more))
 
-cons_to_list : (found : Option (List ℕ)) (rest : List (List ℕ)) →
+pub cons_to_list : (found : Option (List ℕ)) (rest : List (List ℕ)) →
     cons_option found rest ≡ option_to_list found ++ rest
 cons_to_list None rest = refl
 cons_to_list (Some name) rest = refl
-
-pub append-none : {X : Type 0} (xs : List X) → xs ++ [] ≡ xs
-append-none [] = refl
-append-none (x ∷ xs) = ap (λ xs. x ∷ xs) (append-none xs)
 
 pub names_in_node : (apart : Bool) (levels : ℕ) (item : Item) (node : Node) →
     out-Item item ≡ Item-F.Node node →
@@ -119,7 +116,7 @@ names_in_node apart levels item node is =
     cons_to_list (own_name apart node)
     (filter_map (own_name apart) (nodes_in levels node.kids ++ [])) ∙
     ap (λ nodes. option_to_list (own_name apart node) ++ filter_map (own_name apart) nodes)
-    (append-none (nodes_in levels node.kids))
+    (append-nil (nodes_in levels node.kids))
 
 pub ids-append : (items more : List Item) →
     ids_among (items ++ more) ≡ ids_among items ++ ids_among more

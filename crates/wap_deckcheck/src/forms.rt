@@ -1,5 +1,5 @@
 //! The values that attributes may have.
-ghost use Rattle.std.specs.Prelude.{◌≡◌, ◌||◌, [], true, not, map};
+ghost use Rattle.std.specs.Prelude.{◌≡◌, ◌||◌, [], true, not, map, is_none};
 ghost use Rattle.std.specs.List.{list_any, list_all};
 ghost use Rattle.std.specs.Str.{bytes_eq};
 ghost use Rattle.wap_base.specs.Texts.{is_same_text};
@@ -26,6 +26,9 @@ pub enum LentForm {
 }
 
 const BOOLEANS: LentForm = LentForm::Words(&["true", "false"]);
+
+/// The name and the value of an attribute.
+type Attribute = (AttrName, Rows<Part>);
 
 /// An attribute that has a form.
 type Row = (AttrName, LentForm);
@@ -83,7 +86,7 @@ fn rows_of(tag: Tag) -> &'static [Row]
 }
 
 /// Whether an attribute stands twice.
-pub(crate) fn has_twice(attrs: &[(AttrName, Rows<Part>)]) -> bool
+pub(crate) fn has_twice(attrs: &[Attribute]) -> bool
     ensures { result ≡ has_twice (map (λ a. a.0) attrs.now) }
 {
     let mut left = attrs;
@@ -97,7 +100,7 @@ pub(crate) fn has_twice(attrs: &[(AttrName, Rows<Part>)]) -> bool
 }
 
 /// Whether there is an attribute of this name.
-pub(crate) fn has_name(attrs: &[(AttrName, Rows<Part>)], name: AttrName) -> bool
+pub(crate) fn has_name(attrs: &[Attribute], name: AttrName) -> bool
     ensures { result ≡ list_any (is_same_attr name) (map (λ a. a.0) attrs.now) }
 {
     for attr in attrs {
@@ -170,44 +173,38 @@ fn value_has(form: &LentForm, parts: &[Part]) -> bool
     }
 }
 
-/// Whether each value of this name is of a form.
-fn all_have(name: AttrName, form: &LentForm, attrs: &[(AttrName, Rows<Part>)]) -> bool
+/// The first value of this name that isn't of a form, with its attribute.
+fn wrong_of<'a>(name: AttrName, form: &LentForm, attrs: &'a [Attribute]) -> Option<&'a Attribute>
     requires { has_plain_words form.now ≡ true }
-    ensures { result ≡ list_all (λ a. not (is_same_attr a.0 name)
+    ensures { is_none result ≡ list_all (λ a. not (is_same_attr a.0 name)
         || value_has (form_of form.now) (plain_text a.1)) attrs.now }
 {
     for attr in attrs {
         if attr.0 == name && !value_has(form, attr.1.as_slice()) {
-            return false;
+            return Some(attr);
         }
     }
-    true
+    None
 }
 
-/// Whether each attribute of a node that has a form in a row is of that form.
-fn has_row(row: &Row, node: &Node) -> bool
-    requires { has_plain_words row.now.1 ≡ true }
-    ensures { result ≡ all_have row.now.0 (form_of row.now.1) node.now }
-{
-    all_have(row.0, &row.1, node.attrs.as_slice())
-}
-
-/// Whether each attribute of a node that has a form in some rows is of that form.
-fn has_rows(rows: &[Row], node: &Node) -> bool
+/// The first attribute of a node that has a form in some rows and isn't of it, by the order of the
+/// rows, with that form.
+fn wrong_in<'a>(rows: &[Row], node: &'a Node) -> Option<(&'a Attribute, LentForm)>
     requires { list_all (λ row. has_plain_words row.1) rows.now ≡ true }
-    ensures { result ≡ list_all (λ row. all_have row.0 (form_of row.1) node.now) rows.now }
+    ensures { is_none result ≡ list_all (λ row. all_have row.0 (form_of row.1) node.now) rows.now }
 {
     for row in rows {
-        if !has_row(row, node) {
-            return false;
+        if let Some(attr) = wrong_of(row.0, &row.1, node.attrs.as_slice()) {
+            return Some((attr, row.1));
         }
     }
-    true
+    None
 }
 
-/// Whether each attribute of a node that has a form is of that form.
-pub(crate) fn has_forms(node: &Node) -> bool
-    ensures { result ≡ has_forms node.now }
+/// An attribute of an element whose value isn't of the form that it has to be of, and that form:
+/// none where each value may stand there.
+pub fn wrong_value(node: &Node) -> Option<(&Attribute, LentForm)>
+    ensures { is_none result ≡ has_forms node.now }
 {
-    has_rows(rows_of(node.tag), node)
+    wrong_in(rows_of(node.tag), node)
 }

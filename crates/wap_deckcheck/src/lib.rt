@@ -12,5 +12,6 @@ mod walk;
 
 pub use cards::card_count;
 pub use fault::DeckFault;
+pub use forms::{LentForm, wrong_value};
 pub use judge::{check, judge_deck};
 pub use laws::{faults_ascend, good_is_faultless, rules_are_listed};

@@ -13,7 +13,7 @@ ghost use Rattle.wap_deckcheck.specs.inside.Walks.{judged, inner_faults, item_fa
 
 use crate::DeckFault;
 use crate::fault::{Kind, fault_at};
-use crate::forms::{has_forms, has_twice};
+use crate::forms::{has_twice, wrong_value};
 use crate::names::{Label, Names, own_id, own_name};
 use crate::rules::{Rule, has_needs, holds_dos};
 use std::alloc::Global;
@@ -59,7 +59,7 @@ fn judge_node(alloc: Global, path: &Rows<usize>, rule: &Rule, node: &Node) -> Re
     if !has_needs(rule, node) {
         return Err(fault_at(alloc, Kind::Missing, path));
     }
-    if !has_forms(node) {
+    if wrong_value(node).is_some() {
         return Err(fault_at(alloc, Kind::Value, path));
     }
     Ok(())

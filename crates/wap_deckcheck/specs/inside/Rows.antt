@@ -41,9 +41,7 @@ is_plain_word word = list_all (λ c. nat_lt c 128) word
 
 abbrev pub has_plain_words : LentForm → Bool
 has_plain_words (lent.Words some) = list_all is_plain_word (words_of some.now)
-has_plain_words lent.Variable = true
-has_plain_words lent.OptionalVariable = true
-has_plain_words lent.Plain = true
+has_plain_words _ = true
 
 abbrev pub form_of : LentForm → Form
 form_of (lent.Words some) = words (words_of some.now)

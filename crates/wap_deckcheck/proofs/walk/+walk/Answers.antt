@@ -1,13 +1,14 @@
 use Rattle.std.proofs.Common.{◌∙◌, ap, sym, Err, ◌<◌, ◌-◌, [], ◌++◌, List, refl, arith}
 use Rattle.std.proofs.lemmas.Result.{err_from_is_err_and}
 use Rattle.std.proofs.lemmas.Bool.Decides.{nat_tests}
+use Rattle.std.proofs.lemmas.List.{append-nil}
 use Rattle.wap_tokens.specs.markup.Good.{Rule}
 use Rattle.wap_tokens.specs.declared.markup.deck.Item.{Item}
 use Rattle.wap_deckcheck.specs.Places.{own_name, names_level, node_places, items_places}
 use Rattle.wap_deckcheck.specs.inside.Walks.{judged}
 use Rattle.wap_deckcheck.specs.declared.walk.Walk.{Walk}
 use Rattle.wap_deckcheck.proofs.Walking.{exits, exits_own, walked_node, no_deeper, deeper}
-use Rattle.wap_deckcheck.proofs.Walking.{append-none, names_none, turn_faulty}
+use Rattle.wap_deckcheck.proofs.Walking.{names_none, turn_faulty}
 use Rattle.wap_deckcheck.proofs.Walking.{turn_faultless, turn_reached, turn_names}
 use Rattle.wap_deckcheck.proofs.walk.+walk.Goals as goal
 
@@ -44,7 +45,7 @@ judge_kids-loop-number-init t c =
       path = refl;
       names =
           sym (ap (λ names. c.args.walk.now.names ++ names) (names_none c.args.apart c.args.levels)
-          ∙ append-none c.args.walk.now.names);
+          ∙ append-nil c.args.walk.now.names);
       reached = λ place. grind (arith, nat_tests);
       faults =
           sym (ap judged (deeper c.args.levels c.args.apart c.args.walk.now.names

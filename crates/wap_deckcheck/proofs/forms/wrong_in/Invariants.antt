@@ -2,7 +2,7 @@ use Rattle.std.proofs.Common.{◌≡◌, drop}
 use Rattle.std.specs.List.{list_all}
 use Rattle.wap_tokens.specs.markup.Good.{all_have}
 use Rattle.wap_deckcheck.specs.inside.Rows.{form_of}
-use Rattle.wap_deckcheck.proofs.forms.has_rows.Given as goal
+use Rattle.wap_deckcheck.proofs.forms.wrong_in.Given as goal
 
 -- what is left tells it
 abbrev pub invariant-loop-row : goal.invariant-loop-row

@@ -4,7 +4,7 @@ use Rattle.wap_tokens.specs.markup.Tables.{is_same_attr}
 use Rattle.wap_tokens.specs.markup.Good.{value_has}
 use Rattle.wap_deckcheck.specs.inside.Rows.{form_of}
 use Rattle.wap_tokens.specs.markup.Trees.{plain_text}
-use Rattle.wap_deckcheck.proofs.forms.all_have.Given as goal
+use Rattle.wap_deckcheck.proofs.forms.wrong_of.Given as goal
 
 -- what is left tells it
 abbrev pub invariant-loop-attr : goal.invariant-loop-attr
