@@ -52,9 +52,8 @@ content_of node = kids_marks (marks_in LEVEL_LIMIT) node
 
 -- the element that begins here, if one does
 abbrev pub begun_by : Mark → Option Node
-begun_by (words parts) = None
 begun_by (begins node) = Some node
-begun_by (ends node) = None
+begun_by _ = None
 
 -- the elements
 abbrev pub elements_of : Node → List Node

@@ -26,10 +26,8 @@ pub record TextEntered : Type 0 where
 
 -- why a text is not set
 abbrev pub entered_for : VarFault → Entered
-entered_for faults.BadName = entered.Refused
-entered_for (faults.TooLong bytes) = entered.Refused
 entered_for faults.Full = entered.Full
-entered_for faults.NoMemory = entered.Refused
+entered_for _ = entered.Refused
 
 -- what is answered where a variable was set, or refused its text
 abbrev pub entered_by : Variables → Result Variables VarFault → TextEntered

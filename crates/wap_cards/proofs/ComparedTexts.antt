@@ -1,15 +1,13 @@
 -- Texts that are compared with words.
-use Rattle.std.proofs.Common.{◌≡◌, ℕ, zero, suc, ◌<◌, List, [], ◌∷◌, Bool, true}
-use Rattle.std.proofs.Common.{nat_lt, Decides, refl, sym, ap, ◌∙◌, arith}
+use Rattle.std.proofs.Common.{◌≡◌, ℕ, List, true, Decides, refl, sym, ap, ◌∙◌}
 use Rattle.std.specs.Prelude.{encode_utf8_all, codes}
-use Rattle.std.specs.List.{list_all}
-use Rattle.std.specs.Str.{IsUtf8, IsAscii, chars, bytes_eq}
+use Rattle.std.specs.Str.{IsUtf8, chars, bytes_eq}
 use Rattle.std.specs.Cmp.Lexicographic.{bytes_decides}
 use Rattle.std.proofs.lemmas.Slice.Eq.{bytes_eq-Decides}
-use Rattle.std.proofs.lemmas.Bool.{and_parts}
-use Rattle.std.proofs.lemmas.Str.{encodes-chars, chars-IsAscii}
-use Rattle.std.proofs.lemmas.Bool.Decides.{same_from_decides, Decides-ltb}
+use Rattle.std.proofs.lemmas.Str.{encodes-chars}
+use Rattle.std.proofs.lemmas.Bool.Decides.{same_from_decides}
 use Rattle.wap_base.specs.Texts.{is_same_text}
+use Rattle.wap_tokens.proofs.Plain.{chars-plain}
 
 -- a text is compared with a word by its bytes or by its characters
 pub same_word : (bytes text word : List ℕ) → bytes ≡ encode_utf8_all text → chars bytes ≡ text
@@ -35,20 +33,6 @@ word_same bytes text word encoded read utf8 =
     same_from_decides (bytes_eq bytes word) (is_same_text (chars word) text) by_bytes by_text
 
 -- ---- words of US-ASCII, whose bytes are their characters
-
-abbrev pub is_plain : List ℕ → Bool
-is_plain text = list_all (λ c. nat_lt c 128) text
-
-below : (c : ℕ) → nat_lt c 128 ≡ true → c < 128
-below c so = (Decides-ltb c 128).0 so
-
-ascii : (text : List ℕ) → is_plain text ≡ true → IsAscii text
-ascii [] plain i = omega arith
-ascii (c ∷ cs) plain zero = below c (and_parts (nat_lt c 128) (is_plain cs) plain).0
-ascii (c ∷ cs) plain (suc i) = ascii cs (and_parts (nat_lt c 128) (is_plain cs) plain).1 i
-
-pub chars-plain : (text : List ℕ) → is_plain text ≡ true → chars text ≡ text
-chars-plain text plain = chars-IsAscii text (ascii text plain)
 
 pub word_true : chars (codes "true") ≡ codes "true"
 word_true = chars-plain (codes "true") refl

@@ -62,28 +62,4 @@ module _ (kind : Sought) where
         (among_both (begins node ∷ inner node) (ends node ∷ [])
         ∙ append-nil (sought_among kind (begins node ∷ inner node)))
 
-    -- a node that was read
-    pub node_found : (node : Node) (kids : List Item) (found after whole : List Node)
-        → found ++ sought_among kind (left_marks inner may_have_text kids) ≡ whole
-        → kids ≡ item.Node node ∷ rest
-        → after ≡ found ++ sought_among kind (begins node ∷ inner node) → after ++ left ≡ whole
-    node_found node kids found after whole was kids_are after_is =
-        let here = sought_among kind (begins node ∷ inner node) in
-        ap (λ (l : List Node). l ++ left) after_is
-        ∙ append_assoc found here left
-        ∙ ap (λ (l : List Node). found ++ l) (sym (first_in_node node))
-        ∙ ap (λ (l : List Item). found ++ sought_among kind (left_marks inner may_have_text l))
-        (sym kids_are)
-        ∙ was
-
-    -- a text that was read
-    pub text_passed : (parts : List Part) (kids : List Item) (found whole : List Node)
-        → found ++ sought_among kind (left_marks inner may_have_text kids) ≡ whole
-        → kids ≡ item.Text parts ∷ rest → found ++ left ≡ whole
-    text_passed parts kids found whole was kids_are =
-        ap (λ (l : List Node). found ++ l) (sym (none_in_text parts))
-        ∙ ap (λ (l : List Item). found ++ sought_among kind (left_marks inner may_have_text l))
-        (sym kids_are)
-        ∙ was
-
 pub ruleset element_steps = (first_in_node, none_in_text, append_assoc)

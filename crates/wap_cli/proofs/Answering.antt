@@ -1,14 +1,12 @@
 -- What a command on one page comes to, by what the calls below answered.
-use Rattle.std.proofs.Common.{◌≡◌, ◌≢◌, ℕ, List, Some}
-use Rattle.std.proofs.Common.{Result, Ok, Err, refl, ap}
+use Rattle.std.proofs.Common.{◌≡◌, ◌≢◌, ℕ, List, Some, Result, Ok, Err, refl, ap}
 use Rattle.wap_devices.specs.Sinks.{SinkSeen, Puts}
 use Rattle.wap_devices.specs.declared.fault.Failed.{Failed}
 use Rattle.wap_keys.specs.declared.words.words.PageCommand.{PageCommand}
 use Rattle.wap_pages.specs.declared.fault.PageFault.{PageFault}
 use Rattle.wap_pages.specs.declared.fault.PageErr.{PageErr}
 use Rattle.wap_pages.specs.declared.fault.PageErr.TheVariants as error
-use Rattle.wap_cli.specs.Answers.{IsText, IsReason, Finds, Answers, refused_by}
-use Rattle.wap_cli.specs.Answers.{written_so}
+use Rattle.wap_cli.specs.Answers.{IsText, IsReason, Finds, Answers, refused_by, written_so}
 use Rattle.wap_cli.proofs.Writing.{puts_by}
 
 -- a value isn't an error

@@ -15,23 +15,14 @@ use Rattle.wap_pages.specs.declared.fault.PageFault.{PageFault}
 use Rattle.wap_pages.specs.declared.fault.PageFault.TheVariants as page
 
 abbrev pub is_of_memory : PageFault → Bool
-is_of_memory page.Missing = false
 is_of_memory (page.Document document.NoMemory) = true
-is_of_memory (page.Document why) = false
 is_of_memory (page.Deck deck.NoMemory) = true
-is_of_memory (page.Deck why) = false
 is_of_memory (page.Source (compile.Lex lex.NoMemory)) = true
 is_of_memory (page.Source (compile.Parse parse.NoMemory)) = true
 is_of_memory (page.Source (compile.Scope scope.NoMemory)) = true
 is_of_memory (page.Source compile.NoMemory) = true
-is_of_memory (page.Source why) = false
 is_of_memory (page.Unit unit.NoMemory) = true
-is_of_memory (page.Unit why) = false
 is_of_memory (page.Verify verify.NoMemory) = true
-is_of_memory (page.Verify why) = false
-is_of_memory page.NotText = false
 is_of_memory (page.Image image.NoMemory) = true
-is_of_memory (page.Image why) = false
 is_of_memory (page.Save save.NoMemory) = true
-is_of_memory (page.Save why) = false
-is_of_memory page.NotDeck = false
+is_of_memory _ = false

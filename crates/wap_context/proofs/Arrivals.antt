@@ -36,11 +36,8 @@ use Rattle.wap_context.proofs.Plays.{history_kept, turns_kept, over_kept}
 -- the answer of a page that is entered is one of a page that is gone back to
 pub entered_deck : (one : Page) (answer : Result Deck Refusal) → page_answer one ≡ Ok answer
     → answer ≡ deck_answer one
-entered_deck (page.Deck other) answer is = cc
 entered_deck (page.Script unit) answer is = absurd (cc)
-entered_deck (page.Words text) answer is = cc
-entered_deck page.Refused answer is = cc
-entered_deck page.Missing answer is = cc
+entered_deck _ answer is = cc
 
 -- a scene that settles a navigation
 pub moves_settled : (rule : Option Place → World → Scene) (old new : Browser)

@@ -8,18 +8,17 @@ use Rattle.wap_execution.specs.declared.fatal.Fatal.{Fatal}
 use Rattle.wap_cardrules.specs.declared.event.Event.TheVariants as event
 use Rattle.wap_cardrules.specs.declared.task.Task.{Task}
 use Rattle.wap_world.specs.declared.timer.Timer.{Timer}
-use Rattle.wap_world.specs.declared.timer.Timer.TheVariants.{NotStarted, Running, Off, Expired}
+use Rattle.wap_world.specs.declared.timer.Timer.TheVariants.{Off, Expired}
 use Rattle.wap_world.specs.Shelves.{Shelf}
 use Rattle.wap_world.specs.World.{World, Place, place_now}
-use Rattle.wap_world.specs.Steps.{Step, Once, then_step, after_step, still, quiet}
-use Rattle.wap_world.specs.Steps.{settled}
+use Rattle.wap_world.specs.Steps.{Step, Once, then_step, after_step, still, quiet, settled}
 use Rattle.wap_world.specs.Timers.{settled_timer}
 use Rattle.wap_world.specs.Entering.{event_task}
 use Rattle.wap_world.specs.Starting.{script_line, in_world, or_show, rest, end_done}
 use Rattle.wap_world.proofs.Joining.{once_before, or_false, joined_nothing, after_assoc}
 use Rattle.wap_machine.specs.Runs.{meant, KeepsLimits}
 use Rattle.wap_machine.specs.declared.machine.Outcome.{Outcome}
-use Rattle.wap_machine.specs.declared.machine.Outcome.TheVariants.{Done, Exited, Fatal as Died, Asks}
+use Rattle.wap_machine.specs.declared.machine.Outcome.TheVariants.{Fatal as Died, Asks}
 use Rattle.wap_world.specs.scripting.Halves.{half_by}
 use Rattle.wap_state.specs.Scenes.{Line}
 use Rattle.wap_context.specs.inside.AtHand.{entered_at}
@@ -35,12 +34,10 @@ or_is shelf keys (Some task) w = refl
 
 rest_is : (shelf : Shelf) (keys : List Key) (timer : Timer) (w : World)
     → rest shelf keys timer w ≡ once_before keys (rest_at timer (place_now shelf w) w)
-rest_is shelf keys NotStarted w = refl
-rest_is shelf keys (Running time) w = refl
-rest_is shelf keys Off w = refl
 rest_is shelf keys Expired w =
     let late = record w { timer = Off } in
     or_is shelf keys (event_task shelf event.Timer late) late
+rest_is shelf keys _ w = refl
 
 -- lines more, and another world
 joined_lines : (step : Step) (keys : List Key) (v : World) (lines : List Line)
@@ -96,14 +93,6 @@ pub half_is : (limits : Limits) (shelf : Shelf) (base : Url) (outcome : Outcome)
           (end_at base outcome (place_now shelf step.world) step.world));
       waiting = waits_by base outcome;
     }
-half_is limits shelf base (Done v) turns state keeps =
-    let step = in_world (record state.world { turns = turns }) state in
-    ap (λ (o : Once). record { once = o; waiting = None })
-    (done_is shelf base step step.world.pending)
-half_is limits shelf base (Exited v) turns state keeps =
-    let step = in_world (record state.world { turns = turns }) state in
-    ap (λ (o : Once). record { once = o; waiting = None })
-    (done_is shelf base step step.world.pending)
 half_is limits shelf base (Died why) turns state keeps =
     let step = in_world (record state.world { turns = turns }) state in
     ap (λ (o : Once). record { once = o; waiting = None }) (failed_is shelf base step why)
@@ -118,3 +107,7 @@ half_is limits shelf base (Asks dialog machine) turns state keeps =
         base = base;
       });
     }) (settled_is shelf base step) (sym keeps)
+half_is limits shelf base _ turns state keeps =
+    let step = in_world (record state.world { turns = turns }) state in
+    ap (λ (o : Once). record { once = o; waiting = None })
+    (done_is shelf base step step.world.pending)

@@ -1,7 +1,6 @@
 -- Time that passes: quiet steps, a timer that runs out, and time in a dialog.
-use Rattle.std.proofs.Common.{◌≡◌, ◌∙◌, ◌<◌, ◌≤◌, ◌-◌, ℕ, Bool, List, [], ◌++◌}
-use Rattle.std.proofs.Common.{Option, Some, None, Ok, Err, refl, sym, ap, subst}
-use Rattle.std.proofs.Common.{cond}
+use Rattle.std.proofs.Common.{◌≡◌, ◌∙◌, ◌<◌, ◌≤◌, ◌-◌, ℕ, Bool, List, [], ◌++◌, Option, Some, None}
+use Rattle.std.proofs.Common.{Ok, Err, refl, sym, ap, subst, cond}
 use Rattle.std.specs.Prelude.{Result, IsErr, IsErrAnd}
 use Rattle.std.specs.Option.{option_map}
 use Rattle.std.proofs.lemmas.Bool.{lt-ltb, le-ltb, false≢true}
@@ -13,7 +12,7 @@ use Rattle.wap_cardrules.specs.declared.task.Task.{Task}
 use Rattle.wap_world.specs.site.Asking.{Seen}
 use Rattle.wap_world.proofs.SiteLemmas.Asking.{Asks-nil, Stays-same}
 use Rattle.wap_world.specs.declared.timer.Timer.{Timer}
-use Rattle.wap_world.specs.declared.timer.Timer.TheVariants.{NotStarted, Running, Off, Expired}
+use Rattle.wap_world.specs.declared.timer.Timer.TheVariants.{Running}
 use Rattle.wap_world.specs.Shelves.{Shelf}
 use Rattle.wap_world.specs.World.{World, Place}
 use Rattle.wap_world.specs.Steps.{Scene, Step, then_task, still, quiet, then_step, followed}
@@ -140,10 +139,8 @@ tick_is n pages keys old over =
 none_by : (n : ℕ) (pages : Pages) (keys : List Key) (w : World) (timer : Timer) (place : Place)
     → left_of timer ≡ None
     → pass_time (site_of pages) keys n timer place w ≡ quiet keys (ignored w)
-none_by n pages keys w NotStarted place is = refl
 none_by n pages keys w (Running time) place is = absurd (cc)
-none_by n pages keys w Off place is = refl
-none_by n pages keys w Expired place is = refl
+none_by n pages keys w _ place is = refl
 
 none_at : (n : ℕ) (pages : Pages) (keys : List Key) (w : World) (place : Option Place)
     → left_at place w.timer ≡ None → tick_by n pages keys w place ≡ quiet keys (ignored w)
@@ -159,11 +156,9 @@ tick_none n pages keys old over is =
 
 -- one runs, with so much left
 running_by : (timer : Timer) (left : ℕ) → left_of timer ≡ Some left → timer ≡ Running left
-running_by NotStarted left is = absurd (cc)
 running_by (Running time) left is =
     let same : time ≡ left = cc in ap Running same
-running_by Off left is = absurd (cc)
-running_by Expired left is = absurd (cc)
+running_by _ left is = absurd (cc)
 
 record RunsAt (place : Option Place) (timer : Timer) (left : ℕ) : Type 0 where
   at : Place

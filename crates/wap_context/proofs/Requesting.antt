@@ -1,7 +1,6 @@
 -- Navigations of a browser over pages that are known, with any keys after them: each from what it
 -- finds at the place at hand, and from the page that answers.
-use Rattle.std.proofs.Common.{◌≡◌, ◌∙◌, ◌≤◌, ℕ, ◌+◌, List, [], ◌∷◌, Option, Some, None, Ok}
-use Rattle.std.proofs.Common.{Err}
+use Rattle.std.proofs.Common.{◌≡◌, ◌∙◌, ◌≤◌, ℕ, ◌+◌, List, [], ◌∷◌, Option, Some, None, Ok, Err}
 use Rattle.std.proofs.Common.{refl, sym, ap, subst, arith, false}
 use Rattle.std.specs.Prelude.{Result, IfOk, IfSome, IsErr, IsErrAnd}
 use Rattle.std.specs.Option.{option_map}
@@ -27,8 +26,7 @@ use Rattle.wap_world.specs.declared.refusal.Refusal.{Refusal}
 use Rattle.wap_world.specs.declared.refusal.Refusal.TheVariants as refusals
 use Rattle.wap_world.specs.Shelves.{Shelf, Shelved}
 use Rattle.wap_world.specs.World.{World, Place, place_now, deck_in}
-use Rattle.wap_world.specs.Steps.{Scene, Next, then_task, and_then, quiet, settled}
-use Rattle.wap_world.specs.Steps.{after_step}
+use Rattle.wap_world.specs.Steps.{Scene, Next, then_task, and_then, quiet, settled, after_step}
 use Rattle.wap_world.specs.Requests.{Request, plain_get, request_of, ask, answer_to}
 use Rattle.wap_world.specs.Urls.{target_of}
 use Rattle.wap_world.specs.Screens.{at_place, screen_lines}
@@ -36,8 +34,7 @@ use Rattle.wap_world.specs.Entering.{leave_place}
 use Rattle.wap_world.specs.Setting.{set_variables}
 use Rattle.wap_world.specs.Timers.{start_timer}
 use Rattle.wap_world.specs.Tasks.{refusing, request, answered, returned, ask_back, stay_or_ask}
-use Rattle.wap_world.specs.Tasks.{base_now}
-use Rattle.wap_world.specs.Tasks.{back_from, go, open_url, prev, with_turn, task_once}
+use Rattle.wap_world.specs.Tasks.{base_now, back_from, go, open_url, prev, with_turn, task_once}
 use Rattle.wap_world.specs.Tasks.{refresh_place, refresh}
 use Rattle.wap_world.proofs.Joining.{once_before}
 use Rattle.wap_world.specs.scripting.UnitSites.{Pages, shelf_of, unit_pages, units_site}
@@ -49,23 +46,19 @@ use Rattle.wap_context.specs.declared.waiting.Went.TheVariants.{Settled}
 use Rattle.wap_context.specs.Browsers.{Browser, IsOver, place_held}
 use Rattle.wap_context.specs.Sites.{site_of}
 use Rattle.wap_context.specs.inside.AtHand.{answered_at, returned_at, arrive_at, return_at}
-use Rattle.wap_context.specs.inside.AtHand.{refused_at}
-use Rattle.wap_context.specs.inside.AtHand.{refresh_at, page_under, page_here}
+use Rattle.wap_context.specs.inside.AtHand.{refused_at, refresh_at, page_under, page_here}
 use Rattle.wap_context.specs.inside.Moving.{PlaysAt, Moves, HasDeck, Answers, deck_answer}
-use Rattle.wap_context.specs.inside.Moving.{page_answer}
-use Rattle.wap_context.specs.inside.Moving.{Asked, next_in, waits_in, Takes, Onces, SpendsOne}
-use Rattle.wap_context.specs.inside.Moving.{HasNone}
+use Rattle.wap_context.specs.inside.Moving.{page_answer, Asked, next_in, waits_in, Takes, Onces}
+use Rattle.wap_context.specs.inside.Moving.{SpendsOne, HasNone}
 use Rattle.wap_context.specs.inside.Starting.{script_with}
 use Rattle.wap_context.proofs.Places.{held_now}
 use Rattle.wap_context.proofs.HeldDecks.{Page, under_has, here_has}
 use Rattle.wap_context.proofs.Arrivals.{answers_deck, entered_deck, moves_settled}
 use Rattle.wap_context.proofs.Rules.{refused_on, arrive_on, return_on, answered_on, returned_on}
 use Rattle.wap_context.proofs.Navigations.{stay_by, stay_found, base_held, go_is, go_refused}
-use Rattle.wap_context.proofs.Navigations.{open_is}
-use Rattle.wap_context.proofs.Navigations.{open_refused, back_by, back_found}
-use Rattle.wap_context.proofs.Navigations.{turn_is, turn_none, over_turn}
-use Rattle.wap_context.proofs.Takings.{Rule, takes_moves, takes_task}
-use Rattle.wap_context.proofs.Takings.{takes_from, takes_after}
+use Rattle.wap_context.proofs.Navigations.{open_is, open_refused, back_by, back_found, turn_is}
+use Rattle.wap_context.proofs.Navigations.{turn_none, over_turn}
+use Rattle.wap_context.proofs.Takings.{Rule, takes_moves, takes_task, takes_from, takes_after}
 use Rattle.wap_context.proofs.Takings.{After, told_asked, takes_by, takes_rejected, takes_missed}
 use Rattle.wap_context.proofs.Takings.{onces_from}
 use Rattle.wap_context.proofs.Scripts.{script_is}
@@ -96,11 +89,8 @@ deck_has page answer is there same =
 -- a page that is a script
 is_script : (page : JudgedPage) (unit : Unit) → page_answer page ≡ Err unit
     → page ≡ judged_page.Script unit
-is_script (judged_page.Deck deck) unit is = absurd (cc)
 is_script (judged_page.Script other) unit is = cc
-is_script (judged_page.Words text) unit is = absurd (cc)
-is_script judged_page.Refused unit is = absurd (cc)
-is_script judged_page.Missing unit is = absurd (cc)
+is_script _ unit is = absurd (cc)
 
 module _ (seen : Seen) (old new : Browser) (before : List Line) where
   -- a refusal

@@ -153,10 +153,7 @@ stands_over : (pages : JudgedPages) (world : World) (last : Entry) (answer : Pag
     → StandsOver (shelf_of (unit_pages pages)) (revived_on world answer)
 stands_over pages world last (page.Deck deck) site is answer =
     deck_over pages world last deck site is answer
-stands_over pages world last (page.Script unit) site is answer = tt
-stands_over pages world last (page.Words text) site is answer = tt
-stands_over pages world last page.Refused site is answer = tt
-stands_over pages world last page.Missing site is answer = tt
+stands_over pages world last _ site is answer = tt
 
 module _ (parts : ContextParts) (last : Entry) (is : last_entry (saved_world parts) ≡ Some last) where
   abbrev world : World

@@ -144,10 +144,8 @@ module _ (shelf : Shelf) (browser : Browser) (over : IsOver shelf browser) where
       ≡ once_before keys (returned_at sets earlier place w (deck_answer one))
   returned_on sets earlier (page.Deck deck) is keys =
       return_on sets earlier deck (ap deck_in is) keys
-  returned_on sets earlier (page.Script unit) is keys = refused_on refusals.Refused keys
-  returned_on sets earlier (page.Words text) is keys = refused_on refusals.Refused keys
-  returned_on sets earlier page.Refused is keys = refused_on refusals.Refused keys
   returned_on sets earlier page.Missing is keys = refused_on refusals.Missing keys
+  returned_on sets earlier _ is keys = refused_on refusals.Refused keys
 
 module _ (site : Site) (browser : Browser) (over : IsOver site.shelf browser) where
   -- a page that is no script

@@ -11,7 +11,7 @@ use Rattle.wap_base.specs.declared.limits.Limits.{Limits}
 use Rattle.wap_base.specs.Count.{greatest_count, raised, Rose}
 use Rattle.wap_url.specs.declared.url.Url.{Url}
 use Rattle.wap_base.specs.declared.key.Key.{Key}
-use Rattle.wap_execution.specs.Outcomes.{Outcome as Meant, value, exit, fatal, waits, stuck, Ended}
+use Rattle.wap_execution.specs.Outcomes.{Outcome as Meant, fatal, waits, Ended}
 use Rattle.wap_execution.specs.laws.Simulation.{ComeToSame, IsKin}
 use Rattle.wap_machine.specs.Hosts.{AtMost, Fetches}
 use Rattle.wap_machine.specs.Stacks.{Stack}
@@ -384,13 +384,9 @@ done_asks shelf base step (Some task) = ([], sym (append-nil step.asked))
 half_asks : (limits : Limits) (shelf : Shelf) (base : Url) (outcome : Meant) (turns : ℕ)
     (state : Step) → (rest : List Question)
     × ((half_by limits shelf base outcome turns state).once.step.asked ≡ state.asked ++ rest)
-half_asks limits shelf base (value v) turns state =
-    done_asks shelf base (in_world (record state.world { turns = turns }) state) state.world.pending
-half_asks limits shelf base (exit v) turns state =
-    done_asks shelf base (in_world (record state.world { turns = turns }) state) state.world.pending
 half_asks limits shelf base (fatal why) turns state = (_, refl)
 half_asks limits shelf base (waits dialog frames) turns state = ([], sym (append-nil state.asked))
-half_asks limits shelf base stuck turns state =
+half_asks limits shelf base _ turns state =
     done_asks shelf base (in_world (record state.world { turns = turns }) state) state.world.pending
 
 -- with keys

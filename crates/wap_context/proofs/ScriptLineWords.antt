@@ -2,7 +2,7 @@
 use Rattle.std.proofs.Common.{◌≡◌, refl, append_assoc}
 use Rattle.std.specs.Prelude.{codes}
 use Rattle.std.specs.Str.{chars}
-use Rattle.wap_cards.proofs.ComparedTexts.{chars-plain}
+use Rattle.wap_tokens.proofs.Plain.{chars-plain}
 
 -- what stands before the word
 pub word_script : chars (codes "! script ") ≡ codes "! script "

@@ -26,8 +26,7 @@ use Rattle.wap_world.specs.Starting.{external_started, start_call, start_if}
 use Rattle.wap_world.specs.Tasks.{answered}
 use Rattle.wap_world.specs.scripting.Units.{entrance_in, external_in}
 use Rattle.wap_world.specs.scripting.UnitSites.{Pages, shelf_of, unit_under, externals_of}
-use Rattle.wap_world.specs.scripting.UnitSites.{keyed_host}
-use Rattle.wap_world.specs.scripting.UnitSites.{ran_of, started_at, unit_pages}
+use Rattle.wap_world.specs.scripting.UnitSites.{keyed_host, ran_of, started_at, unit_pages}
 use Rattle.wap_world.specs.scripting.UnitSites.{units_site}
 use Rattle.wap_context.specs.host.Finding.{shelved_page}
 use Rattle.wap_context.proofs.HostLemmas.Shelves.{unit_is, externals_are}

@@ -1,6 +1,5 @@
 -- The listing of a unit. This project's own.
-use Rattle.std.specs.Prelude.{ℕ, zero, suc, ◌+◌, ◌-◌, ◌/◌, ◌%◌, ◌==◌, nat_lt}
-use Rattle.std.specs.Prelude.{if◌then◌else◌, List}
+use Rattle.std.specs.Prelude.{ℕ, zero, suc, ◌+◌, ◌-◌, ◌/◌, ◌%◌, ◌==◌, nat_lt, if◌then◌else◌, List}
 use Rattle.std.specs.Prelude.{[], ◌∷◌, ◌++◌, length, take, drop, slice_index, codes, decimal}
 use Rattle.std.specs.Prelude.{encode_utf8_all, Option, Some, None, Result, Ok, Err}
 use Rattle.std.specs.Int.{w32, to_be_bytes}
@@ -18,7 +17,7 @@ use Rattle.wap_unit.specs.declared.unit.Pragma.TheVariants.{Domain, Path, Proper
 use Rattle.wap_unit.specs.declared.unit.Code.{Code}
 use Rattle.wap_unit.specs.declared.row.Row.{Row}
 use Rattle.wap_unit.specs.declared.row.Slot.{Slot}
-use Rattle.wap_unit.specs.declared.row.Slot.TheVariants.{Absent, Low, Byte, Word}
+use Rattle.wap_unit.specs.declared.row.Slot.TheVariants.{Absent}
 use Rattle.wap_unit.specs.declared.instr.Instr.{Instr}
 use Rattle.wap_unit.specs.declared.instr.InstrFault.{InstrFault}
 use Rattle.wap_unit.specs.Instructions.{row_of, read_row}
@@ -100,9 +99,7 @@ head_line unit index function = line (codes "function") (
 -- 1 where there is an operand, else 0
 abbrev pub is_there : Slot → ℕ
 is_there Absent = 0
-is_there Low = 1
-is_there Byte = 1
-is_there Word = 1
+is_there _ = 1
 
 -- how many operands an instruction of this row has
 abbrev pub operand_count : Row → ℕ

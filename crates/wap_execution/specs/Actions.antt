@@ -7,31 +7,16 @@ use Rattle.wap_unit.specs.declared.row.OpName.TheVariants as op
 use Rattle.wap_value.specs.declared.operator.UnOp.TheVariants as un
 use Rattle.wap_value.specs.declared.operator.BinOp.TheVariants as bin
 use Rattle.wap_execution.specs.declared.action.Action.{Action}
-use Rattle.wap_execution.specs.declared.action.Action.TheVariants.{
-  Jump,
-  JumpBack,
-  JumpUnless,
-  JumpBackUnless,
-  ShortCircuit,
-  CallLocal,
-  CallLibrary,
-  CallExternal,
-  LoadVariable,
-  StoreVariable,
-  ChangeVariable,
-  AssignVariable,
-  LoadConstant,
-  GiveInteger,
-  GiveBoolean,
-  GiveEmpty,
-  GiveInvalid,
-  Unary,
-  Binary,
-  Pop,
-  Return,
-  ReturnEmpty,
-  Pass,
-}
+use Rattle.wap_execution.specs.declared.action.Action.TheVariants.{Jump, JumpBack, JumpUnless}
+use Rattle.wap_execution.specs.declared.action.Action.TheVariants.{JumpBackUnless, ShortCircuit}
+use Rattle.wap_execution.specs.declared.action.Action.TheVariants.{CallLocal, CallLibrary}
+use Rattle.wap_execution.specs.declared.action.Action.TheVariants.{CallExternal, LoadVariable}
+use Rattle.wap_execution.specs.declared.action.Action.TheVariants.{StoreVariable, ChangeVariable}
+use Rattle.wap_execution.specs.declared.action.Action.TheVariants.{AssignVariable, LoadConstant}
+use Rattle.wap_execution.specs.declared.action.Action.TheVariants.{GiveInteger, GiveBoolean}
+use Rattle.wap_execution.specs.declared.action.Action.TheVariants.{GiveEmpty, GiveInvalid, Unary}
+use Rattle.wap_execution.specs.declared.action.Action.TheVariants.{Binary, Pop, Return, ReturnEmpty}
+use Rattle.wap_execution.specs.declared.action.Action.TheVariants.{Pass}
 
 -- what the operation of a name does
 abbrev pub action_of : OpName → Action

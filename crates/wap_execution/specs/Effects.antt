@@ -18,31 +18,16 @@ use Rattle.wap_unit.specs.Instructions.{row_of, read_row}
 use Rattle.wap_unit.specs.Libraries.{lib_args}
 use Rattle.wap_unit.specs.Strings.{string_at}
 use Rattle.wap_execution.specs.declared.action.Action.{Action}
-use Rattle.wap_execution.specs.declared.action.Action.TheVariants.{
-  Jump,
-  JumpBack,
-  JumpUnless,
-  JumpBackUnless,
-  ShortCircuit,
-  CallLocal,
-  CallLibrary,
-  CallExternal,
-  LoadVariable,
-  StoreVariable,
-  ChangeVariable,
-  AssignVariable,
-  LoadConstant,
-  GiveInteger,
-  GiveBoolean,
-  GiveEmpty,
-  GiveInvalid,
-  Unary,
-  Binary,
-  Pop,
-  Return,
-  ReturnEmpty,
-  Pass,
-}
+use Rattle.wap_execution.specs.declared.action.Action.TheVariants.{Jump, JumpBack, JumpUnless}
+use Rattle.wap_execution.specs.declared.action.Action.TheVariants.{JumpBackUnless, ShortCircuit}
+use Rattle.wap_execution.specs.declared.action.Action.TheVariants.{CallLocal, CallLibrary}
+use Rattle.wap_execution.specs.declared.action.Action.TheVariants.{CallExternal, LoadVariable}
+use Rattle.wap_execution.specs.declared.action.Action.TheVariants.{StoreVariable, ChangeVariable}
+use Rattle.wap_execution.specs.declared.action.Action.TheVariants.{AssignVariable, LoadConstant}
+use Rattle.wap_execution.specs.declared.action.Action.TheVariants.{GiveInteger, GiveBoolean}
+use Rattle.wap_execution.specs.declared.action.Action.TheVariants.{GiveEmpty, GiveInvalid, Unary}
+use Rattle.wap_execution.specs.declared.action.Action.TheVariants.{Binary, Pop, Return, ReturnEmpty}
+use Rattle.wap_execution.specs.declared.action.Action.TheVariants.{Pass}
 use Rattle.wap_execution.specs.declared.fatal.Fatal.{Fatal}
 use Rattle.wap_execution.specs.declared.fatal.Fatal.TheVariants.{TooLong}
 use Rattle.wap_execution.specs.Actions.{action_of}

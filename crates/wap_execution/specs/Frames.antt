@@ -8,8 +8,7 @@ use Rattle.wap_url.specs.declared.url.Url.{Url}
 use Rattle.wap_unit.specs.declared.unit.Unit.{Unit}
 use Rattle.wap_unit.specs.declared.unit.Code.{Code}
 use Rattle.wap_unit.specs.declared.unit.Constant.{Constant}
-use Rattle.wap_unit.specs.declared.unit.Constant.TheVariants.{Int8, Int16, Int32, Float, Utf8}
-use Rattle.wap_unit.specs.declared.unit.Constant.TheVariants.{Empty, Coded}
+use Rattle.wap_unit.specs.declared.unit.Constant.TheVariants.{Int8, Int16, Int32, Float}
 use Rattle.wap_unit.specs.Strings.{string_of}
 
 -- a function of a script, with the script's URL and that of the script that called it, if one did;
@@ -63,9 +62,7 @@ constant_of charset (Int8 number) = Some (Int number)
 constant_of charset (Int16 number) = Some (Int number)
 constant_of charset (Int32 number) = Some (Int number)
 constant_of charset (Float bits) = Some Invalid
-constant_of charset (Utf8 text) = option_map Str (string_of charset (Utf8 text))
-constant_of charset Empty = option_map Str (string_of charset Empty)
-constant_of charset (Coded bytes) = option_map Str (string_of charset (Coded bytes))
+constant_of charset string = option_map Str (string_of charset string)
 
 -- the value of a unit's constant, if there is one with this index
 abbrev pub constant_at : Unit → ℕ → Option Value

@@ -13,8 +13,7 @@ use Rattle.wap_execution.specs.declared.found.Found.{Found}
 use Rattle.wap_execution.specs.declared.found.Found.TheVariants.{Callee, Not}
 use Rattle.wap_execution.specs.declared.library.HostOut.{HostOut}
 use Rattle.wap_execution.specs.declared.library.HostOut.TheVariants as answer
-use Rattle.wap_execution.specs.Frames.{FunctionOf, Function, Frame, code_at, code_of, begun}
-use Rattle.wap_execution.specs.Frames.{pushed}
+use Rattle.wap_execution.specs.Frames.{FunctionOf, Function, Frame, code_at, code_of, begun, pushed}
 use Rattle.wap_execution.specs.Effects.{Called, local, library, external, Effect, onward, back}
 use Rattle.wap_execution.specs.Effects.{calls, returns, ends, stuck as nowhere, effect_at}
 use Rattle.wap_execution.specs.Outcomes.{Outcome, value, exit, fatal, waits, stuck, Ended}
@@ -34,11 +33,9 @@ taking_turn (suc turns) state next = next turns
 abbrev pub returned_by : {S : Type 0} → List Frame → (Value → ℕ → S → Ended S) → Outcome
     → ℕ → S → Ended S
 returned_by frames next (value v) turns state = next v turns state
-returned_by frames next (exit v) turns state = ended (exit v) turns state
-returned_by frames next (fatal why) turns state = ended (fatal why) turns state
 returned_by frames next (waits dialog inner) turns state =
     ended (waits dialog (inner ++ frames)) turns state
-returned_by frames next stuck turns state = ended stuck turns state
+returned_by frames next outcome turns state = ended outcome turns state
 
 -- what frames make of what they called
 abbrev pub returned : {S : Type 0} → List Frame → (Value → ℕ → S → Ended S) → Ended S → Ended S

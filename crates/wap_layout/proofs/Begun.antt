@@ -7,16 +7,15 @@ use Rattle.std.specs.Str.{chars, IsUtf8, IsAscii, IsCharBoundary}
 use Rattle.std.proofs.lemmas.Bool.Decides.{nat_tests}
 use Rattle.std.proofs.lemmas.List.{append-nil, length-append, length-take-le, take-append-drop}
 use Rattle.std.proofs.lemmas.List.{drop_more, take_at}
-use Rattle.std.proofs.lemmas.Str.{chars-nil, chars-IsAscii, IsAscii-append, IsUtf8-drop}
-use Rattle.std.proofs.lemmas.Str.{IsUtf8-from_ascii, IsCharBoundary-at_seam}
-use Rattle.std.proofs.lemmas.Str.Ascii.{IsAscii-cons, IsAscii-nil}
+use Rattle.std.proofs.lemmas.Str.{IsUtf8-nil, chars-nil, chars-IsAscii, IsAscii-append, IsUtf8-drop}
+use Rattle.std.proofs.lemmas.Str.{IsCharBoundary-at_seam}
+use Rattle.std.proofs.lemmas.Str.Ascii.{IsAscii-cons}
 use Rattle.wap_layout.specs.Blanks.{words_of, unless_empty}
 use Rattle.wap_layout.specs.Calculation.{fill, filled}
 use Rattle.wap_layout.specs.inside.Slices.{IsCutAtBlank, IsPlainWord, IsFirstLine, ends_word}
 use Rattle.wap_layout.specs.inside.Slices.{fill_text}
 use Rattle.wap_layout.proofs.Cutting.{cut_word-short}
 use Rattle.wap_layout.proofs.Filling.{parts_of, fill-room, fill-before, some_alone}
-use Rattle.wap_layout.proofs.Placing.{word-alone}
 use Rattle.wap_layout.proofs.Plain.{plain_cut, plain_whole, ascii_whole}
 
 -- a text is not found to be empty
@@ -66,17 +65,13 @@ nil_of : (bytes : List ℕ) → length bytes ≡ 0 → bytes ≡ []
 nil_of [] none = refl
 nil_of (b ∷ bytes) none = absurd (omega arith)
 
--- nothing is a text
-nil_text : IsUtf8 []
-nil_text = IsUtf8-from_ascii [] IsAscii-nil
-
 -- a text without a blank is cut at its end
 pub whole_cut : (bytes : List ℕ) → words_of (chars bytes) ≡ unless_empty (chars bytes)
     → 1 ≤ length bytes → IsCutAtBlank bytes bytes []
 whole_cut bytes is some = record {
   words_are = is ∙ sym (ap (λ ws. unless_empty (chars bytes) ++ ws) (no_words [] refl)
       ∙ append-nil (unless_empty (chars bytes)));
-  rest_text = nil_text;
+  rest_text = IsUtf8-nil;
   shorter = some;
 }
 
@@ -88,12 +83,12 @@ whole_word bytes none some = record {
   some = some;
   tail = [];
   divides = sym (append-nil bytes);
-  tail_text = nil_text;
+  tail_text = IsUtf8-nil;
   spaced = λ left. absurd (omega arith);
   words_are = plain_whole bytes none
       ∙ ap unless_empty (chars-IsAscii bytes (ascii_whole bytes none))
       ∙ some_alone bytes some ∙ ap (λ ws. bytes ∷ ws) (sym (no_words [] refl));
-  rest_text = nil_text;
+  rest_text = IsUtf8-nil;
   shorter = some;
 }
 
@@ -108,20 +103,6 @@ pub record IsBegun (width : ℕ) (bytes line rest : List ℕ) : Type 0 where
   pub lines_are : filled width (words_of (chars bytes)) ≡ fill_text width line rest
   pub rest_text : IsUtf8 rest
   pub shorter : length rest < length bytes
-
--- the first word begins it
-pub begun : (width : ℕ) (bytes word rest : List ℕ) → IsPlainWord bytes word rest
-    → length word ≤ width → IsBegun width bytes word rest
-begun width bytes word rest w fits = record {
-  follows = λ some. w.divides ∙ ap (λ t. word ++ t) (w.spaced some);
-  ascii = w.ascii;
-  some = w.some;
-  fits = fits;
-  lines_are = ap (filled width) w.words_are
-      ∙ word-alone width word (parts_of width (words_of (chars rest))) fits;
-  rest_text = w.rest_text;
-  shorter = w.shorter;
-}
 
 -- the text begins with the line and the next word
 with_word : (width : ℕ) (bytes line rest word after : List ℕ) → IsBegun width bytes line rest

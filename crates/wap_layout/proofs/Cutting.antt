@@ -1,30 +1,24 @@
 -- Words that are cut at the width.
 use Rattle.std.proofs.Common.{◌≡◌, ℕ, zero, suc, ◌≤◌, ◌<◌, List, [], ◌∷◌, ◌++◌, length, take, drop}
-use Rattle.std.proofs.Common.{true, false, cond, refl, sym, ap, ◌∙◌, subst, arith}
+use Rattle.std.proofs.Common.{cond, refl, sym, ap, ◌∙◌, subst, arith}
 use Rattle.std.specs.Prelude.{nat_le}
-use Rattle.std.proofs.lemmas.Bool.Decides.{nat_tests}
 use Rattle.std.proofs.lemmas.List.{length-append, length-drop}
 use Rattle.std.proofs.Math.Seq.{take-append_seam, drop-append_seam}
+use Rattle.std.proofs.lemmas.Bool.{le-leb, lt-leb}
 use Rattle.wap_layout.specs.Calculation.{cut_at, cut_word}
-
-pub le_true : (m n : ℕ) → m ≤ n → nat_le m n ≡ true
-le_true m n h = grind (arith, nat_tests)
-
-pub le_false : (m n : ℕ) → n < m → nat_le m n ≡ false
-le_false m n h = grind (arith, nat_tests)
 
 cut_at-short : (width times : ℕ) (word : List ℕ) → length word ≤ width
     → cut_at width times word ≡ word ∷ []
 cut_at-short width zero word h = refl
 cut_at-short width (suc times) word h =
     ap (λ test. cond test (word ∷ []) (take width word ∷ cut_at width times (drop width word)))
-    (le_true (length word) width h)
+    (le-leb (length word) width h)
 
 cut_at-long : (width times : ℕ) (word : List ℕ) → width < length word
     → cut_at width (suc times) word ≡ take width word ∷ cut_at width times (drop width word)
 cut_at-long width times word h =
     ap (λ test. cond test (word ∷ []) (take width word ∷ cut_at width times (drop width word)))
-    (le_false (length word) width h)
+    (lt-leb (length word) width h)
 
 -- a word is cut as often as it takes, and no more
 cut_at-enough : (width : ℕ) (f g : ℕ) (word : List ℕ) → 1 ≤ width → length word ≤ f

@@ -4,7 +4,7 @@ use Rattle.std.proofs.Common.{◌∷◌, ◌++◌, length, take, drop, get_or, S
 use Rattle.std.proofs.Common.{refl, ap, sym, ◌∙◌, inl, inr, arith}
 use Rattle.std.specs.List.{list_any, position, position_or_len}
 use Rattle.std.specs.Str.{chars, IsUtf8, IsCharBoundary}
-use Rattle.std.proofs.lemmas.Bool.{cases_lt, or_from, eqb-true}
+use Rattle.std.proofs.lemmas.Bool.{lt-ltb, not-true, cases_lt, or_from, eqb-true}
 use Rattle.std.proofs.lemmas.List.{take-append-drop, drop_more}
 use Rattle.std.proofs.lemmas.List.Quantifiers.{position-Some}
 use Rattle.std.proofs.lemmas.List.Sums.{prefix_len_passes}
@@ -12,7 +12,6 @@ use Rattle.std.proofs.lemmas.Str.{IsCharBoundary-before_ascii, IsCharBoundary-af
 use Rattle.wap_layout.specs.Blanks.{is_line_feed}
 use Rattle.wap_layout.specs.inside.Slices.{IsCutAtFeed}
 use Rattle.wap_layout.proofs.Slices.{feed_cut, no_feed}
-use Rattle.wap_layout.proofs.Plain.{lt_true, not_true}
 
 -- as far as no byte passes
 any_before : (test : ℕ → Bool) (bs : List ℕ) (at : ℕ)
@@ -34,13 +33,13 @@ place_of : (test : ℕ → Bool) (bs : List ℕ) → position_or_len test bs < l
     → position test bs ≡ Some (position_or_len test bs)
 place_of test bs within =
     ap (λ found. cond found (Some (position_or_len test bs)) None)
-    (lt_true (position_or_len test bs) (length bs) within)
+    (lt-ltb (position_or_len test bs) (length bs) within)
 
 any_none : (test : ℕ → Bool) (bs : List ℕ) → position test bs ≡ None → list_any test bs ≡ false
 any_none test bs none = elim (cases_lt (position_or_len test bs) (length bs)) [
   | inl within ↦ absurd (let e = sym none ∙ place_of test bs within in cc)
   | inr all ↦
-      any_of test bs (λ k within. not_true (test (get_or bs k 0)) (prefix_len_passes (λ b.
+      any_of test bs (λ k within. not-true (test (get_or bs k 0)) (prefix_len_passes (λ b.
       not (test b)) bs k 0 (omega arith)))
 ]
 

@@ -27,8 +27,7 @@ AreWords-words_of text = AreWords-filter (slice_split is_blank text)
 pub laid-is : (width : ℕ) (mode : Mode) (text : List ℕ) → 1 ≤ width
     → IsLaid width mode text (laid width mode text)
 laid-is width Wrapped text one = filled-is width (words_of text) one (AreWords-words_of text)
-laid-is width Unwrapped text one = refl
-laid-is width Preformatted text one = refl
+laid-is width _ text one = refl
 
 pub lines-laid : (width : ℕ) (pieces : List Piece) → 1 ≤ width
     → AreLaid width pieces (flat_map (piece_lines width) pieces)
@@ -44,8 +43,7 @@ lines-laid width (piece ∷ pieces) one = (
 IsLaid-unique : (width : ℕ) (mode : Mode) (text : List ℕ) (lines others : List (List ℕ))
     → IsLaid width mode text lines → IsLaid width mode text others → lines ≡ others
 IsLaid-unique width Wrapped text lines others a b = IsFilled-unique a b
-IsLaid-unique width Unwrapped text lines others a b = a ∙ sym b
-IsLaid-unique width Preformatted text lines others a b = a ∙ sym b
+IsLaid-unique width _ text lines others a b = a ∙ sym b
 
 -- pieces stand on one list of lines
 pub AreLaid-unique : (width : ℕ) (pieces : List Piece) (lines others : List (List ℕ))

@@ -16,11 +16,7 @@ pieces-text_before mode begun [] flow = ap (λ t. pieces mode t flow) (sym (appe
 pieces-text_before mode begun (c ∷ text) [] = refl
 pieces-text_before mode begun (c ∷ text) (Words more ∷ flow) =
     ap (λ t. pieces mode t flow) (sym (append_assoc begun (c ∷ text) more))
-pieces-text_before mode begun (c ∷ text) (Hard ∷ flow) = refl
-pieces-text_before mode begun (c ∷ text) (Soft ∷ flow) = refl
-pieces-text_before mode begun (c ∷ text) (Wrap ∷ flow) = refl
-pieces-text_before mode begun (c ∷ text) (NoWrap ∷ flow) = refl
-pieces-text_before mode begun (c ∷ text) (Pre ∷ flow) = refl
+pieces-text_before mode begun (c ∷ text) (_ ∷ flow) = refl
 
 pieces-merged : (mode : Mode) (begun : List ℕ) (flow : List Flow)
     → pieces mode begun (merged flow) ≡ pieces mode begun flow

@@ -1,21 +1,19 @@
 -- A text's first word, found by its bytes: a blank's byte ends it, or one past US-ASCII.
-use Rattle.std.proofs.Common.{◌≡◌, ℕ, zero, suc, ◌+◌, ◌<◌, ◌≤◌, ◌-◌, Bool, true, false, not}
-use Rattle.std.proofs.Common.{List, [], ◌∷◌, ◌++◌, length, take, drop, get_or, Some, None, cond}
-use Rattle.std.proofs.Common.{Result, Ok, Err}
-use Rattle.std.proofs.Common.{refl, ap, ap₂, sym, ◌∙◌, inl, inr, subst, append_assoc, arith}
-use Rattle.std.specs.Prelude.{nat_le, nat_lt, IfOk}
+use Rattle.std.proofs.Common.{◌≡◌, ℕ, zero, suc, ◌+◌, ◌<◌, ◌≤◌, ◌-◌, true, false, not, List, []}
+use Rattle.std.proofs.Common.{◌∷◌, ◌++◌, length, take, drop, get_or, Some, None, cond, Result, Ok}
+use Rattle.std.proofs.Common.{Err, refl, ap, ap₂, sym, ◌∙◌, inl, inr, subst, append_assoc, arith}
+use Rattle.std.specs.Prelude.{nat_le, IfOk}
 use Rattle.std.specs.List.{list_any, position, position_or_len}
 use Rattle.std.specs.Str.{chars, IsUtf8, IsAscii, IsCharBoundary}
-use Rattle.std.proofs.lemmas.Bool.{cases_Bool, cases_lt, or_parts, or_from}
+use Rattle.std.proofs.lemmas.Bool.{lt-ltb, not-true, cases_Bool, cases_lt, or_parts, or_from}
 use Rattle.std.proofs.lemmas.Bool.Decides.{nat_tests}
 use Rattle.std.proofs.lemmas.List.{length-append, length-take-le, take-append-drop, drop_more}
 use Rattle.std.proofs.lemmas.List.Quantifiers.{position-Some}
 use Rattle.std.proofs.lemmas.List.Sums.{prefix_len_passes}
 use Rattle.std.proofs.Common.{encode_utf8, encode_utf8_all}
 use Rattle.std.specs.Char.{len_utf8}
-use Rattle.std.proofs.lemmas.Str.{chars-IsAscii, IsAscii-take, IsAscii-drop}
-use Rattle.std.proofs.lemmas.Str.{encode_ascii, encodes-chars, length-encode, length-le-encodes}
-use Rattle.std.proofs.lemmas.Str.{len_utf8_bounds}
+use Rattle.std.proofs.lemmas.Str.{chars-IsAscii, IsAscii-take, IsAscii-drop, encode_ascii}
+use Rattle.std.proofs.lemmas.Str.{encodes-chars, length-encode, length-le-encodes, len_utf8_bounds}
 use Rattle.std.proofs.lemmas.Str.{IsCharBoundary-before_ascii, IsCharBoundary-after_ascii}
 use Rattle.std.proofs.lemmas.Str.Ascii.{IsAscii-cons, IsAscii-nil}
 use Rattle.wap_layout.specs.Blanks.{is_blank, words_of, unless_empty}
@@ -116,25 +114,18 @@ plain_cut bytes at text found low =
 pub from_start : (at : ℕ) (bs : List ℕ) → take (at - 0) (drop 0 bs) ≡ take at bs
 from_start at bs = let e : at - 0 ≡ at = omega arith in ap (λ n. take n bs) e
 
-pub lt_true : (m n : ℕ) → m < n → nat_lt m n ≡ true
-lt_true m n h = grind (arith, nat_tests)
-
-pub not_true : (b : Bool) → not b ≡ true → b ≡ false
-not_true true e = cc
-not_true false e = refl
-
 place_of : (bs : List ℕ) → position_or_len ends_word bs < length bs
     → position ends_word bs ≡ Some (position_or_len ends_word bs)
 place_of bs within =
     ap (λ test. cond test (Some (position_or_len ends_word bs)) None)
-    (lt_true (position_or_len ends_word bs) (length bs) within)
+    (lt-ltb (position_or_len ends_word bs) (length bs) within)
 
 -- where no place is found
 plain_none : (bytes : List ℕ) → position ends_word bytes ≡ None → AllPlain bytes
 plain_none bytes none = elim (cases_lt (position_or_len ends_word bytes) (length bytes)) [
   | inl within ↦ absurd (let e = sym none ∙ place_of bytes within in cc)
   | inr all ↦
-      all_plain bytes (λ k within. not_true (ends_word (get_or bytes k 0)) (prefix_len_passes (λ b.
+      all_plain bytes (λ k within. not-true (ends_word (get_or bytes k 0)) (prefix_len_passes (λ b.
       not (ends_word b)) bytes k 0 (omega arith)))
 ]
 

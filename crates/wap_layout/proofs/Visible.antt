@@ -134,11 +134,10 @@ feed-blank c feed = grind (arith, nat_tests)
 
 visible-ended : (mode : Mode) (text : List ℕ) (hard : Bool)
     → visible (texts_of (ended mode text hard)) ≡ visible text
-visible-ended Wrapped text hard = ap visible (append-nil text)
-visible-ended Unwrapped text hard = ap visible (append-nil text)
 visible-ended Preformatted text hard =
     ap visible (texts_of-kept (slice_split is_line_feed text) hard)
     ∙ visible-split is_line_feed text feed-blank
+visible-ended _ text hard = ap visible (append-nil text)
 
 visible-mark : (mode next : Mode) (text rest : List ℕ) (hard : Bool) (flow : List Flow)
     → visible (texts_of (pieces next [] flow)) ≡ visible rest

@@ -23,8 +23,7 @@ kept (text ∷ next ∷ rest) hard =
 -- a text that ends: in a preformatted one a line feed is a hard break
 abbrev pub ended : Mode → List ℕ → Bool → List Piece
 ended Preformatted text hard = kept (slice_split is_line_feed text) hard
-ended Wrapped text hard = record { mode = Wrapped; text = text; is_hard = hard } ∷ []
-ended Unwrapped text hard = record { mode = Unwrapped; text = text; is_hard = hard } ∷ []
+ended mode text hard = record { mode = mode; text = text; is_hard = hard } ∷ []
 
 -- the pieces of a flow after a text that has not ended yet
 abbrev pub pieces : Mode → List ℕ → List Flow → List Piece
@@ -44,30 +43,18 @@ pieces_of flow = pieces Wrapped [] flow
 abbrev pub text_of : List Flow → List ℕ
 text_of [] = []
 text_of (Words text ∷ flow) = text ++ text_of flow
-text_of (Hard ∷ flow) = text_of flow
-text_of (Soft ∷ flow) = text_of flow
-text_of (Wrap ∷ flow) = text_of flow
-text_of (NoWrap ∷ flow) = text_of flow
-text_of (Pre ∷ flow) = text_of flow
+text_of (_ ∷ flow) = text_of flow
 
 -- a text before a flow, joined to the text that the flow begins with
 abbrev pub text_before : List ℕ → List Flow → List Flow
 text_before [] flow = flow
 text_before (c ∷ text) [] = Words (c ∷ text) ∷ []
 text_before (c ∷ text) (Words more ∷ flow) = Words ((c ∷ text) ++ more) ∷ flow
-text_before (c ∷ text) (Hard ∷ flow) = Words (c ∷ text) ∷ Hard ∷ flow
-text_before (c ∷ text) (Soft ∷ flow) = Words (c ∷ text) ∷ Soft ∷ flow
-text_before (c ∷ text) (Wrap ∷ flow) = Words (c ∷ text) ∷ Wrap ∷ flow
-text_before (c ∷ text) (NoWrap ∷ flow) = Words (c ∷ text) ∷ NoWrap ∷ flow
-text_before (c ∷ text) (Pre ∷ flow) = Words (c ∷ text) ∷ Pre ∷ flow
+text_before (c ∷ text) (other ∷ flow) = Words (c ∷ text) ∷ other ∷ flow
 
 -- The same flow with neighbouring texts as one, and no empty text: what a flow says whichever way
 -- its texts are cut.
 abbrev pub merged : List Flow → List Flow
 merged [] = []
 merged (Words text ∷ flow) = text_before text (merged flow)
-merged (Hard ∷ flow) = Hard ∷ merged flow
-merged (Soft ∷ flow) = Soft ∷ merged flow
-merged (Wrap ∷ flow) = Wrap ∷ merged flow
-merged (NoWrap ∷ flow) = NoWrap ∷ merged flow
-merged (Pre ∷ flow) = Pre ∷ merged flow
+merged (other ∷ flow) = other ∷ merged flow

@@ -49,22 +49,12 @@ shape_of [] = shape.Blank
 shape_of (c ∷ rest) = shape_at (first_of c) rest
 
 abbrev is_mark_shape : Shape → Bool
-is_mark_shape shape.Blank = false
-is_mark_shape shape.Comment = false
-is_mark_shape shape.Word = false
-is_mark_shape shape.Integer = false
-is_mark_shape shape.Float = false
-is_mark_shape shape.Str = false
 is_mark_shape shape.Mark = true
+is_mark_shape _ = false
 
 mark_shape_is : (s : Shape) → is_mark_shape s ≡ true → s ≡ shape.Mark
-mark_shape_is shape.Blank e = absurd cc
-mark_shape_is shape.Comment e = absurd cc
-mark_shape_is shape.Word e = absurd cc
-mark_shape_is shape.Integer e = absurd cc
-mark_shape_is shape.Float e = absurd cc
-mark_shape_is shape.Str e = absurd cc
 mark_shape_is shape.Mark e = refl
+mark_shape_is _ e = absurd cc
 
 abbrev from_letter : ℕ → First
 from_letter c =

@@ -37,14 +37,12 @@ either f true s t one two = one
 either f false s t one two = two
 
 may_at : (f : First) (rest : List ℕ) → may f (shape_at f rest) ≡ true
-may_at White rest = refl
 may_at Letter rest = either Letter _ shape.Mark shape.Word refl refl
 may_at Digit rest = either Digit _ shape.Integer shape.Float refl refl
 may_at Point rest = either Point _ shape.Mark shape.Float refl refl
-may_at Quote rest = refl
 may_at Slash [] = refl
 may_at Slash (b ∷ rest) = either Slash _ shape.Comment shape.Mark refl refl
-may_at Other rest = refl
+may_at _ rest = refl
 
 -- no other shape begins so
 absent : (c : ℕ) (rest : List ℕ) (s : Shape) → may (first_of c) s ≡ false

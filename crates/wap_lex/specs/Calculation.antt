@@ -16,8 +16,7 @@ use Rattle.wap_lex.specs.declared.shape.Shape.TheVariants.{Blank, Comment, Word,
 use Rattle.wap_lex.specs.declared.shape.Shape.TheVariants.{Float, Str, Mark}
 use Rattle.wap_lex.specs.declared.fault.LexFault.{LexFault}
 use Rattle.wap_lex.specs.declared.fault.LexFault.TheVariants as fault
-use Rattle.wap_lex.specs.Characters.{is_octal_digit}
-use Rattle.wap_lex.specs.Characters.{is_white, is_quote, is_line_end, is_in}
+use Rattle.wap_lex.specs.Characters.{is_octal_digit, is_white, is_quote, is_line_end, is_in}
 use Rattle.wap_lex.specs.Numbers.{is_x, is_e, is_sign, integer_value, integer_limit}
 use Rattle.wap_lex.specs.Strings.{is_simple, is_surrogate}
 use Rattle.wap_lex.specs.Marks.{marks}

@@ -20,10 +20,7 @@ use Rattle.wap_value.specs.declared.fault.ValueFault.{ValueFault}
 use Rattle.wap_value.specs.Conversion.{boolean_of}
 use Rattle.wap_value.specs.Unary.{unary_of}
 use Rattle.wap_value.specs.declared.operator.BinOp.{BinOp}
-use Rattle.wap_value.specs.declared.operator.BinOp.TheVariants.{Mul, Div, IDiv, Rem, Add, Sub, Shl}
-use Rattle.wap_value.specs.declared.operator.BinOp.TheVariants.{Shr, UShr, Lt, Le, Gt, Ge, Eq, Ne}
-use Rattle.wap_value.specs.declared.operator.BinOp.TheVariants.{BitAnd, BitXor, BitOr, And, Or}
-use Rattle.wap_value.specs.declared.operator.BinOp.TheVariants.{Comma}
+use Rattle.wap_value.specs.declared.operator.BinOp.TheVariants.{And, Or, Comma}
 use Rattle.wap_value.specs.Binary.{TakesBoth, binary_of}
 use Rattle.wap_value.specs.TooLong.{kept_within}
 use Rattle.wap_unit.specs.declared.unit.Unit.{Unit as CodeUnit}
@@ -36,6 +33,7 @@ use Rattle.wap_unit.specs.declared.row.Slot.TheVariants.{Absent, Low, Byte, Word
 use Rattle.wap_unit.specs.declared.row.Row.{Row}
 use Rattle.wap_asm.specs.Spelling.{limit}
 use Rattle.wap_asm.specs.Operands.{Holds}
+use Rattle.wap_asm.proofs.RowLaws.{code_below}
 use Rattle.wap_unit.specs.declared.instr.Instr.{Instr}
 use Rattle.wap_unit.specs.declared.instr.InstrFault.{InstrFault}
 use Rattle.wap_unit.specs.declared.instr.InstrFault.TheVariants.{Operand}
@@ -59,31 +57,16 @@ use Rattle.wap_verify.specs.Sound.{IsVerified}
 use Rattle.wap_verify.specs.Ready.{IsReady}
 use Rattle.wap_verify.proofs.Verifying.{never_stuck}
 use Rattle.wap_execution.specs.declared.action.Action.{Action}
-use Rattle.wap_execution.specs.declared.action.Action.TheVariants.{
-  Jump,
-  JumpBack,
-  JumpUnless,
-  JumpBackUnless,
-  ShortCircuit,
-  CallLocal,
-  CallLibrary,
-  CallExternal,
-  LoadVariable,
-  StoreVariable,
-  ChangeVariable,
-  AssignVariable,
-  LoadConstant,
-  GiveInteger,
-  GiveBoolean,
-  GiveEmpty,
-  GiveInvalid,
-  Unary,
-  Binary,
-  Pop,
-  Return,
-  ReturnEmpty,
-  Pass,
-}
+use Rattle.wap_execution.specs.declared.action.Action.TheVariants.{Jump, JumpBack, JumpUnless}
+use Rattle.wap_execution.specs.declared.action.Action.TheVariants.{JumpBackUnless, ShortCircuit}
+use Rattle.wap_execution.specs.declared.action.Action.TheVariants.{CallLocal, CallLibrary}
+use Rattle.wap_execution.specs.declared.action.Action.TheVariants.{CallExternal, LoadVariable}
+use Rattle.wap_execution.specs.declared.action.Action.TheVariants.{StoreVariable, ChangeVariable}
+use Rattle.wap_execution.specs.declared.action.Action.TheVariants.{AssignVariable, LoadConstant}
+use Rattle.wap_execution.specs.declared.action.Action.TheVariants.{GiveInteger, GiveBoolean}
+use Rattle.wap_execution.specs.declared.action.Action.TheVariants.{GiveEmpty, GiveInvalid, Unary}
+use Rattle.wap_execution.specs.declared.action.Action.TheVariants.{Binary, Pop, Return, ReturnEmpty}
+use Rattle.wap_execution.specs.declared.action.Action.TheVariants.{Pass}
 use Rattle.wap_execution.specs.Actions.{action_of}
 use Rattle.wap_execution.specs.Frames.{Function, Frame, code_at, code_of, constant_of, constant_at}
 use Rattle.wap_execution.specs.Effects.{Called, local, library, external, Effect, onward, back, calls, with_top, with_kept, with_arguments, with_count, jumps_at, stored, effect_of, is_decided, decided, is_jump_unless, pair_with, pair_by, effect_read, effect_with, effect_by, effect_at}
@@ -510,29 +493,8 @@ module _ (string : ℕ) (function : Function) (place : ℕ) (variables : List Va
 
   conditional_is : (action : Action) → is_conditional_forward (traits_of action).after ≡ true
       → is_jump_unless action ≡ true
-  conditional_is Jump is = absurd (cc is)
-  conditional_is JumpBack is = absurd (cc is)
   conditional_is JumpUnless is = refl
-  conditional_is JumpBackUnless is = absurd (cc is)
-  conditional_is (ShortCircuit decides) is = absurd (cc is)
-  conditional_is CallLocal is = absurd (cc is)
-  conditional_is CallLibrary is = absurd (cc is)
-  conditional_is CallExternal is = absurd (cc is)
-  conditional_is LoadVariable is = absurd (cc is)
-  conditional_is StoreVariable is = absurd (cc is)
-  conditional_is (ChangeVariable op) is = absurd (cc is)
-  conditional_is (AssignVariable op) is = absurd (cc is)
-  conditional_is LoadConstant is = absurd (cc is)
-  conditional_is (GiveInteger number) is = absurd (cc is)
-  conditional_is (GiveBoolean truth) is = absurd (cc is)
-  conditional_is GiveEmpty is = absurd (cc is)
-  conditional_is GiveInvalid is = absurd (cc is)
-  conditional_is (Unary op) is = absurd (cc is)
-  conditional_is (Binary op) is = absurd (cc is)
-  conditional_is Pop is = absurd (cc is)
-  conditional_is Return is = absurd (cc is)
-  conditional_is ReturnEmpty is = absurd (cc is)
-  conditional_is Pass is = absurd (cc is)
+  conditional_is _ is = absurd (cc is)
 
   module _ (decides : Bool) (operands : List Value) (step : Step)
       (ready : Readiness (length operands) step) (code_is : code_of function ≡ code.code) where
@@ -756,67 +718,38 @@ module _ (string : ℕ) (frame : Frame) (stands : Stands frame 0)
 
 -- ---- how great operands are
 
-short_slot : (slot : Slot) (n : ℕ) → is_short slot ≡ true → n < limit 256 slot → n < 256
-short_slot Absent n is less = let below : n < 1 = less in omega arith
-short_slot Low n is less = less
-short_slot Byte n is less = less
-short_slot Word n is less = absurd (cc is)
+short_slot : (count n : ℕ) (slot : Slot) → count ≤ 256 → is_short slot ≡ true
+    → n < limit count slot → n < 256
+short_slot count n Absent few is less = let below : n < 1 = less in omega arith
+short_slot count n Low few is less = let below : n < count = less in omega arith
+short_slot count n Byte few is less = less
+short_slot count n Word few is less = absurd (cc is)
 
-any_slot : (slot : Slot) (n : ℕ) → n < limit 256 slot → n < 65536
-any_slot Absent n less = let below : n < 1 = less in omega arith
-any_slot Low n less = let below : n < 256 = less in omega arith
-any_slot Byte n less = let below : n < 256 = less in omega arith
-any_slot Word n less = less
+any_slot : (count n : ℕ) (slot : Slot) → count ≤ 256 → n < limit count slot → n < 65536
+any_slot count n Absent few less = let below : n < 1 = less in omega arith
+any_slot count n Low few less = let below : n < count = less in omega arith
+any_slot count n Byte few less = let below : n < 256 = less in omega arith
+any_slot count n Word few less = less
 
 operator_is : (op : BinOp) → operator_takes_both op ≡ true → TakesBoth op
-operator_is Mul is = tt
-operator_is Div is = tt
-operator_is IDiv is = tt
-operator_is Rem is = tt
-operator_is Add is = tt
-operator_is Sub is = tt
-operator_is Shl is = tt
-operator_is Shr is = tt
-operator_is UShr is = tt
-operator_is Lt is = tt
-operator_is Le is = tt
-operator_is Gt is = tt
-operator_is Ge is = tt
-operator_is Eq is = tt
-operator_is Ne is = tt
-operator_is BitAnd is = tt
-operator_is BitXor is = tt
-operator_is BitOr is = tt
 operator_is And is = absurd (cc is)
 operator_is Or is = absurd (cc is)
 operator_is Comma is = absurd (cc is)
+operator_is _ is = tt
 
 small_for : (action : Action) (row : Row) (instr : Instr) → is_fine action row ≡ true
-    → Holds row instr → IsSmall action instr
-small_for Jump row instr fine holds = tt
-small_for JumpBack row instr fine holds = tt
-small_for JumpUnless row instr fine holds = tt
-small_for JumpBackUnless row instr fine holds = tt
-small_for (ShortCircuit decides) row instr fine holds = tt
-small_for CallLocal row instr fine holds = short_slot row.a instr.a fine holds.a
-small_for CallLibrary row instr fine holds =
-    (short_slot row.a instr.a fine holds.a, any_slot row.b instr.b holds.b)
-small_for CallExternal row instr fine holds = short_slot row.c instr.c fine holds.c
-small_for LoadVariable row instr fine holds = tt
-small_for StoreVariable row instr fine holds = tt
-small_for (ChangeVariable op) row instr fine holds = tt
-small_for (AssignVariable op) row instr fine holds = operator_is op fine
-small_for LoadConstant row instr fine holds = tt
-small_for (GiveInteger number) row instr fine holds = tt
-small_for (GiveBoolean truth) row instr fine holds = tt
-small_for GiveEmpty row instr fine holds = tt
-small_for GiveInvalid row instr fine holds = tt
-small_for (Unary op) row instr fine holds = tt
-small_for (Binary op) row instr fine holds = operator_is op fine
-small_for Pop row instr fine holds = tt
-small_for Return row instr fine holds = tt
-small_for ReturnEmpty row instr fine holds = tt
-small_for Pass row instr fine holds = tt
+    → row.count ≤ 256 → Holds row instr.a instr.b instr.c → IsSmall action instr
+small_for CallLocal row instr fine few holds =
+    short_slot row.count instr.a row.a few fine holds.a_fits
+small_for CallLibrary row instr fine few holds = (
+  short_slot row.count instr.a row.a few fine holds.a_fits,
+  any_slot row.count instr.b row.b few holds.b_fits,
+)
+small_for CallExternal row instr fine few holds =
+    short_slot row.count instr.c row.c few fine holds.c_fits
+small_for (AssignVariable op) row instr fine few holds = operator_is op fine
+small_for (Binary op) row instr fine few holds = operator_is op fine
+small_for _ row instr fine few holds = tt
 
 next_within : (row : Row) (code : List ℕ) (at : ℕ) (instr : Instr) → at < length code
     → read_row row code at ≡ Ok instr → instr.next ≤ length code
@@ -845,12 +778,16 @@ code_small function code spelled found =
 pub instruction_is : (frame : Frame) (row : Row) (instr : Instr) → Stands frame 0
     → frame.place < length (code_of frame.function)
     → row_of (slice_index (code_of frame.function) frame.place) ≡ Some row
-    → read_row row (code_of frame.function) frame.place ≡ Ok instr → Holds row instr
+    → read_row row (code_of frame.function) frame.place ≡ Ok instr
+    → (slice_index (code_of frame.function) frame.place < row.first + row.count
+    → Holds row instr.a instr.b instr.c)
     → IsInstruction frame (action_of row.operation) instr
 instruction_is frame row instr stands within row_is read holds =
     let same : code_of frame.function ≡ stands.code.code = code_is frame 0 stands in
     let inside : frame.place < length stands.code.code =
     subst (λ (l : List ℕ). frame.place < length l) same within in
+    let below = code_below (slice_index (code_of frame.function) frame.place) row row_is in
+    let few : row.count ≤ 256 = omega (arith, below.1) in
     record {
       effect =
           λ string. by_table string frame stands inside row instr
@@ -860,10 +797,11 @@ instruction_is frame row instr stands within row_is read holds =
       small_code =
           subst (λ (l : List ℕ). length l < 2 ^ 32) (sym same)
           (code_small frame.function stands.code stands.spelled stands.found);
-      small_a = any_slot row.a instr.a holds.a;
+      small_a = any_slot row.count instr.a row.a few (holds below.0).a_fits;
       small =
           small_for (action_of row.operation) row instr
-          (fine_row (slice_index (code_of frame.function) frame.place) row row_is) holds;
+          (fine_row (slice_index (code_of frame.function) frame.place) row row_is) few
+          (holds below.0);
     }
 
 -- there is a whole instruction

@@ -4,7 +4,7 @@ use Rattle.std.proofs.Common.{◌≡◌, ℕ, Bool, true, false, inl, inr, List}
 use Rattle.std.proofs.Common.{[], ◌∷◌, Some, map, refl, sym, subst}
 use Rattle.std.specs.List.{list_all}
 use Rattle.wap_unit.specs.declared.row.Slot.{Slot}
-use Rattle.wap_unit.specs.declared.row.Slot.TheVariants.{Absent, Low, Byte, Word}
+use Rattle.wap_unit.specs.declared.row.Slot.TheVariants.{Word}
 use Rattle.wap_unit.specs.declared.row.Operands.{Operands}
 use Rattle.wap_unit.specs.declared.row.Operands.TheVariants.{Plain, Variable, Constant}
 use Rattle.wap_unit.specs.declared.row.Operands.TheVariants.{Function, Library, Address}
@@ -19,31 +19,15 @@ use Rattle.wap_unit.specs.Instructions.{has_code, row_of}
 use Rattle.wap_asm.specs.Exact.{Among}
 use Rattle.wap_asm.proofs.Finding.{found, all_among}
 use Rattle.wap_execution.specs.declared.action.Action.{Action}
-use Rattle.wap_execution.specs.declared.action.Action.TheVariants.{
-  Jump,
-  JumpBack,
-  JumpUnless,
-  JumpBackUnless,
-  ShortCircuit,
-  CallLocal,
-  CallLibrary,
-  CallExternal,
-  LoadVariable,
-  StoreVariable,
-  ChangeVariable,
-  AssignVariable,
-  LoadConstant,
-  GiveInteger,
-  GiveBoolean,
-  GiveEmpty,
-  GiveInvalid,
-  Unary,
-  Binary,
-  Pop,
-  Return,
-  ReturnEmpty,
-  Pass,
-}
+use Rattle.wap_execution.specs.declared.action.Action.TheVariants.{Jump, JumpBack, JumpUnless}
+use Rattle.wap_execution.specs.declared.action.Action.TheVariants.{JumpBackUnless, ShortCircuit}
+use Rattle.wap_execution.specs.declared.action.Action.TheVariants.{CallLocal, CallLibrary}
+use Rattle.wap_execution.specs.declared.action.Action.TheVariants.{CallExternal, LoadVariable}
+use Rattle.wap_execution.specs.declared.action.Action.TheVariants.{StoreVariable, ChangeVariable}
+use Rattle.wap_execution.specs.declared.action.Action.TheVariants.{AssignVariable, LoadConstant}
+use Rattle.wap_execution.specs.declared.action.Action.TheVariants.{Unary}
+use Rattle.wap_execution.specs.declared.action.Action.TheVariants.{Binary, Pop, Return, ReturnEmpty}
+use Rattle.wap_execution.specs.declared.action.Action.TheVariants.{Pass}
 use Rattle.wap_execution.specs.Actions.{action_of}
 use Rattle.wap_value.specs.declared.operator.BinOp.{BinOp}
 use Rattle.wap_value.specs.declared.operator.BinOp.TheVariants.{And, Or, Comma}
@@ -72,16 +56,13 @@ traits_of StoreVariable = traits Variable (Values 1) 0 On
 traits_of (ChangeVariable op) = traits Variable (Values 0) 0 On
 traits_of (AssignVariable op) = traits Variable (Values 1) 0 On
 traits_of LoadConstant = traits Constant (Values 0) 1 On
-traits_of (GiveInteger number) = traits Plain (Values 0) 1 On
-traits_of (GiveBoolean truth) = traits Plain (Values 0) 1 On
-traits_of GiveEmpty = traits Plain (Values 0) 1 On
-traits_of GiveInvalid = traits Plain (Values 0) 1 On
 traits_of (Unary op) = traits Plain (Values 1) 1 On
 traits_of (Binary op) = traits Plain (Values 2) 1 On
 traits_of Pop = traits Plain (Values 1) 0 On
 traits_of Return = traits Plain (Values 1) 0 Leave
 traits_of ReturnEmpty = traits Plain (Values 0) 0 Leave
 traits_of Pass = traits Plain (Values 0) 0 On
+traits_of _ = traits Plain (Values 0) 1 On
 
 abbrev pub traits_in : Row → Traits
 traits_in row = traits row.operands row.takes row.gives row.after
@@ -112,10 +93,8 @@ has_traits code row is =
 -- ---- which operands are short
 
 abbrev pub is_short : Slot → Bool
-is_short Absent = true
-is_short Low = true
-is_short Byte = true
 is_short Word = false
+is_short _ = true
 
 -- the operators of this action take both values, and its short operands are short
 abbrev pub operator_takes_both : BinOp → Bool

@@ -5,7 +5,7 @@ use Rattle.wap_execution.specs.declared.fatal.Fatal.TheVariants.{Budget}
 use Rattle.wap_execution.specs.Frames.{Function, Frame, code_of}
 use Rattle.wap_execution.specs.Effects.{Effect, effect_at}
 use Rattle.wap_machine.specs.declared.next.Callee.{Callee}
-use Rattle.wap_machine.specs.declared.next.Callee.TheVariants.{Local, Library, External}
+use Rattle.wap_machine.specs.declared.next.Callee.TheVariants.{External}
 use Rattle.wap_machine.specs.declared.next.Next.{Next}
 use Rattle.wap_machine.specs.declared.next.Next.TheVariants.{Onward, Back, Call, Return, End}
 use Rattle.wap_machine.specs.Seen.{effect_after}
@@ -13,18 +13,15 @@ use Rattle.wap_machine.specs.Standing.{Stands, Fits}
 
 -- the arguments of a function of another unit can be counted in a byte
 abbrev pub AreFew : Callee → ℕ → Type 0
-AreFew (Local index) count = ⊤
-AreFew (Library number index) count = ⊤
 AreFew (External url name) count = count < 256
+AreFew _ count = ⊤
 
 -- what is to be done is in order: its arguments can be counted, and it isn't an end because turns
 -- ran out
 abbrev pub IsInOrder : Next → Type 0
-IsInOrder Onward = ⊤
-IsInOrder Back = ⊤
 IsInOrder (Call callee arguments) = AreFew callee (length arguments.items)
-IsInOrder (Return value) = ⊤
 IsInOrder (End why) = why ≢ Budget
+IsInOrder _ = ⊤
 
 -- an effect is what was done to a frame of the function
 pub record Does (effect : Effect) (function : Function) (after : Frame) (next : Next) : Type 0 where

@@ -8,7 +8,7 @@ use Rattle.wap_execution.specs.declared.fatal.Fatal.TheVariants.{Budget}
 use Rattle.wap_execution.specs.declared.found.Found.{Found}
 use Rattle.wap_execution.specs.declared.found.Found.TheVariants.{Callee, Not}
 use Rattle.wap_execution.specs.declared.library.HostOut.{HostOut}
-use Rattle.wap_execution.specs.declared.library.HostOut.TheVariants.{Value, Exit, Fatal, Asks}
+use Rattle.wap_execution.specs.declared.library.HostOut.TheVariants.{Fatal}
 
 -- what was answered and the state after it are these
 pub record Gives {A S : Type 0} (means : A × S) (answer : A) (after : S) : Type 0 where
@@ -31,10 +31,8 @@ IsCallable count depth (Not why) = why ≢ Budget
 
 -- what a library answers isn't an end because turns ran out
 abbrev pub IsNoBudget : HostOut → Type 0
-IsNoBudget (Value value) = ⊤
-IsNoBudget (Exit value) = ⊤
 IsNoBudget (Fatal why) = why ≢ Budget
-IsNoBudget (Asks dialog) = ⊤
+IsNoBudget _ = ⊤
 
 -- a count is known, and no lower than this
 abbrev pub AtMost : ℕ → Option ℕ → Type 0

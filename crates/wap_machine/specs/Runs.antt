@@ -44,14 +44,10 @@ IsBounded machine host turns left state =
 
 -- a machine that waits has these limits
 abbrev pub KeepsLimits : Limits → Outcome → Type 0
-KeepsLimits limits (Done v) = ⊤
-KeepsLimits limits (Exited v) = ⊤
-KeepsLimits limits (Fatal why) = ⊤
 KeepsLimits limits (Asks dialog waiting) = waiting.limits ≡ limits
+KeepsLimits limits _ = ⊤
 
 -- it ends because turns ran out only where none is left
 abbrev pub WantsNoTurn : ℕ → Outcome → Type 0
-WantsNoTurn turns (Done v) = ⊤
-WantsNoTurn turns (Exited v) = ⊤
 WantsNoTurn turns (Fatal why) = why ≡ Budget → turns ≡ 0
-WantsNoTurn turns (Asks dialog waiting) = ⊤
+WantsNoTurn turns _ = ⊤

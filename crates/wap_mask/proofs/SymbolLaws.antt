@@ -2,10 +2,11 @@
 use Rattle.std.proofs.Common.{◌≡◌, ◌≢◌, ℕ, zero, suc, ◌+◌, ◌-◌, ◌≤◌, ◌<◌, List, [], ◌∷◌}
 use Rattle.std.proofs.Common.{◌++◌, length, true, false, cond, Option, Some, None, refl, sym}
 use Rattle.std.proofs.Common.{ap, ◌∙◌, inl, inr, subst, append_assoc, arith}
-use Rattle.std.specs.Prelude.{option_map, unwrap_or, ◌==◌, not}
+use Rattle.std.specs.Prelude.{option_map, ◌==◌, not}
 use Rattle.std.specs.Int.{is_in_range}
 use Rattle.std.proofs.lemmas.Bool.{eqb-true, false≢true}
 use Rattle.std.proofs.lemmas.Bool.Decides.{nat_tests}
+use Rattle.std.proofs.lemmas.Option.{some_pair_parts}
 use Rattle.wap_mask.specs.declared.class.Class.{Class}
 use Rattle.wap_mask.specs.declared.symbol.Symbol.{Symbol}
 use Rattle.wap_mask.specs.declared.symbol.Symbol.TheVariants.{One, Exactly, UpTo, AnyNumber}
@@ -27,17 +28,10 @@ pub data IsSymbol : List ℕ → Symbol → List ℕ → Type 0 where
   up_to : {digit most c : ℕ} {class : Class} {text : List ℕ} → digit ≡ 48 + most → 1 ≤ most
       → most ≤ 9 → class_of c ≡ Some class → IsSymbol (digit ∷ c ∷ text) (UpTo most class) text
 
-pair_same : {A B : Type 0} (a c : A) (b d : B)
-    → ◌≡◌ {A = Option (A × B)} (Some (a, b)) (Some (c, d)) → (a ≡ c) × (b ≡ d)
-pair_same {A} {B} a c b d e =
-    let first : Option (A × B) → A = λ o. (unwrap_or o (a, b)).0 in
-    let second : Option (A × B) → B = λ o. (unwrap_or o (a, b)).1 in
-    (ap first e, ap second e)
-
 IsSymbol-same : (text rest left : List ℕ) (s t : Symbol) → IsSymbol text s rest
     → ◌≡◌ {A = Option (Symbol × List ℕ)} (Some (s, rest)) (Some (t, left)) → IsSymbol text t left
 IsSymbol-same text rest left s t i e =
-    let p = pair_same s t rest left e in
+    let p = some_pair_parts s t rest left e in
     subst (λ u. IsSymbol text u left) p.0 (subst (λ r. IsSymbol text s r) p.1 i)
 
 -- a letter comes after the digits, and is no backslash
@@ -52,7 +46,7 @@ class_at-is : (text rest : List ℕ) (class : Class) → class_at text ≡ Some 
 class_at-is [] rest class e = cc
 class_at-is (c ∷ text) rest class e =
     let b = bound (class_of c) (λ k. Some (k, text)) (class, rest) e in
-    let p = pair_same b.0 class text rest b.2 in
+    let p = some_pair_parts b.0 class text rest b.2 in
     (c, ap (λ t. c ∷ t) p.1, b.1 ∙ ap Some p.0)
 
 abbrev kept_of : List ℕ → Option (Symbol × List ℕ)
@@ -190,10 +184,7 @@ symbols_of-next (c ∷ text) rest s e good =
 nothing-from_nil : {text : List ℕ} {mask : List Symbol} → IsMask text mask
     → not (is_empty text) ≡ false → (text ≡ []) × (mask ≡ [])
 nothing-from_nil nothing none = (refl, refl)
-nothing-from_nil (letter e more) none = absurd (false≢true (sym none))
-nothing-from_nil (escaped more) none = absurd (false≢true (sym none))
-nothing-from_nil (starred e) none = absurd (false≢true (sym none))
-nothing-from_nil (counted is low high e) none = absurd (false≢true (sym none))
+nothing-from_nil _ none = absurd (false≢true (sym none))
 
 -- the rules of the grammar, by the symbol that the text begins with
 IsMask-step : {text rest : List ℕ} {s : Symbol} (mask : List Symbol) → IsSymbol text s rest

@@ -6,6 +6,7 @@ use Rattle.std.specs.List.{AllPass}
 use Rattle.std.proofs.lemmas.Bool.{eqb-true, eq-eqb}
 use Rattle.std.proofs.lemmas.List.{append-nil}
 use Rattle.std.proofs.lemmas.List.Elements.{All-nil, All-cons, All-head, All-tail}
+use Rattle.std.proofs.lemmas.Option.{cond_some}
 use Rattle.wap_mask.specs.declared.class.Class.{Class}
 use Rattle.wap_mask.specs.declared.symbol.Symbol.{Symbol}
 use Rattle.wap_mask.specs.declared.symbol.Symbol.TheVariants.{One, Exactly, UpTo, AnyNumber}
@@ -13,7 +14,6 @@ use Rattle.wap_mask.specs.Characters.{is_in}
 use Rattle.wap_mask.specs.Texts.{Takes, IsTaken}
 use Rattle.wap_mask.specs.Grammar.{repeats, RepeatsLast}
 use Rattle.wap_mask.specs.Calculation.{after_all, after_up_to, after, is_taken}
-use Rattle.wap_mask.proofs.Options.{given}
 
 -- a prefix of a text, in a symbol's set, and what follows it
 pub record Splits (symbol : Symbol) (text rest : List ℕ) : Type 0 where
@@ -66,11 +66,11 @@ pub after-splits : (symbol : Symbol) (text rest : List ℕ) → after symbol tex
     → Splits symbol text rest
 after-splits (One class) [] rest e = cc
 after-splits (One class) (c ∷ text) rest e =
-    let g = given (is_in class c) text rest e in
+    let g = cond_some (is_in class c) text rest e in
     record { front = c ∷ []; joined = ap (λ t. c ∷ t) g.1; takes = (c, refl, g.0) }
 after-splits (Exactly wanted) [] rest e = cc
 after-splits (Exactly wanted) (c ∷ text) rest e =
-    let g = given (c == wanted) text rest e in
+    let g = cond_some (c == wanted) text rest e in
     record {
       front = c ∷ [];
       joined = ap (λ t. c ∷ t) g.1;

@@ -22,10 +22,9 @@ pub data IsMask : List ℕ → List Symbol → Type 0 where
 
 -- the symbol may take more or fewer characters than one
 abbrev pub repeats : Symbol → Bool
-repeats (One class) = false
-repeats (Exactly c) = false
 repeats (UpTo most class) = true
 repeats (AnyNumber class) = true
+repeats _ = false
 
 -- no symbol but the last repeats, which holds of every mask
 abbrev pub RepeatsLast : List Symbol → Type 0

@@ -213,9 +213,7 @@ refused_as kind.Source bytes _ (RefusesSource.source why of) =
 accepted_as : (k : Kind) (bytes : List ℕ) (one : Page) → IsPageAs k bytes one
     → one ≢ page.Refused
 accepted_as kind.Deck bytes one is = λ so. cc (sym is.deck.is ∙ so)
-accepted_as kind.Words bytes one is = λ so. cc (sym is.is ∙ so)
-accepted_as kind.Unit bytes one is = λ so. cc (sym is.is ∙ so)
-accepted_as kind.Source bytes one is = λ so. cc (sym is.is ∙ so)
+accepted_as _ bytes one is = λ so. cc (sym is.is ∙ so)
 
 -- ---- two faults
 

@@ -1,7 +1,7 @@
 -- What is pushed is read, and what is no indication is refused.
 use Rattle.std.proofs.Common.{◌≡◌, ◌≢◌, ℕ, Bool, true, false, cond, List}
 use Rattle.std.proofs.Common.{Option, Some, None, Ok, Err, refl, sym, ap, subst, ◌∙◌, ◌&&◌}
-use Rattle.std.specs.Prelude.{Result, IfOk, IfErr}
+use Rattle.std.specs.Prelude.{Result, IfErr}
 use Rattle.wap_base.specs.Outcome.{Meets}
 use Rattle.wap_tokens.specs.declared.markup.document.Document.{Document}
 use Rattle.wap_tokens.specs.declared.markup.document.Element.{Element}
@@ -10,12 +10,10 @@ use Rattle.wap_wbxml.specs.declared.fault.DocFault.TheVariants as document_fault
 use Rattle.wap_wbxml.specs.reading.Whole.{typed_at}
 use Rattle.wap_wbxml.proofs.DocumentLaws.{document_takes, document_again}
 use Rattle.wap_wbxml.proofs.DocumentLaws.{document_stops, document_fails}
-use Rattle.wap_push.specs.declared.indication.Action.{Action}
 use Rattle.wap_push.specs.declared.indication.Indication.{Indication}
 use Rattle.wap_push.specs.declared.fault.PushFault.{PushFault}
 use Rattle.wap_push.specs.declared.fault.PushFault.TheVariants as fault
-use Rattle.wap_push.specs.Fields.{elements_of, content_text, action_of}
-use Rattle.wap_push.specs.Fields.{created_of, identifier_of}
+use Rattle.wap_push.specs.Fields.{elements_of, created_of, identifier_of}
 use Rattle.wap_push.specs.Indications.{is_si, is_info, IsBody, IsIndication, IsRefused}
 use Rattle.wap_push.specs.Calculation.{is_none, body_in, named, dated, indication_in, indication_of}
 use Rattle.wap_push.specs.Pushes.{indications, IsPush, IsNoPush, push_of, push_at, push_error}
@@ -40,33 +38,6 @@ in_body document body root child =
     ap (λ (b : Bool).
     cond b (indication_in (body_in (elements_of document.root.kids))) (Err fault.Root)) root
     ∙ ap indication_in (body_again document body child)
-
-indication_again : (document : Document) (pushed : Indication) → IsIndication document pushed
-    → indication_of document ≡ Ok pushed
-indication_again document pushed is =
-    in_body document is.body is.root is.child ∙ ap (dated is.body) is.created
-    ∙ ap (named is.body pushed.created) is.id
-    ∙ ap (λ (href : Option (List ℕ)). Ok (record {
-      id = pushed.id;
-      href = href;
-      created = pushed.created;
-      action = action_of is.body.attrs;
-      text = content_text is.body.kids;
-    })) (sym is.href)
-    ∙ ap (λ (action : Action). Ok (record {
-      id = pushed.id;
-      href = pushed.href;
-      created = pushed.created;
-      action = action;
-      text = content_text is.body.kids;
-    })) (sym is.action)
-    ∙ ap (λ (text : List ℕ). Ok (record {
-      id = pushed.id;
-      href = pushed.href;
-      created = pushed.created;
-      action = pushed.action;
-      text = text;
-    })) (sym is.text)
 
 -- ---- and one that is none is refused
 
@@ -139,12 +110,6 @@ judged document = judged_by document (is_si document) refl
 
 -- ---- pushed bytes
 
-pub push_again : (bytes : List ℕ) (pushed : Indication) → IsPush bytes pushed
-    → push_at bytes ≡ Ok pushed
-push_again bytes pushed is =
-    ap push_of (document_again indications bytes is.document is.spelled)
-    ∙ indication_again is.document pushed is.is
-
 pub push_fails : (bytes : List ℕ) (why : PushFault) → IsNoPush bytes why → push_at bytes ≡ Err why
 push_fails bytes why (IsNoPush.no_document other refused) =
     ap push_of (document_fails indications bytes other refused)
@@ -173,26 +138,12 @@ read_document bytes (Err why) is =
 is_read : (bytes : List ℕ) → IsRead bytes (push_at bytes)
 is_read bytes = read_document bytes (typed_at indications bytes) refl
 
--- what is found is pushed so
-pub found_of : (result : Result Indication PushFault) (bytes : List ℕ)
-    → Meets fault.NoMemory (λ pushed. pushed) result (push_at bytes)
-    → IfOk result (λ pushed. IsPush bytes pushed)
-found_of (Ok pushed) bytes meets = subst (IsRead bytes) meets (is_read bytes)
-found_of (Err why) bytes meets = tt
-
 -- and a fault is the first
 pub refused_of : (result : Result Indication PushFault) (bytes : List ℕ)
     → Meets fault.NoMemory (λ pushed. pushed) result (push_at bytes)
     → IfErr result (λ why. why ≢ fault.NoMemory → IsNoPush bytes why)
 refused_of (Ok pushed) bytes meets = tt
 refused_of (Err why) bytes meets = λ other. subst (IsRead bytes) (meets other) (is_read bytes)
-
-pub only_of : (result : Result Indication PushFault) (bytes : List ℕ)
-    → Meets fault.NoMemory (λ pushed. pushed) result (push_at bytes)
-    → (pushed : Indication) → IsPush bytes pushed
-    → Meets fault.NoMemory (λ pushed. pushed) result (Ok pushed)
-only_of result bytes meets pushed is =
-    subst (Meets fault.NoMemory (λ pushed. pushed) result) (push_again bytes pushed is) meets
 
 pub first_of : (result : Result Indication PushFault) (bytes : List ℕ)
     → Meets fault.NoMemory (λ pushed. pushed) result (push_at bytes)

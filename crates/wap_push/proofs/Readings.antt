@@ -1,8 +1,9 @@
 -- What the reading gives is what the relations say.
-use Rattle.std.proofs.Common.{◌≡◌, ◌≢◌, ℕ, Bool, true, false, cond, List, [], ◌∷◌}
+use Rattle.std.proofs.Common.{◌≡◌, ◌≢◌, ℕ, true, List, [], ◌∷◌}
 use Rattle.std.proofs.Common.{Option, Some, None, Ok, Err, refl, subst, ◌&&◌}
 use Rattle.std.specs.Prelude.{Result, IfOk, IfErr}
 use Rattle.std.proofs.lemmas.Bool.{and_parts}
+use Rattle.std.proofs.lemmas.Option.{cond_some}
 use Rattle.wap_base.specs.Outcome.{Meets}
 use Rattle.wap_tokens.specs.declared.markup.document.Document.{Document}
 use Rattle.wap_tokens.specs.declared.markup.document.Element.{Element}
@@ -13,11 +14,6 @@ use Rattle.wap_push.specs.declared.fault.PushFault.TheVariants as fault
 use Rattle.wap_push.specs.Fields.{elements_of, is_tagged, created_of, identifier_of}
 use Rattle.wap_push.specs.Indications.{is_si, is_info, IsBody, IsIndication, IsRefused}
 use Rattle.wap_push.specs.Calculation.{is_none, body_in, named, dated}
-
--- what a test lets through
-chosen : {X : Type 0} (b : Bool) (x y : X) → cond b (Some x) None ≡ Some y → (b ≡ true) × (x ≡ y)
-chosen true x y is = (refl, cc is)
-chosen false x y is = absurd (cc is)
 
 -- no element
 nothing : (elements : List Element) → is_none elements ≡ true → elements ≡ []
@@ -30,7 +26,8 @@ body_at : (document : Document) (body : Element) (elements : List Element)
 body_at document body [] are found = absurd (cc found)
 body_at document body (first ∷ others) are found =
     let test =
-    chosen (is_tagged tag.Indication first && (is_info others && is_none (elements_of first.kids)))
+    cond_some
+    (is_tagged tag.Indication first && (is_info others && is_none (elements_of first.kids)))
     first body found in
     let parts =
     and_parts (is_tagged tag.Indication first)

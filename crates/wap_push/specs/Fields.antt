@@ -12,6 +12,7 @@ use Rattle.wap_tokens.specs.declared.markup.document.Piece.{Piece}
 use Rattle.wap_tokens.specs.declared.markup.document.Piece.TheVariants as piece
 use Rattle.wap_tokens.specs.declared.markup.document.Kid.{Kid, out-Kid}
 use Rattle.wap_tokens.specs.declared.markup.document.Kid.TheOpen.{Kid-F}
+use Rattle.wap_tokens.specs.markup.Decks.{KidLevel}
 use Rattle.wap_push.specs.declared.indication.Action.{Action}
 use Rattle.wap_push.specs.declared.indication.Action.TheVariants as action
 use Rattle.wap_push.specs.declared.names.PushTag.{PushTag}
@@ -32,23 +33,13 @@ abbrev pub piece_text : Piece → List ℕ
 piece_text (piece.Code page code) = unwrap_or (value_of page code) []
 piece_text (piece.Str text) = text
 piece_text (piece.Entity number) = character number
-piece_text (piece.Var name conv) = []
-piece_text (piece.Ext index) = []
-piece_text (piece.Opaque bytes) = []
-
--- a part of content, opened
-abbrev pub KidLevel : Type 0
-KidLevel = Kid-F Kid Element
+piece_text _ = []
 
 -- the text of an opened part of content: what is no string and no character is passed over
 abbrev pub text_from : KidLevel → List ℕ
-text_from (Kid-F.Element element) = []
 text_from (Kid-F.Str text) = text
 text_from (Kid-F.Entity number) = character number
-text_from (Kid-F.Var name conv) = []
-text_from (Kid-F.Ext index) = []
-text_from (Kid-F.Opaque bytes) = []
-text_from (Kid-F.Pi attr) = []
+text_from _ = []
 
 -- the text of a part of content
 abbrev pub kid_text : Kid → List ℕ
@@ -63,12 +54,7 @@ content_text = flat_map kid_text
 -- an opened part of content as an element, if it is one
 abbrev pub element_from : KidLevel → Option Element
 element_from (Kid-F.Element element) = Some element
-element_from (Kid-F.Str text) = None
-element_from (Kid-F.Entity number) = None
-element_from (Kid-F.Var name conv) = None
-element_from (Kid-F.Ext index) = None
-element_from (Kid-F.Opaque bytes) = None
-element_from (Kid-F.Pi attr) = None
+element_from _ = None
 
 -- a part of content as an element, if it is one
 abbrev pub element_of : Kid → Option Element

@@ -1,13 +1,12 @@
 -- The inbox: of the indications that were pushed, those that count (this project's own; that a
 -- later one stands for an earlier one of the same identifier is WAP-167's, section 5.2).
-use Rattle.std.specs.Prelude.{◌≡◌, ℕ, zero, suc, ◌≤◌, ◌<◌, Bool, true, false, nat_le}
-use Rattle.std.specs.Prelude.{if◌then◌else◌, map, List, [], ◌∷◌, ◌++◌, find, slice_get}
-use Rattle.std.specs.Prelude.{Option, Some, None}
+use Rattle.std.specs.Prelude.{◌≡◌, ℕ, zero, suc, ◌≤◌, ◌<◌, Bool, true, false, nat_le, if◌then◌else◌}
+use Rattle.std.specs.Prelude.{map, List, [], ◌∷◌, ◌++◌, find, slice_get, Option, Some, None}
 use Rattle.std.specs.List.{filter, AllByRecursion}
 use Rattle.std.specs.List.Sorted.{IsStrictlySortedBy}
 use Rattle.wap_base.specs.Texts.{is_same_text, text_cmp}
 use Rattle.wap_push.specs.declared.indication.Action.{Action}
-use Rattle.wap_push.specs.declared.indication.Action.TheVariants.{Quiet, Low, Medium, High, Delete}
+use Rattle.wap_push.specs.declared.indication.Action.TheVariants.{Quiet, Delete}
 use Rattle.wap_push.specs.declared.indication.Indication.{Indication}
 
 -- ---- which indication counts
@@ -53,11 +52,8 @@ pub record HaveWinners (pushes winners : List Indication) : Type 0 where
 
 -- whether a winner that is to be met like this is in the inbox: all but deletes
 abbrev pub stays : Action → Bool
-stays Quiet = true
-stays Low = true
-stays Medium = true
-stays High = true
 stays Delete = false
+stays _ = true
 
 -- whether an inbox has a winner
 abbrev pub is_kept : Indication → Bool
@@ -75,10 +71,8 @@ entry_at entries (suc place) = slice_get entries place
 -- whether an indication that is to be met like this is shown when it comes
 abbrev pub alerts : Action → Bool
 alerts Quiet = false
-alerts Low = true
-alerts Medium = true
-alerts High = true
 alerts Delete = false
+alerts _ = true
 
 -- a push is shown when it comes: it is the winner of its identifier, and is to be met like this
 pub record IsAlert (pushes : List Indication) (pushed : Indication) : Type 0 where

@@ -1,8 +1,7 @@
 -- The names and codes of indications (WAP-167, section 8.3), as this crate's tables list them. The
 -- codes are those of page 0; no other page has any. All these texts are of US-ASCII, so their bytes
 -- are their characters.
-use Rattle.std.specs.Prelude.{ℕ, Bool, ◌==◌, nat_eq, if◌then◌else◌, map}
-use Rattle.std.specs.Prelude.{List, Option, None}
+use Rattle.std.specs.Prelude.{ℕ, Bool, ◌==◌, nat_eq, if◌then◌else◌, map, List, Option, None}
 use Rattle.std.specs.Map.{lookup}
 use Rattle.wap_base.specs.Texts.{is_same_text}
 use Rattle.wap_tokens.specs.declared.markup.document.Token.{Token}

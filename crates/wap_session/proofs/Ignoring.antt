@@ -20,7 +20,7 @@ use Rattle.wap_context.specs.Browsers.{Browser, place_held}
 use Rattle.wap_context.specs.Sites.{IfOver}
 use Rattle.wap_session.specs.Feeding.{State, TurnsTo, Plays}
 use Rattle.wap_session.specs.declared.standing.Standing.{Standing}
-use Rattle.wap_session.specs.declared.standing.Standing.TheVariants.{Rest, Waits as Asking, Over}
+use Rattle.wap_session.specs.declared.standing.Standing.TheVariants.{Rest}
 use Rattle.wap_session.specs.Ignoring.{fits_nothing}
 use Rattle.wap_session.specs.inside.Turns.{waiting_of, is_over, state_of, turn_rule, taken_by}
 use Rattle.wap_session.specs.inside.Pressing.{press_rule}
@@ -33,8 +33,7 @@ at_rest : (standing : Standing)
     → (is_none (waiting_of standing) && not (is_over standing)) ≡ true
     → (waiting_of standing ≡ None) × (is_over standing ≡ false)
 at_rest Rest rests = (refl, refl)
-at_rest (Asking asked) rests = absurd cc
-at_rest Over rests = absurd cc
+at_rest _ rests = absurd cc
 
 -- a key that fits nothing takes no push
 takes_none : (has_card : Bool) (one : Key) (pushes : List Indication)

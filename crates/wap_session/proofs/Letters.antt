@@ -2,7 +2,7 @@
 use Rattle.std.proofs.Common.{◌≡◌, refl}
 use Rattle.std.specs.Prelude.{codes}
 use Rattle.std.specs.Str.{chars}
-use Rattle.wap_cards.proofs.ComparedTexts.{chars-plain}
+use Rattle.wap_tokens.proofs.Plain.{chars-plain}
 
 pub dollar_letters : chars (codes "$ ") ≡ codes "$ "
 dollar_letters = chars-plain (codes "$ ") refl

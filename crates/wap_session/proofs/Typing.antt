@@ -29,8 +29,7 @@ use Rattle.wap_world.specs.Keys.{choose_option, after_choice, at_card, apply, pa
 use Rattle.wap_context.specs.Browsers.{Browser, IsOver, Shows, with_vars, typed_in, chosen_in}
 use Rattle.wap_context.specs.Browsers.{place_held}
 use Rattle.wap_session.specs.Ignoring.{fits_nothing}
-use Rattle.wap_session.specs.inside.Pressing.{press_rule}
-use Rattle.wap_session.specs.inside.Pressing.{typed}
+use Rattle.wap_session.specs.inside.Pressing.{press_rule, typed}
 use Rattle.wap_context.proofs.Places.{held_now}
 use Rattle.wap_session.proofs.Rules.{LeadsTo}
 
@@ -278,7 +277,6 @@ pub fits : (one : Key) (pushes : List Indication) (pages : Pages) (keys : List K
     → IsOver (shelf_of pages) browser
     → press_rule pushes one pages keys browser.world ≡ quiet keys (ignored browser.world)
 unfolding units_site
-fits (key.Open url) pushes pages keys browser nothing is = absurd cc
 fits (key.Do name) pushes pages keys browser nothing is =
     without_card pages keys browser
     (λ place. act_or (ignored browser.world) (site_of pages) keys browser.world
@@ -303,7 +301,4 @@ fits key.Ok pushes pages keys browser nothing is = refl
 fits key.Cancel pushes pages keys browser nothing is = refl
 fits (key.Answer text) pushes pages keys browser nothing is = refl
 fits key.Stop pushes pages keys browser nothing is = refl
-fits key.Vars pushes pages keys browser nothing is = absurd cc
-fits (key.Push bytes) pushes pages keys browser nothing is = absurd cc
-fits key.Inbox pushes pages keys browser nothing is = absurd cc
-fits (key.Follow n) pushes pages keys browser nothing is = absurd cc
+fits _ pushes pages keys browser nothing is = absurd cc

@@ -133,10 +133,8 @@ module _ (limits : Limits) (history : List Entry) (timer : Timer)
   }
 
   settled_runs : (t : Timer) (tenths : ℕ) → settled_timer t ≡ Running tenths → t ≡ Running tenths
-  settled_runs NotStarted tenths e = absurd (cc e)
   settled_runs (Running time) tenths e = e
-  settled_runs Off tenths e = absurd (cc e)
-  settled_runs Expired tenths e = absurd (cc e)
+  settled_runs _ tenths e = absurd (cc e)
 
   pub keeps_settled : (after : Timer) → after ≡ settled_timer timer
       → KeepsRules limits history after

@@ -34,7 +34,7 @@ use Rattle.wap_image.specs.Items.{is_drawn, is_entry, is_text_of, is_entry_text}
 use Rattle.wap_image.specs.Rules.{AreParts}
 use Rattle.wap_world.specs.declared.history.Entry.{Entry}
 use Rattle.wap_world.specs.declared.timer.Timer.{Timer}
-use Rattle.wap_world.specs.declared.timer.Timer.TheVariants.{NotStarted, Running, Off, Expired}
+use Rattle.wap_world.specs.declared.timer.Timer.TheVariants.{NotStarted, Running, Expired}
 use Rattle.wap_world.specs.World.{World}
 use Rattle.wap_world.specs.History.{entry_of}
 use Rattle.wap_state.specs.page_urls.PageUrls.{is_http, IsPageUrl, IsPageEntry}
@@ -265,10 +265,8 @@ saved_same m n e = cc e
 -- a timer that is saved as running runs
 saved_runs : (timer : Timer) (tenths : ℕ) → saved_timer timer ≡ saved.Running tenths
     → timer ≡ Running tenths
-saved_runs NotStarted tenths is = absurd (cc is)
 saved_runs (Running time) tenths is = ap Running (saved_same time tenths is)
-saved_runs Off tenths is = absurd (cc is)
-saved_runs Expired tenths is = absurd (cc is)
+saved_runs _ tenths is = absurd (cc is)
 
 timer_runs_in : (history : List Entry) (timer : Timer) (tenths : ℕ)
     → timer_in history timer ≡ saved.Running tenths → timer ≡ Running tenths
@@ -277,16 +275,13 @@ timer_runs_in (entry ∷ entries) timer tenths is = saved_runs timer tenths is
 
 timer_runs : (timer : SavedTimer) (tenths : ℕ) → timer_of timer ≡ Running tenths
     → timer ≡ saved.Running tenths
-timer_runs saved.NotStarted tenths is = absurd (cc is)
 timer_runs (saved.Running time) tenths is = ap saved.Running (time_same time tenths is)
-timer_runs saved.Off tenths is = absurd (cc is)
+timer_runs _ tenths is = absurd (cc is)
 
 -- one that hasn't run out in a dialog is the same again
 timer_again : (timer : Timer) → timer ≢ Expired → timer_of (saved_timer timer) ≡ timer
-timer_again NotStarted settled = refl
-timer_again (Running time) settled = refl
-timer_again Off settled = refl
 timer_again Expired settled = absurd (settled refl)
+timer_again _ settled = refl
 
 pub timer_back : (history : List Entry) (timer : Timer) → timer ≢ Expired
     → (history ≡ [] → timer ≡ NotStarted) → timer_of (timer_in history timer) ≡ timer

@@ -5,9 +5,8 @@ use Rattle.wap_tokens.specs.declared.markup.name.Tag.{Tag}
 use Rattle.wap_tokens.specs.declared.markup.name.Tag.TheVariants as tags
 use Rattle.wap_tokens.specs.declared.markup.name.AttrName.{AttrName}
 use Rattle.wap_tokens.specs.markup.Tables.{Start, tag_of, tag_named, code_of, name_of_tag}
-use Rattle.wap_tokens.specs.markup.Tables.{attr_named}
-use Rattle.wap_tokens.specs.markup.Tables.{name_of_attr, attr_start, code_of_start, start_code}
-use Rattle.wap_tokens.specs.markup.Tables.{attr_value}
+use Rattle.wap_tokens.specs.markup.Tables.{attr_named, name_of_attr, attr_start, code_of_start}
+use Rattle.wap_tokens.specs.markup.Tables.{start_code, attr_value}
 
 -- tags have codes and names, each of them its own
 pub record TagsAgree : Type 0 where

@@ -1,51 +1,9 @@
 -- Segments that are cut off one by one, kept and joined, in texts and in their UTF-8.
-use Rattle.std.proofs.Common.{
-  ◌≡◌,
-  ◌≢◌,
-  inl,
-  inr,
-  ℕ,
-  ◌+◌,
-  ◌-◌,
-  ◌<◌,
-  ◌≤◌,
-  Bool,
-  true,
-  false,
-  cond,
-  ◌||◌,
-  ◌==◌,
-  List,
-  [],
-  ◌∷◌,
-  ◌++◌,
-  length,
-  take,
-  drop,
-  map,
-  get_or,
-  refl,
-  ap,
-  ap₂,
-  sym,
-  ◌∙◌,
-  subst,
-  arith,
-  append_assoc,
-  length-append,
-  encode_utf8,
-  encode_utf8_all,
-  IsUtf8,
-  Some,
-  None,
-  Option,
-  MatchOption,
-  Bor,
-  fold,
-  lit<,
-  append-nil,
-  bytes_eq,
-}
+use Rattle.std.proofs.Common.{◌≡◌, ◌≢◌, inl, inr, ℕ, ◌+◌, ◌-◌, ◌<◌, ◌≤◌, Bool, true, false, cond}
+use Rattle.std.proofs.Common.{◌||◌, ◌==◌, List, [], ◌∷◌, ◌++◌, length, take, drop, map, get_or}
+use Rattle.std.proofs.Common.{refl, ap, ap₂, sym, ◌∙◌, subst, arith, append_assoc, length-append}
+use Rattle.std.proofs.Common.{encode_utf8, encode_utf8_all, IsUtf8, Some, None, Option, MatchOption}
+use Rattle.std.proofs.Common.{Bor, fold, lit<, append-nil, bytes_eq}
 use Rattle.std.specs.List.{list_any}
 use Rattle.std.specs.Str.{chars, NoCharPasses, NonePass}
 use Rattle.std.specs.Str.Pattern.{RFindsChar}
@@ -57,23 +15,11 @@ use Rattle.std.proofs.lemmas.List.{length-map, take-map, map_more, length-take-l
 use Rattle.std.proofs.lemmas.List.Splits.{slice_split_none, slice_split_first}
 use Rattle.std.proofs.lemmas.List.Splits.{join_with_byte-slice_split}
 use Rattle.std.proofs.lemmas.Slice.Eq.{bytes_eq-Decides}
-use Rattle.std.proofs.lemmas.Str.{
-  chars-nil,
-  chars_from_encodes,
-  chars-append,
-  chars_past_char,
-  IsUtf8-append,
-  IsUtf8-from_ascii,
-  encode_ascii,
-  IsUtf8-take,
-  IsUtf8-drop,
-  IsCharBoundary-before_ascii,
-  IsCharBoundary-after_ascii,
-  encodes-chars,
-  scalars-chars,
-  encodes_same,
-  encodes-IsAscii,
-}
+use Rattle.std.proofs.lemmas.Str.{chars-nil, chars_from_encodes, chars-append, chars_past_char}
+use Rattle.std.proofs.lemmas.Str.{IsUtf8-append, IsUtf8-from_ascii, encode_ascii, IsUtf8-take}
+use Rattle.std.proofs.lemmas.Str.{IsUtf8-drop, IsCharBoundary-before_ascii}
+use Rattle.std.proofs.lemmas.Str.{IsCharBoundary-after_ascii, encodes-chars, scalars-chars}
+use Rattle.std.proofs.lemmas.Str.{encodes_same, encodes-IsAscii}
 use Rattle.std.proofs.lemmas.Str.Ascii.{IsAscii-cons, IsAscii-nil}
 use Rattle.std.proofs.lemmas.Str.Pattern.{IsSplitOnceResult, split_once_first, split_parts}
 use Rattle.std.proofs.lemmas.Str.Pattern.{NoCharPasses-char, drop_at_char}

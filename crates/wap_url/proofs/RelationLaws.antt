@@ -1,50 +1,9 @@
 -- Folders and last segments, in texts and in their UTF-8.
-use Rattle.std.proofs.Common.{
-  ◌≡◌,
-  ◌≢◌,
-  ◌⊎◌,
-  inl,
-  inr,
-  ℕ,
-  suc,
-  ◌-◌,
-  ◌<◌,
-  Bool,
-  true,
-  false,
-  not,
-  ◌&&◌,
-  ◌||◌,
-  ◌==◌,
-  List,
-  [],
-  ◌∷◌,
-  ◌++◌,
-  length,
-  take,
-  map,
-  get_or,
-  refl,
-  ap,
-  ap₂,
-  sym,
-  ◌∙◌,
-  subst,
-  arith,
-  encode_utf8,
-  encode_utf8_all,
-  IsUtf8,
-  Some,
-  None,
-  Option,
-  MatchOption,
-  Bor,
-  lit<,
-  bytes_eq,
-  Decides,
-  take-append-drop,
-  option_copied,
-}
+use Rattle.std.proofs.Common.{◌≡◌, ◌≢◌, ◌⊎◌, inl, inr, ℕ, suc, ◌-◌, ◌<◌, Bool, true, false, not}
+use Rattle.std.proofs.Common.{◌&&◌, ◌||◌, ◌==◌, List, [], ◌∷◌, ◌++◌, length, take, map, get_or}
+use Rattle.std.proofs.Common.{refl, ap, ap₂, sym, ◌∙◌, subst, arith, encode_utf8, encode_utf8_all}
+use Rattle.std.proofs.Common.{IsUtf8, Some, None, Option, MatchOption, Bor, lit<, bytes_eq, Decides}
+use Rattle.std.proofs.Common.{take-append-drop, option_copied}
 use Rattle.std.specs.List.{list_any, join_with_byte}
 use Rattle.std.specs.Str.{chars, NoCharPasses}
 use Rattle.std.proofs.lemmas.Bool.{cases_Bool, or_from, and_parts, and_from}

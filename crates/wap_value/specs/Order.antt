@@ -5,15 +5,13 @@ use Rattle.std.specs.Ordering.{int_cmp}
 use Rattle.std.specs.declared.cmp.Ordering.{Ordering}
 use Rattle.wap_base.specs.Texts.{text_cmp}
 use Rattle.wap_value.specs.declared.value.Value.{Value}
-use Rattle.wap_value.specs.declared.value.Value.TheVariants.{Int, Bool as Boolean, Str, Invalid}
+use Rattle.wap_value.specs.declared.value.Value.TheVariants.{Str}
 use Rattle.wap_value.specs.Conversion.{integer_of, text_of}
 
 -- the value is a String
 abbrev pub is_string : Value → Bool
-is_string (Int z) = false
-is_string (Boolean b) = false
 is_string (Str text) = true
-is_string Invalid = false
+is_string _ = false
 
 -- what f makes of two things, if both are there
 abbrev pub of_both : {A B : Type 0} → (A → A → B) → Option A → Option A → Option B

@@ -2,7 +2,7 @@
 -- project's own.
 use Rattle.std.specs.Prelude.{◌≡◌, ℕ, ◌<◌, nat_lt, Result, Ok, Err, if◌then◌else◌}
 use Rattle.wap_value.specs.declared.value.Value.{Value}
-use Rattle.wap_value.specs.declared.value.Value.TheVariants.{Int, Bool as Boolean, Str, Invalid}
+use Rattle.wap_value.specs.declared.value.Value.TheVariants.{Str}
 use Rattle.wap_value.specs.declared.fault.ValueFault.{ValueFault}
 use Rattle.wap_value.specs.declared.fault.ValueFault.TheVariants.{TooLong}
 use Rattle.wap_base.specs.Utf8.{utf8_len}
@@ -11,9 +11,7 @@ use Rattle.wap_base.specs.Utf8.{utf8_len}
 abbrev pub kept_within : ℕ → Value → Result Value ValueFault
 kept_within limit (Str text) =
     if nat_lt limit (utf8_len text) then Err (TooLong (utf8_len text)) else Ok (Str text)
-kept_within limit (Int z) = Ok (Int z)
-kept_within limit (Boolean b) = Ok (Boolean b)
-kept_within limit Invalid = Ok Invalid
+kept_within limit v = Ok v
 
 -- v is a String of so many bytes, more than the limit
 abbrev pub IsTooLong : ℕ → Value → ℕ → Type 0

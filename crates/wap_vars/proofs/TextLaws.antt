@@ -7,7 +7,7 @@ use Rattle.std.specs.BTreeMap.{is_at}
 use Rattle.std.specs.Map.{lookup, remove_entry, values_of}
 use Rattle.std.specs.Ordering.{is_eq}
 use Rattle.std.specs.declared.cmp.Ordering.{Ordering}
-use Rattle.std.specs.declared.cmp.Ordering.TheVariants.{Less, Equal, Greater}
+use Rattle.std.specs.declared.cmp.Ordering.TheVariants.{Equal}
 use Rattle.std.specs.Cmp.Lexicographic.{texts_ties}
 use Rattle.std.proofs.lemmas.List.Elements.{All-head, All-tail}
 use Rattle.std.proofs.lemmas.Map.Lookups.{exact_bytes}
@@ -35,9 +35,8 @@ removed_by_order name (e ∷ es) =
     (removed_by_order name es)
 
 not_equal : (order : Ordering) → (order ≡ Equal → ⊥) → is_eq order ≡ false
-not_equal Less apart = refl
 not_equal Equal apart = absurd (apart refl)
-not_equal Greater apart = refl
+not_equal _ apart = refl
 
 -- another name is not at the name's place
 pub other_place : (name other : List ℕ) → other ≢ name → is_at (text_cmp name) other ≡ false

@@ -1,20 +1,19 @@
 -- The verifier as a whole: what refuses a unit, and what is kept of one.
-use Rattle.std.proofs.Common.{◌≡◌, ◌≢◌, ℕ, zero, suc, ◌+◌, ◌<◌, true, List, [], ◌∷◌, ◌++◌}
+use Rattle.std.proofs.Common.{◌≡◌, ◌≢◌, ℕ, ◌+◌, ◌<◌, true, List, [], ◌∷◌, ◌++◌}
 use Rattle.std.proofs.Common.{length, map, get_or, Option, Some, None, Result, Ok, Err, refl}
 use Rattle.std.proofs.Common.{sym, ap, subst, ◌∙◌, ◌⊎◌, inl, inr, arith}
 use Rattle.std.specs.Prelude.{slice_get, slice_index, option_and_then}
 use Rattle.std.specs.List.{AllByRecursion}
 use Rattle.std.specs.Option.{option_map}
 use Rattle.std.proofs.lemmas.Bool.{cases_lt}
-use Rattle.std.proofs.lemmas.Option.{slice_get_within}
+use Rattle.std.proofs.lemmas.Option.{slice_get-map, slice_get_within}
 use Rattle.std.proofs.lemmas.List.{get_or_append_left, get_or_push, length_push}
 use Rattle.wap_base.proofs.Choices.{some_same}
 use Rattle.wap_base.specs.declared.charset.Charset.{Charset}
 use Rattle.wap_unit.specs.declared.unit.Unit.{Unit}
 use Rattle.wap_unit.specs.declared.unit.Code.{Code}
 use Rattle.wap_unit.specs.declared.unit.Constant.{Constant}
-use Rattle.wap_unit.specs.declared.unit.Constant.TheVariants.{Int8, Int16, Int32, Float, Utf8}
-use Rattle.wap_unit.specs.declared.unit.Constant.TheVariants.{Empty, Coded}
+use Rattle.wap_unit.specs.declared.unit.Constant.TheVariants.{Coded}
 use Rattle.wap_unit.specs.declared.row.Row.{Row}
 use Rattle.wap_unit.specs.declared.instr.Instr.{Instr}
 use Rattle.wap_unit.specs.declared.instr.InstrFault.{InstrFault}
@@ -75,18 +74,8 @@ unverified unit found verified (function index code pragmas is earlier fault) =
 
 -- a fault that can only be out of memory is that
 pub no_memory : (found : VerifyFault) → (found ≢ fault.NoMemory → ⊥) → found ≡ fault.NoMemory
-no_memory (fault.Pragma index) never = absurd (never (λ e. cc e))
-no_memory (fault.Opcode index at) never = absurd (never (λ e. cc e))
-no_memory (fault.Operand index at) never = absurd (never (λ e. cc e))
-no_memory (fault.Variable index at) never = absurd (never (λ e. cc e))
-no_memory (fault.Constant index at) never = absurd (never (λ e. cc e))
-no_memory (fault.Function index at) never = absurd (never (λ e. cc e))
-no_memory (fault.Library index at) never = absurd (never (λ e. cc e))
-no_memory (fault.LoneShort index at) never = absurd (never (λ e. cc e))
-no_memory (fault.Target index at) never = absurd (never (λ e. cc e))
-no_memory (fault.Underflow index at) never = absurd (never (λ e. cc e))
-no_memory (fault.Depths index at found other) never = absurd (never (λ e. cc e))
 no_memory fault.NoMemory never = refl
+no_memory _ never = absurd (never (λ e. cc e))
 
 -- ---- room for each function
 
@@ -135,16 +124,11 @@ rooms_push unit count rooms code room so_far is sound fits =
 -- the coded string of a constant that was read is a text
 readable : (charset : ℕ) (bytes : List ℕ) (c : Constant) → IsConstant charset bytes c
     → IsReadable (charset_of charset) c
-readable charset bytes (Int8 number) is = tt
-readable charset bytes (Int16 number) is = tt
-readable charset bytes (Int32 number) is = tt
-readable charset bytes (Float number) is = tt
-readable charset bytes (Utf8 text) is = tt
-readable charset bytes Empty is = tt
 readable charset bytes (Coded text) is =
     let coded = is.2.2.1 in
     subst (λ (o : Option Charset). IsReadableText o text) (sym coded.known)
     (subst (λ (l : List ℕ). is_text coded.set l ≡ true) is.2.2.0 coded.fits)
+readable charset bytes _ is = tt
 
 -- so are those of a pool
 row_readable : (charset : ℕ) (bytes : List ℕ) (cs : List Constant)
@@ -159,13 +143,6 @@ pub all_readable : (bytes : List ℕ) (unit : Unit) → IsUnit bytes unit
 all_readable bytes unit is =
     let pool = is.body_is.first in
     row_readable unit.charset pool.second.back unit.constants pool.second.second
-
--- a coded string's text is the string
-slice_get-map : {A B : Type 0} (f : A → B) (xs : List A) (i : ℕ)
-    → slice_get (map f xs) i ≡ option_map f (slice_get xs i)
-slice_get-map f [] i = refl
-slice_get-map f (x ∷ xs) zero = refl
-slice_get-map f (x ∷ xs) (suc i) = slice_get-map f xs i
 
 -- the text that is kept at the index of a coded string
 kept_at : (unit : Unit) (texts : List (Option (List ℕ))) (index : ℕ) (bytes : List ℕ)

@@ -79,7 +79,7 @@ or_none true = refl
 or_none false = refl
 
 -- a number equals itself
-eqb-same : (n : ℕ) → eqb n n ≡ true
+pub eqb-same : (n : ℕ) → eqb n n ≡ true
 eqb-same n = grind (arith, nat_tests)
 
 -- numbers that differ are told apart
@@ -127,7 +127,7 @@ exit {X} P result fault is holds = subst (λ (r : Result X VerifyFault). IfErr r
 -- ---- targets
 
 -- one more passes the test
-all_push : (test : ℕ → Bool) (xs : List ℕ) (x : ℕ) → list_all test xs ≡ true → test x ≡ true
+pub all_push : (test : ℕ → Bool) (xs : List ℕ) (x : ℕ) → list_all test xs ≡ true → test x ≡ true
     → list_all test (xs ++ x ∷ []) ≡ true
 all_push test [] x all one = ap (λ (b : Bool). b && true) one
 all_push test (y ∷ xs) x all one =

@@ -4,8 +4,7 @@ use Rattle.std.proofs.Common.{eqb, List, [], ◌∷◌, ◌++◌, length, set, r
 use Rattle.std.proofs.Common.{Ok, refl, sym, ap, subst, ◌∙◌, ◌⊎◌, inl, inr, arith}
 use Rattle.std.specs.Prelude.{not, ◌||◌, IfSome, slice_get}
 use Rattle.std.specs.List.{list_all}
-use Rattle.std.proofs.lemmas.Bool.{cases_eq, cases_lt, cases_Bool, and_parts, eqb-true}
-use Rattle.std.proofs.lemmas.Bool.Decides.{nat_tests}
+use Rattle.std.proofs.lemmas.Bool.{or_right, cases_eq, cases_lt, cases_Bool, and_parts, eqb-true}
 use Rattle.std.proofs.lemmas.List.{length-set, length-append, length-replicate}
 use Rattle.std.proofs.lemmas.Option.{slice_get_within}
 use Rattle.wap_base.proofs.Choices.{ok_same, some_same}
@@ -24,6 +23,8 @@ use Rattle.wap_verify.specs.inside.Work.{GoesOn, is_place, Agrees, AgreesWith, A
 use Rattle.wap_verify.specs.inside.Work.{Settled, Grows, Works, Visits}
 use Rattle.wap_verify.specs.Depths.{State, depth_of, noted, arrived, followed, unseen}
 use Rattle.wap_verify.specs.inside.Kept.{IsConflictOn}
+use Rattle.wap_verify.specs.runnable.Runnable.{without_last}
+use Rattle.wap_verify.proofs.Walks.{eqb-same}
 
 -- ---- lists
 
@@ -78,15 +79,6 @@ kept values = Some (Some values)
 -- it has one number
 kept_same : (m n : ℕ) → kept m ≡ kept n → m ≡ n
 kept_same m n e = some_same m n (some_same (Some m) (Some n) e)
-
--- the second of two is enough
-or_right : (a b : Bool) → b ≡ true → (a || b) ≡ true
-or_right true b is = refl
-or_right false b is = is
-
--- a number equals itself
-eqb-same : (n : ℕ) → eqb n n ≡ true
-eqb-same n = grind (arith, nat_tests)
 
 -- ---- each place that is reached has an instruction
 
@@ -669,14 +661,10 @@ settled_grows unit index function old new at values grows settled =
           (settled.each way has);
     }
 
--- a place is taken off
-abbrev popped : State → List Stand → State
-popped state pending = record { depths = state.depths; pending = pending; room = state.room }
-
 -- what is settled stays settled when a place is taken off
 settled_popped : (unit : Unit) (index : ℕ) (function : Code) (state : State) (pending : List Stand)
     (at values : ℕ) → Settled unit index function state at values
-    → Settled unit index function (popped state pending) at values
+    → Settled unit index function (without_last state pending) at values
 settled_popped unit index function state pending at values settled = record {
   step = settled.step;
   stands = settled.stands;
@@ -690,7 +678,7 @@ module _ (unit : Unit) (index : ℕ) (function : Code) (state : State) (rest : L
     (at values : ℕ) where
   -- all stays sound when a place is taken off
   pub popped_sane : Works unit index function state → state.pending ≡ rest ++ (at, values) ∷ []
-      → Sane unit index function (popped state rest)
+      → Sane unit index function (without_last state rest)
   popped_sane works pops =
       let sane = works.sane in
       record {
@@ -706,7 +694,7 @@ module _ (unit : Unit) (index : ℕ) (function : Code) (state : State) (rest : L
 
   -- the place that is taken off has its number
   pub popped_here : Works unit index function state → state.pending ≡ rest ++ (at, values) ∷ []
-      → depth_of (popped state rest) at ≡ Some (Some values)
+      → depth_of (without_last state rest) at ≡ Some (Some values)
   popped_here works pops =
       works.sane.waiting (at, values)
       (subst (Among (at, values)) (sym pops) (among_last (at, values) rest))
@@ -714,7 +702,8 @@ module _ (unit : Unit) (index : ℕ) (function : Code) (state : State) (rest : L
   -- a visit leaves each place pending or settled
   pub works_on : (new : State) → Works unit index function state
       → state.pending ≡ rest ++ (at, values) ∷ []
-      → Visits unit index function (popped state rest) new at values → Works unit index function new
+      → Visits unit index function (without_last state rest) new at values
+      → Works unit index function new
   works_on new works pops visits = record {
     sane = visits.sane;
     start = λ some. visits.grows.kept 0 0 (works.start some);
@@ -722,7 +711,7 @@ module _ (unit : Unit) (index : ℕ) (function : Code) (state : State) (rest : L
       | inr among ↦ inl among
       | inl before ↦ elim (works.each i v before) [
         | inr settled ↦
-            inr (settled_grows unit index function (popped state rest) new i v visits.grows
+            inr (settled_grows unit index function (without_last state rest) new i v visits.grows
             (settled_popped unit index function state rest i v settled))
         | inl among ↦ elim (among_pop (i, v) (at, values) rest (subst (Among (i, v)) pops among)) [
           | inl still ↦ inl (visits.grows.waits (i, v) still)

@@ -28,13 +28,11 @@ use Rattle.wap_verify.specs.declared.fault.VerifyFault.TheVariants as fault
 
 -- how many arguments a call hands over
 abbrev pub arguments : Unit → Operands → Instr → ℕ
-arguments unit Plain instr = 0
-arguments unit Variable instr = 0
-arguments unit Constant instr = 0
 arguments unit Function instr =
     option_map_or (λ function. function.args) (slice_get unit.functions instr.a) 0
 arguments unit Library instr = unwrap_or (lib_args instr.b instr.a) 0
 arguments unit Address instr = instr.c
+arguments unit _ instr = 0
 
 -- how many values an instruction takes
 abbrev pub values_taken : Unit → Takes → Operands → Instr → ℕ
@@ -104,13 +102,8 @@ pair takes jump = step_with takes jump.next (Some 0) (forward jump 1) false
 
 -- it goes on, or jumps forward
 abbrev pub is_conditional_forward : After → Bool
-is_conditional_forward On = false
-is_conditional_forward Forward = false
-is_conditional_forward Backward = false
 is_conditional_forward ForwardOrOn = true
-is_conditional_forward BackwardOrOn = false
-is_conditional_forward Pair = false
-is_conditional_forward Leave = false
+is_conditional_forward _ = false
 
 -- a short-circuit and the jump that was read after it
 abbrev pub jump_read : ℕ → ℕ → ℕ → Result Instr InstrFault → Result Step VerifyFault
@@ -134,13 +127,8 @@ pair_at index code at next takes =
 
 -- it is one with the jump after it
 abbrev pub is_pair : After → Bool
-is_pair On = false
-is_pair Forward = false
-is_pair Backward = false
-is_pair ForwardOrOn = false
-is_pair BackwardOrOn = false
 is_pair Pair = true
-is_pair Leave = false
+is_pair _ = false
 
 -- an instruction whose operands are in range
 unfoldable pub fine_at : Unit → ℕ → Code → ℕ → Row → Instr → Result Step VerifyFault

@@ -9,8 +9,7 @@ use Rattle.wap_base.specs.declared.charset.Charset.{Charset}
 use Rattle.wap_unit.specs.declared.unit.Unit.{Unit}
 use Rattle.wap_unit.specs.declared.unit.Code.{Code}
 use Rattle.wap_unit.specs.declared.unit.Constant.{Constant}
-use Rattle.wap_unit.specs.declared.unit.Constant.TheVariants.{Int8, Int16, Int32, Float, Utf8}
-use Rattle.wap_unit.specs.declared.unit.Constant.TheVariants.{Empty, Coded}
+use Rattle.wap_unit.specs.declared.unit.Constant.TheVariants.{Coded}
 use Rattle.wap_base.specs.Charsets.{charset_of, is_text, characters_of}
 use Rattle.wap_unit.specs.Spelling.{HasSpelling}
 use Rattle.wap_verify.specs.Sound.{IsRoom, AreSound, IsVerified}
@@ -29,13 +28,8 @@ function_named unit name = names_first unit.names name
 
 -- the text of a coded string
 abbrev pub coded_text : Option Charset → Constant → Option (List ℕ)
-coded_text set (Int8 number) = None
-coded_text set (Int16 number) = None
-coded_text set (Int32 number) = None
-coded_text set (Float number) = None
-coded_text set (Utf8 text) = None
-coded_text set Empty = None
 coded_text set (Coded bytes) = option_map (λ known. characters_of known bytes) set
+coded_text set _ = None
 
 -- the bytes of a coded string are a text of the character set, where that is one that is read
 abbrev pub IsReadableText : Option Charset → List ℕ → Type 0
@@ -44,13 +38,8 @@ IsReadableText (Some set) bytes = is_text set bytes ≡ true
 
 -- the bytes of a constant that is a coded string are a text
 abbrev pub IsReadable : Option Charset → Constant → Type 0
-IsReadable set (Int8 number) = ⊤
-IsReadable set (Int16 number) = ⊤
-IsReadable set (Int32 number) = ⊤
-IsReadable set (Float number) = ⊤
-IsReadable set (Utf8 text) = ⊤
-IsReadable set Empty = ⊤
 IsReadable set (Coded bytes) = IsReadableText set bytes
+IsReadable set _ = ⊤
 
 -- the functions before this index are sound, and for each there is room
 pub record AreRooms (unit : Unit) (count : ℕ) (rooms : List ℕ) : Type 0 where

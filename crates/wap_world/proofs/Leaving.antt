@@ -21,8 +21,7 @@ use Rattle.wap_world.specs.declared.history.Entry.{Entry}
 use Rattle.wap_world.specs.declared.refusal.Refusal.{Refusal}
 use Rattle.wap_world.specs.declared.timer.Timer.{Timer}
 use Rattle.wap_world.specs.declared.timer.Timer.TheVariants.{NotStarted, Running, Off, Expired}
-use Rattle.wap_world.specs.Shelves.{Shelf, Shelved, deck_page, script_page, text_page, refused_page}
-use Rattle.wap_world.specs.Shelves.{no_page}
+use Rattle.wap_world.specs.Shelves.{Shelf, Shelved, deck_page, script_page}
 use Rattle.wap_world.specs.Sites.{Site}
 use Rattle.wap_world.specs.World.{World, Place, place_now}
 use Rattle.wap_world.specs.Steps.{Scene, Step, Once, Next, then_task, still, quiet, then_step}
@@ -96,10 +95,7 @@ module _ (shelf : Shelf) where
   returned_leaves : (sets : Pairs) (earlier : Entry) (w : World) (page : Shelved)
       → Leaves (λ keys. returned shelf keys sets earlier w page)
   returned_leaves sets earlier w (deck_page deck) = return_leaves sets earlier w deck
-  returned_leaves sets earlier w (script_page entrance) = λ keys. refl
-  returned_leaves sets earlier w (text_page text) = λ keys. refl
-  returned_leaves sets earlier w refused_page = λ keys. refl
-  returned_leaves sets earlier w no_page = λ keys. refl
+  returned_leaves sets earlier w _ = λ keys. refl
 
   ask_back_leaves : (sets : Pairs) (earlier : Entry) (w : World)
       → Leaves (λ keys. ask_back shelf keys sets earlier w)
@@ -142,9 +138,7 @@ module _ (site : Site) (leaves : LeavesKeys site) where
   answered_leaves sets caller url w (script_page entrance) keys =
       let one = test_of url caller entrance in
       ap (after_step (test keys one w)) (leaves sets caller url w one.allowed keys)
-  answered_leaves sets caller url w (text_page text) keys = refl
-  answered_leaves sets caller url w refused_page keys = refl
-  answered_leaves sets caller url w no_page keys = refl
+  answered_leaves sets caller url w _ keys = refl
 
   request_leaves : (sets : Pairs) (caller : Option Url) (one : Request) (w : World)
       → Leaves (λ keys. request site keys sets caller one w)
@@ -291,14 +285,7 @@ module _ (site : Site) (leaves : LeavesKeys site) where
   apply_leaves w (key.Tick n) =
       card_leaves w (λ k place. pass_time site k n w.timer place w)
       (λ place. time_leaves n w.timer place w) (place_now site.shelf w)
-  apply_leaves w key.Ok = λ keys. refl
-  apply_leaves w key.Cancel = λ keys. refl
-  apply_leaves w (key.Answer text) = λ keys. refl
-  apply_leaves w key.Stop = λ keys. refl
-  apply_leaves w key.Vars = λ keys. refl
-  apply_leaves w (key.Push bytes) = λ keys. refl
-  apply_leaves w key.Inbox = λ keys. refl
-  apply_leaves w (key.Follow n) = λ keys. refl
+  apply_leaves w _ = λ keys. refl
 
   -- a key
   pub react_leaves : (one : Key) (w : World) → StepLeaves (λ keys. react site one keys w)

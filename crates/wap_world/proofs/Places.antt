@@ -10,10 +10,9 @@ use Rattle.wap_cardrules.specs.Timers.{timer_in, timer_variable}
 use Rattle.wap_cardrules.specs.Values.{Pairs}
 use Rattle.wap_world.specs.declared.history.Entry.{Entry}
 use Rattle.wap_world.specs.declared.timer.Timer.{Timer}
-use Rattle.wap_world.specs.declared.timer.Timer.TheVariants.{NotStarted, Running, Off, Expired}
+use Rattle.wap_world.specs.declared.timer.Timer.TheVariants.{Running}
 use Rattle.wap_world.specs.Shelves.{Shelf}
-use Rattle.wap_world.specs.World.{World, Place, place_in, place_of, place_now}
-use Rattle.wap_world.specs.World.{deck_at, last_entry}
+use Rattle.wap_world.specs.World.{World, Place, place_in, place_of, place_now, deck_at, last_entry}
 use Rattle.wap_world.specs.Timers.{store_under, store_left}
 use Rattle.wap_world.specs.Screens.{at_place}
 use Rattle.wap_world.specs.Entering.{leave_place}
@@ -58,11 +57,9 @@ under_history (Some name) time w = refl
 
 left_history : (t : Timer) (card : Node) (w : World)
     → (store_left t card w).world.history ≡ w.history
-left_history NotStarted card w = refl
 left_history (Running time) card w =
     under_history (option_and_then timer_variable (timer_in card)) time w
-left_history Off card w = refl
-left_history Expired card w = refl
+left_history _ card w = refl
 
 leave_history : (place : Option Place) (w : World)
     → (at_place leave_place place w).world.history ≡ w.history

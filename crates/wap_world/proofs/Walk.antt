@@ -201,9 +201,7 @@ module _ (I J : Fact) (Lost : Loss) (Fine Runs : Names) (one other : Site)
   started_keeps : (keys : List Key) (t : Timer) (w : World) (place : Place)
       → place_now one.shelf w ≡ Some place → I keys w → I keys (started_in t place.card w)
   started_keeps keys NotStarted w place is i = kept.timer keys w _ place (started_runs _) is i
-  started_keeps keys (Running time) w place is i = i
-  started_keeps keys Off w place is i = i
-  started_keeps keys Expired w place is i = i
+  started_keeps keys _ w place is i = i
 
   -- a time that is stored, where there is a name
   under_keeps : (keys : List Key) (name : Option (List ℕ)) (time : ℕ) (w : World) → I keys w
@@ -214,11 +212,9 @@ module _ (I J : Fact) (Lost : Loss) (Fine Runs : Names) (one other : Site)
   -- what remains of a timer that is left
   left_keeps : (keys : List Key) (t : Timer) (card : Node) (w : World) → I keys w
       → I keys (store_left t card w).world
-  left_keeps keys NotStarted card w i = i
   left_keeps keys (Running time) card w i =
       under_keeps keys (option_and_then timer_variable (timer_in card)) time w i
-  left_keeps keys Off card w i = i
-  left_keeps keys Expired card w i = i
+  left_keeps keys _ card w i = i
 
   -- a timer that has run out
   end_keeps : (keys : List Key) (w : World) (place : Place) → place_now one.shelf w ≡ Some place
@@ -348,11 +344,8 @@ module _ (I J : Fact) (Lost : Loss) (Fine Runs : Names) (one other : Site)
       → Same (λ site. returned site.shelf keys sets earlier w page)
   returned_alike keys sets earlier w (deck_page deck) fine has =
       return_alike keys sets earlier w deck fine has
-  returned_alike keys sets earlier w (script_page entrance) fine has =
-      refuses keys refusals.Refused w
-  returned_alike keys sets earlier w (text_page text) fine has = refuses keys refusals.Refused w
-  returned_alike keys sets earlier w refused_page fine has = refuses keys refusals.Refused w
   returned_alike keys sets earlier w no_page fine has = refuses keys refusals.Missing w
+  returned_alike keys sets earlier w _ fine has = refuses keys refusals.Refused w
 
   -- a page that is asked for is fine, or it is lost
   asked_alike : (keys : List Key) (asked : Request) (w : World) (f : Site → Shelved → Once)
@@ -453,13 +446,11 @@ module _ (I J : Fact) (Lost : Loss) (Fine Runs : Names) (one other : Site)
   -- by the timer that is left, which is settled
   rest_alike : (keys : List Key) (t : Timer) (w : World) → w.timer ≡ t
       → I keys (record w { timer = settled_timer t }) → Same (λ site. rest site.shelf keys t w)
-  rest_alike keys NotStarted w is i = shows keys [] w (is_settled keys NotStarted w is i)
-  rest_alike keys (Running time) w is i = shows keys [] w (is_settled keys (Running time) w is i)
-  rest_alike keys Off w is i = shows keys [] w (is_settled keys Off w is i)
   rest_alike keys Expired w is i =
       let late = record w { timer = Off } in
       tasked (λ (once : Once). once.step) keys late event.Timer
       (λ site o. or_show site.shelf keys o late) (or_show_alike keys late i) i
+  rest_alike keys t w is i = shows keys [] w (is_settled keys t w is i)
 
   -- what the script asked for, or none
   done_alike : (base : Url) (o : Option Task) (step : Step) → step.world.pending ≡ o
@@ -804,14 +795,7 @@ module _ (I J : Fact) (Lost : Loss) (Fine Runs : Names) (one other : Site)
   apply_alike keys w (key.Tick n) i =
       card_alike keys w (λ site place. pass_time site keys n w.timer place w) i
       (λ place is. time_alike keys n w.timer place w is i)
-  apply_alike keys w key.Ok i = inl (refl, i)
-  apply_alike keys w key.Cancel i = inl (refl, i)
-  apply_alike keys w (key.Answer text) i = inl (refl, i)
-  apply_alike keys w key.Stop i = inl (refl, i)
-  apply_alike keys w key.Vars i = inl (refl, i)
-  apply_alike keys w (key.Push bytes) i = inl (refl, i)
-  apply_alike keys w key.Inbox i = inl (refl, i)
-  apply_alike keys w (key.Follow n) i = inl (refl, i)
+  apply_alike keys w _ i = inl (refl, i)
 
   -- a key, which has its turns
   pub react_alike : (pressed : Key) (keys : List Key) (w : World) → I keys (renewed w)

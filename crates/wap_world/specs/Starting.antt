@@ -19,8 +19,7 @@ use Rattle.wap_world.specs.declared.timer.Timer.{Timer}
 use Rattle.wap_world.specs.declared.timer.Timer.TheVariants.{Off, Expired}
 use Rattle.wap_world.specs.Shelves.{Shelf}
 use Rattle.wap_world.specs.World.{World}
-use Rattle.wap_world.specs.Steps.{Step, Once, then_task, still, behind, quiet, settled}
-use Rattle.wap_world.specs.Steps.{after_step}
+use Rattle.wap_world.specs.Steps.{Step, Once, then_task, still, behind, quiet, settled, after_step}
 use Rattle.wap_world.specs.Setting.{set_variables}
 use Rattle.wap_world.specs.Timers.{settled_timer}
 use Rattle.wap_world.specs.Screens.{show}

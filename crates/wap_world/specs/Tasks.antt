@@ -34,8 +34,7 @@ use Rattle.wap_world.specs.declared.history.Entry.{Entry}
 use Rattle.wap_world.specs.declared.timer.Timer.TheVariants.{NotStarted}
 use Rattle.wap_world.specs.declared.refusal.Refusal.{Refusal}
 use Rattle.wap_world.specs.declared.refusal.Refusal.TheVariants as refusals
-use Rattle.wap_world.specs.Shelves.{Shelf, Shelved, deck_page, script_page}
-use Rattle.wap_world.specs.Shelves.{no_page}
+use Rattle.wap_world.specs.Shelves.{Shelf, Shelved, deck_page, script_page, no_page}
 use Rattle.wap_world.specs.Sites.{Site}
 use Rattle.wap_world.specs.Access.{entrance_of}
 use Rattle.wap_world.specs.Starting.{start_if}

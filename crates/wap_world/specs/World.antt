@@ -14,8 +14,7 @@ use Rattle.wap_cardrules.specs.declared.task.Task.{Task}
 use Rattle.wap_world.specs.declared.history.Entry.{Entry}
 use Rattle.wap_world.specs.declared.timer.Timer.{Timer}
 use Rattle.wap_world.specs.declared.timer.Timer.TheVariants.{NotStarted}
-use Rattle.wap_world.specs.Shelves.{Shelved, deck_page}
-use Rattle.wap_world.specs.Shelves.{Shelf}
+use Rattle.wap_world.specs.Shelves.{Shelved, deck_page, Shelf}
 
 -- what a browser keeps
 pub record World : Type 0 where

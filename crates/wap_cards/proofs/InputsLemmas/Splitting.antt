@@ -1,8 +1,7 @@
 -- The pieces of a text, as far as it was read.
-use Rattle.std.proofs.Common.{◌≡◌, ℕ, ◌<◌, ◌+◌, length, drop, get_or, List, [], ◌∷◌, ◌++◌, Bool}
+use Rattle.std.proofs.Common.{◌≡◌, ℕ, ◌+◌, List, [], ◌∷◌, ◌++◌, Bool}
 use Rattle.std.proofs.Common.{true, false, cond, ◌==◌, ◌≢◌, refl, sym, ap, ◌∙◌, append_assoc}
-use Rattle.std.proofs.lemmas.List.{append-nil, at_drop_more, length_push}
-use Rattle.std.proofs.Math.Seq.{drop-length}
+use Rattle.std.proofs.lemmas.List.{append-nil}
 use Rattle.std.specs.List.{onto_first}
 use Rattle.wap_base.specs.Ascii.{semicolon}
 use Rattle.wap_cardrules.specs.Selects.{pieces_of}
@@ -57,19 +56,6 @@ pieces_from-other piece text c isnt =
     ap
     (λ b. before_pieces piece (cond b ([] ∷ pieces_of text) (onto_first c (pieces_of text)))) isnt
     ∙ before_pieces-first piece c (pieces_of text)
-
--- the place of a loop over characters, and what is left there
-pub drop-turn : (text yielded : List ℕ) (c : ℕ)
-    → (length yielded < length text) × (c ≡ get_or text (length yielded) c)
-    → drop (length yielded) text ≡ c ∷ drop (length (yielded ++ c ∷ [])) text
-drop-turn text yielded c t =
-    at_drop_more (λ rest. rest) text (length yielded) c t.0
-    ∙ ap (λ x. x ∷ drop (length yielded + 1) text) (sym t.1)
-    ∙ ap (λ n. c ∷ drop n text) (sym (length_push yielded c))
-
-pub drop-end : (text yielded : List ℕ) → length text ≡ length yielded
-    → drop (length yielded) text ≡ []
-drop-end text yielded e = ap (λ n. drop n text) (sym e) ∙ drop-length text
 
 -- the steps of a loop over the characters
 pub pieces-semicolon : (pieces new : List (List ℕ)) (piece next left rest : List ℕ) (c : ℕ)

@@ -19,8 +19,7 @@ use Rattle.wap_world.specs.Sessions.{Begun, world_of}
 use Rattle.wap_world.proofs.Joining.{joined_assoc}
 use Rattle.wap_world.specs.scripting.UnitSites.{Pages, shelf_of, unit_pages}
 use Rattle.wap_context.specs.Browsers.{IsOver}
-use Rattle.wap_session.specs.Feeding.{left_open}
-use Rattle.wap_session.specs.Feeding.{State, beginning, step_of}
+use Rattle.wap_session.specs.Feeding.{left_open, State, beginning, step_of}
 use Rattle.wap_cli.specs.browse.Outside.{Outside}
 use Rattle.wap_cli.specs.browse.Plays.{Play, opened, IsNoPush, HaveNoPush}
 use Rattle.wap_cli.specs.browse.Handling.{bytes_of, first_lines, first_asked}

@@ -17,8 +17,7 @@ use Rattle.wap_context.specs.Missing.{Missed}
 use Rattle.wap_session.specs.Feeding.{State, step_of}
 use Rattle.wap_cli.specs.browse.Outside.{Outside}
 use Rattle.wap_cli.specs.browse.Handling.{bytes_of, first_lines, first_asked}
-use Rattle.wap_cli.specs.browse.Stopping.{RoseWithin, WritesPart}
-use Rattle.wap_cli.specs.browse.Stopping.{StopsForMemory}
+use Rattle.wap_cli.specs.browse.Stopping.{RoseWithin, WritesPart, StopsForMemory}
 use Rattle.wap_cli.specs.browse.inside.Played.{Moment, LeadsPart}
 use Rattle.wap_cli.specs.browse.Standing.{Moved, Stands}
 use Rattle.wap_cli.proofs.BrowseLemmas.Stepping.{asked_joined, bytes_joined}

@@ -1,5 +1,5 @@
 -- A key that is played: one that is no push leaves the inbox of a session as it is.
-use Rattle.std.proofs.Common.{◌≡◌, ◌≤◌, ℕ, List, [], ◌∷◌, Option, Some, None, Ok, refl, ap, subst}
+use Rattle.std.proofs.Common.{◌≡◌, ◌≤◌, ℕ, List, [], ◌∷◌, Option, None, Ok, refl, ap, subst}
 use Rattle.std.proofs.Common.{◌∙◌}
 use Rattle.wap_base.specs.Count.{Rose}
 use Rattle.wap_devices.specs.Transfer.{Appends, AppendsPrefix}
@@ -22,8 +22,7 @@ use Rattle.wap_cli.specs.browse.inside.Played.{Moment, GoesOn, FailsAtSink}
 taken_none : (o : Option Waits) (winners : List Indication) (one : Key) → IsNoPush one
     → taken_by o winners one ≡ winners
 taken_none None winners (key.Push bytes) other = absurd (other bytes refl)
-taken_none None winners one other = refl
-taken_none (Some waits) winners one other = refl
+taken_none _ winners one other = refl
 
 -- so the pushes are as before
 pushes_alone : (pages : Pages) (state : State) (one : Key) → IsNoPush one

@@ -8,8 +8,7 @@ use Rattle.std.proofs.lemmas.List.{take_more, length-append}
 use Rattle.std.proofs.lemmas.List.Elements.{filter-append}
 use Rattle.wap_unit.specs.declared.unit.Unit.{Unit}
 use Rattle.wap_world.specs.site.Asking.{Seen, MayBe, Stays}
-use Rattle.wap_world.specs.site.Pages.{Pages, page_of}
-use Rattle.wap_world.specs.site.Pages.{page_under as judged_under}
+use Rattle.wap_world.specs.site.Pages.{Pages, page_of, page_under as judged_under}
 use Rattle.wap_world.specs.declared.site.page.Page.{Page}
 use Rattle.wap_world.specs.declared.site.page.Page.TheVariants as judge
 use Rattle.wap_world.proofs.SiteLemmas.Asking.{Stays-may}

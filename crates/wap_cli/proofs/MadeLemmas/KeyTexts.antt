@@ -3,7 +3,7 @@ use Rattle.std.proofs.Common.{◌≡◌, refl, append_assoc}
 use Rattle.std.proofs.lemmas.Grind.{replicate_next}
 use Rattle.std.specs.Prelude.{codes}
 use Rattle.std.specs.Str.{chars}
-use Rattle.wap_cards.proofs.ComparedTexts.{chars-plain}
+use Rattle.wap_tokens.proofs.Plain.{chars-plain}
 
 pub word_url : chars (codes "http://g/d0.wmlc") ≡ codes "http://g/d0.wmlc"
 word_url = chars-plain (codes "http://g/d0.wmlc") refl

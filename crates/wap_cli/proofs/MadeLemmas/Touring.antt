@@ -24,8 +24,7 @@ use Rattle.wap_session.specs.Feeding.{State, Plays, beginning}
 use Rattle.wap_session.proofs.Playing.{plays_more}
 use Rattle.wap_cli.specs.declared.made.playing.Played.{Played as Came}
 use Rattle.wap_cli.specs.declared.made.making.Tour.{Tour}
-use Rattle.wap_cli.specs.made.Making.{made_begun, made_keys, made_report}
-use Rattle.wap_cli.specs.made.Making.{first_url, onward}
+use Rattle.wap_cli.specs.made.Making.{made_begun, made_keys, made_report, first_url, onward}
 use Rattle.wap_cli.specs.made.Making.{value_in, made_line}
 use Rattle.wap_cli.specs.made.inside.Counting.{accepted_in}
 use Rattle.wap_cli.specs.made.inside.Tours.{made_pages, made_site, IsMade, lines_by, IsPlayed}

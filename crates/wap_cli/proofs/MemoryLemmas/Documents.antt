@@ -135,18 +135,11 @@ unfolding RefusedStart
 start input before attribute.Coded bytes fault so e = so
 start input before attribute.Named bytes fault so e =
     name_at input before (place_before input.total bytes) bytes fault so e
-start input before attribute.End bytes fault so e = no_token input.total bytes fault so e
-start input before attribute.Value bytes fault so e = no_token input.total bytes fault so e
-start input before (attribute.Leaf one) bytes fault so e = no_token input.total bytes fault so e
-start input before attribute.Nothing bytes fault so e = no_token input.total bytes fault so e
+start input before _ bytes fault so e = no_token input.total bytes fault so e
 
 piece_behind : (input : Input) (one : AttributeMark) → Remembers (RefusedPieceBehind input one)
 piece_behind input (attribute.Leaf one) bytes fault so e = leaf input one bytes fault so e
-piece_behind input attribute.Value bytes fault so e = so
-piece_behind input attribute.End bytes fault so e = so
-piece_behind input attribute.Coded bytes fault so e = so
-piece_behind input attribute.Named bytes fault so e = so
-piece_behind input attribute.Nothing bytes fault so e = so
+piece_behind input _ bytes fault so e = so
 
 piece : (input : Input) (before : State) → Remembers (RefusedPiece input before)
 piece input before bytes fault so e =
@@ -290,12 +283,7 @@ root_behind : (input : Input) (before : State) (lead : Lead) (one : ContentMark)
     → Remembers (RefusedRootBehind input before lead one)
 root_behind input before lead content.Element bytes fault so e =
     element input LEVEL_LIMIT before lead bytes fault so e
-root_behind input before lead content.Pi bytes fault so e = no_token input.total bytes fault so e
-root_behind input before lead (content.Leaf one) bytes fault so e =
-    no_token input.total bytes fault so e
-root_behind input before lead content.End bytes fault so e = no_token input.total bytes fault so e
-root_behind input before lead content.Nothing bytes fault so e =
-    no_token input.total bytes fault so e
+root_behind input before lead _ bytes fault so e = no_token input.total bytes fault so e
 
 root : (input : Input) (before : State) → Remembers (RefusedRoot input before)
 unfolding RefusedRoot

@@ -1,6 +1,5 @@
 -- Bytes are no image for a fault that isn't want of memory.
-use Rattle.std.proofs.Common.{◌≢◌, ℕ, ◌-◌, Bool, List, [], ◌++◌, length, Option}
-use Rattle.std.proofs.Common.{sym, ◌∙◌, inl, inr}
+use Rattle.std.proofs.Common.{◌≢◌, ℕ, ◌-◌, Bool, List, [], ◌++◌, length, Option, sym, ◌∙◌, inl, inr}
 use Rattle.std.specs.Int.{w64, from_be_bytes}
 use Rattle.wap_base.specs.Charsets.{text_in}
 use Rattle.wap_base.specs.Numbers.{IsMb}
@@ -120,9 +119,8 @@ limits =
     RefusesByte is_depth_limit) (byte is_history_limit) (λ history. byte is_depth_limit))
 
 timer_of : (one : TimerKind) → Remembers (RefusesTimerOf one)
-timer_of kind.NotStarted end left found so e = so
 timer_of kind.Running end left found so e = range is_time_left end left found so e
-timer_of kind.Off end left found so e = so
+timer_of _ end left found so e = so
 
 timer : Remembers RefusesTimer
 timer =

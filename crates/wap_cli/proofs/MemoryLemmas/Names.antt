@@ -1,12 +1,11 @@
 -- No fault of a program's names is that memory ran out.
-use Rattle.std.proofs.Common.{◌≡◌, ◌≢◌, ℕ, Bool, true, false, List, [], ◌∷◌, ◌++◌, length}
-use Rattle.std.proofs.Common.{Some}
+use Rattle.std.proofs.Common.{◌≡◌, ◌≢◌, ℕ, Bool, true, false, List, [], ◌∷◌, ◌++◌, length, Some}
 use Rattle.std.specs.Prelude.{not, nat_le}
 use Rattle.std.specs.List.{AllByRecursion}
 use Rattle.std.specs.Option.{is_some, is_none}
 use Rattle.wap_unit.specs.Libraries.{lib_named}
 use Rattle.wap_grammar.specs.declared.program.program.Use.{Use}
-use Rattle.wap_grammar.specs.declared.program.program.Use.TheVariants.{Url, Access, Agent, Note}
+use Rattle.wap_grammar.specs.declared.program.program.Use.TheVariants.{Url, Access}
 use Rattle.wap_grammar.specs.declared.program.program.Function.{Function}
 use Rattle.wap_grammar.specs.declared.program.program.Program.{Program}
 use Rattle.wap_scope.specs.declared.limits.TheConstants.{VARIABLE_LIMIT, FUNCTION_LIMIT}
@@ -89,8 +88,7 @@ of_use before (Url u url) =
     where_so (is_among u.name (units before)) (fault.TwoUnits u.span) (λ e. cc)
 of_use before (Access domain path span) =
     where_so (nat_le 1 (length (accesses before))) (fault.TwoAccess span) (λ e. cc)
-of_use before (Agent name content scheme) = record { all = tt }
-of_use before Note = record { all = tt }
+of_use before _ = record { all = tt }
 
 -- ---- of a program
 

@@ -82,9 +82,8 @@ by_scope why none = refl
 
 by_parse : (src : List ℕ) (lexemes : List Lexeme) (why : ParseFault)
     → IsParseCause src lexemes why → Remembers (page.Source (compile.Parse why))
-by_parse src lexemes (parse.Syntax at) cause = refl
-by_parse src lexemes (parse.Nested at) cause = refl
 by_parse src lexemes parse.NoMemory cause = absurd cause
+by_parse src lexemes _ cause = refl
 
 by_source : (bytes : List ℕ) (why : CompileFault) → IsFaultOf bytes why
     → Remembers (page.Source why)

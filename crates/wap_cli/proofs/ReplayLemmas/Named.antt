@@ -30,11 +30,8 @@ use Rattle.wap_cli.proofs.ReplayLemmas.Sites.{same_site}
 
 -- a page is there that isn't missing
 there : (one : Page) → one ≢ page.Missing → is_there one ≡ true
-there (page.Deck deck) is = refl
-there (page.Script unit) is = refl
-there (page.Words text) is = refl
-there page.Refused is = refl
 there page.Missing is = absurd (is refl)
+there _ is = refl
 
 -- a name is looked for from either side
 turned : {X : Type 0} (name : List ℕ) (entries : List (List ℕ × X))

@@ -1,6 +1,5 @@
 -- A command on what was saved, from its beginning to its end.
-use Rattle.std.proofs.Common.{◌≡◌, ℕ, List, [], Option, Some, Ok, refl, subst}
-use Rattle.std.proofs.Common.{◌∙◌, inl, inr}
+use Rattle.std.proofs.Common.{◌≡◌, ℕ, List, [], Option, Some, Ok, refl, subst, ◌∙◌, inl, inr}
 use Rattle.std.specs.Option.{option_map}
 use Rattle.wap_base.specs.Count.{Rose}
 use Rattle.wap_base.specs.Contents.{Contents}

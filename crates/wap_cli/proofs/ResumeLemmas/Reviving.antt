@@ -38,8 +38,7 @@ use Rattle.wap_context.specs.Sites.{site_of}
 use Rattle.wap_context.specs.declared.saved.Revived.{Revived}
 use Rattle.wap_context.specs.declared.saved.Revived.TheVariants.{Context, Missing, Refused}
 use Rattle.wap_state.specs.Saved.{saved_world}
-use Rattle.wap_context.specs.Saved.{with_last_in, revived_on, asked_for}
-use Rattle.wap_context.specs.Saved.{IsRevived}
+use Rattle.wap_context.specs.Saved.{with_last_in, revived_on, asked_for, IsRevived}
 use Rattle.wap_session.specs.Feeding.{State, going_on, step_of, left_open}
 use Rattle.wap_cli.specs.browse.Handling.{bytes_of}
 use Rattle.wap_cli.specs.browse.Standing.{Moved, Stands, Browsed}

@@ -2,16 +2,15 @@
 -- accepted, how many lines a session over it shows, and the sum that the session leaves. Its pages
 -- are those that its bytes are by their relations, and a source of a script means what its program
 -- means. This project's own.
-use Rattle.std.specs.Prelude.{ℕ, Bool, true, false, nat_eq, if◌then◌else◌}
-use Rattle.std.specs.Prelude.{List, [], ◌∷◌, ◌++◌, length, filter, replicate, drop, codes, decimal}
-use Rattle.std.specs.Prelude.{encode_utf8_all}
+use Rattle.std.specs.Prelude.{ℕ, Bool, true, false, nat_eq, if◌then◌else◌, List, [], ◌∷◌, ◌++◌}
+use Rattle.std.specs.Prelude.{length, filter, replicate, drop, codes, decimal, encode_utf8_all}
 use Rattle.std.specs.List.{starts_with}
 use Rattle.wap_base.specs.Contents.{names_of}
 use Rattle.wap_base.specs.Limits.{default_limits}
 use Rattle.wap_devices.specs.Sinks.{SinkSeen}
 use Rattle.wap_base.specs.declared.key.Key.{Key}
 use Rattle.wap_base.specs.declared.key.Key.TheVariants.{Do, Vars}
-use Rattle.wap_world.specs.Shelves.{Shelved, deck_page, script_page, text_page, refused_page}
+use Rattle.wap_world.specs.Shelves.{Shelved, refused_page}
 use Rattle.wap_world.specs.Shelves.{no_page}
 use Rattle.wap_make.specs.Folders.{folder, deck_count}
 use Rattle.wap_keys.specs.declared.words.numbers.TheConstants.{DEFAULT_SEED, DEFAULT_BUDGET}
@@ -32,11 +31,9 @@ AreMade n one = ArePages (folder n) one.pages × ReadsCalls one.call
 
 -- whether a page stands there that is accepted
 abbrev pub is_accepted_there : Shelved → Bool
-is_accepted_there (deck_page deck) = true
-is_accepted_there (script_page entrance) = true
-is_accepted_there (text_page text) = true
 is_accepted_there refused_page = false
 is_accepted_there no_page = false
+is_accepted_there _ = true
 
 -- those of these names whose pages are accepted
 abbrev pub accepted_over : Site → List (List ℕ) → List (List ℕ)

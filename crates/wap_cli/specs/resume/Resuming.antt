@@ -1,7 +1,6 @@
 -- The command that goes on with a saved context: in which world, what keys come to there, and why
 -- nothing is begun. This project's own.
-use Rattle.std.specs.Prelude.{◌≡◌, ℕ, false, List, [], ◌∷◌, ◌++◌, Some, None}
-use Rattle.std.specs.Prelude.{IfSome}
+use Rattle.std.specs.Prelude.{◌≡◌, ℕ, false, List, [], ◌∷◌, ◌++◌, Some, None, IfSome}
 use Rattle.std.specs.Option.{option_and_then, option_map_or}
 use Rattle.wap_base.specs.Count.{raised, Rose}
 use Rattle.wap_base.specs.Contents.{Contents, page_named}
@@ -28,8 +27,7 @@ use Rattle.wap_context.specs.Sites.{site_of}
 use Rattle.wap_cli.specs.Answers.{IsPageOf}
 use Rattle.wap_cli.specs.Memory.{is_of_memory}
 use Rattle.wap_cli.specs.declared.status.Status.{Status}
-use Rattle.wap_cli.specs.declared.status.Status.TheVariants.{Refused, StoreFault}
-use Rattle.wap_cli.specs.declared.status.Status.TheVariants.{NoMemory}
+use Rattle.wap_cli.specs.declared.status.Status.TheVariants.{Refused, StoreFault, NoMemory}
 use Rattle.wap_cli.specs.browse.Outside.{Outside}
 use Rattle.wap_cli.specs.browse.Plays.{Play, AreUnitPages}
 use Rattle.wap_cli.specs.browse.Headline.{Browses}

@@ -1,6 +1,5 @@
 -- What a page gives to a script that calls its functions, or loads it.
-use Rattle.std.proofs.Common.{◌≡◌, ℕ, List, [], Option, Some, Ok}
-use Rattle.std.proofs.Common.{refl, sym, ap, ap₂, subst}
+use Rattle.std.proofs.Common.{◌≡◌, ℕ, List, [], Option, Some, Ok, refl, sym, ap, ap₂, subst}
 use Rattle.std.specs.Prelude.{if◌then◌else◌, nat_eq, codes}
 use Rattle.std.specs.List.{ends_with}
 use Rattle.wap_url.specs.declared.url.Url.{Url}

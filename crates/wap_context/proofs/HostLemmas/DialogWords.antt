@@ -2,7 +2,7 @@
 use Rattle.std.proofs.Common.{rules, ◌≡◌, refl, append_assoc}
 use Rattle.std.specs.Prelude.{codes}
 use Rattle.std.specs.Str.{chars}
-use Rattle.wap_cards.proofs.ComparedTexts.{chars-plain}
+use Rattle.wap_tokens.proofs.Plain.{chars-plain}
 
 pub word_prompt : chars (codes "? prompt ") ≡ codes "? prompt "
 word_prompt = chars-plain (codes "? prompt ") refl

@@ -1,7 +1,6 @@
 -- What a call of a script comes to for the stage on which it plays: a row of the definitions, done
 -- to a step in which nothing was done yet, and added. This project's own.
-use Rattle.std.specs.Prelude.{◌≡◌, false, [], ◌∷◌, ◌++◌}
-use Rattle.std.specs.Prelude.{Result, Err, IfOk, OnOk}
+use Rattle.std.specs.Prelude.{◌≡◌, false, [], ◌∷◌, ◌++◌, Result, Err, IfOk, OnOk}
 use Rattle.wap_base.specs.Count.{Rose}
 use Rattle.wap_base.specs.declared.fault.RunErr.{RunErr}
 use Rattle.wap_base.specs.declared.fault.RunErr.TheVariants.{Store}

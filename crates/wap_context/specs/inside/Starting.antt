@@ -1,6 +1,6 @@
 -- How a go or an open starts a script of a unit that is known, and what follows its end at the place
 -- at hand. Contracts inside the crate cite it; those of its public calls don't. This project's own.
-use Rattle.std.specs.Prelude.{◌≡◌, ⊤, ℕ, Bool, true, false, ◌==◌, if◌then◌else◌, List, [], ◌∷◌, length}
+use Rattle.std.specs.Prelude.{◌≡◌, ℕ, Bool, true, false, ◌==◌, if◌then◌else◌, List, [], ◌∷◌, length}
 use Rattle.std.specs.Prelude.{Option, Some, None, IfOk, OnOk, ◌≤◌, Result, Err}
 use Rattle.std.specs.Option.{option_and_then}
 use Rattle.std.specs.List.{list_any}
@@ -18,7 +18,6 @@ use Rattle.wap_execution.specs.Frames.{Function, code_at}
 use Rattle.wap_execution.specs.Outcomes.{Ended}
 use Rattle.wap_execution.specs.Running.{finished}
 use Rattle.wap_execution.specs.laws.Settings.{uncounted}
-use Rattle.wap_machine.specs.Standing.{CanEnter}
 use Rattle.wap_machine.specs.Stacks.{Stack}
 use Rattle.wap_machine.specs.Runs.{meant, KeepsLimits}
 use Rattle.wap_machine.specs.declared.machine.Outcome.{Outcome}
@@ -73,12 +72,6 @@ start_called unit string (Some call) =
 abbrev pub start_of : Unit → ℕ → Url → Start
 start_of unit string url =
     start_called unit string (option_and_then fragment_call url.fragment)
-
--- a function that is started can be entered
-abbrev pub CanStart : Unit → Url → Option Url → Start → Type 0
-CanStart unit base referer (Not why) = ⊤
-CanStart unit base referer (Runs index arguments) =
-    CanEnter (record { unit = unit; base = base; referer = referer; index = index }) arguments
 
 -- ---- a script that is started
 

@@ -29,9 +29,8 @@ use Rattle.wap_execution.proofs.LawsLemmas.FrameRuns.{followed, forward, looping
 use Rattle.wap_execution.proofs.LawsLemmas.GrowthLaws.{Grows, grows_keeps, continued_grows}
 use Rattle.wap_execution.proofs.LawsLemmas.RunLaws.{Keeps, Follows, EnterFollows, OnwardFollows}
 use Rattle.wap_execution.proofs.LawsLemmas.RunLaws.{followed_follows, forward_follows}
-use Rattle.wap_execution.proofs.LawsLemmas.RunLaws.{looping_follows}
-use Rattle.wap_execution.proofs.LawsLemmas.RunLaws.{enter_follows}
-use Rattle.wap_execution.proofs.LawsLemmas.RunLaws.{resumed_follows, finished_follows}
+use Rattle.wap_execution.proofs.LawsLemmas.RunLaws.{looping_follows, enter_follows, resumed_follows}
+use Rattle.wap_execution.proofs.LawsLemmas.RunLaws.{finished_follows}
 
 -- what a turn pays for
 abbrev each : ℕ → ℕ
@@ -43,11 +42,8 @@ room longest [] = 0
 room longest (frame ∷ frames) = longest + room longest frames
 
 abbrev left_over : ℕ → Outcome → ℕ
-left_over longest (value v) = 0
-left_over longest (exit v) = 0
-left_over longest (fatal why) = 0
 left_over longest (waits dialog frames) = room longest frames
-left_over longest stuck = 0
+left_over longest _ = 0
 
 -- with so many turns, and so many instructions done or paid for before
 record Spent {S : Type 0} (longest turns before : ℕ) (end : Ended (Counted S)) : Type 0 where
@@ -352,9 +348,6 @@ module _ {S : Type 0} (limits : Limits) (host : Hosting S) (longest : ℕ) where
   answered_spends : (turns before : ℕ) (v : Value) (state : S) (end : Ended State)
       (outcome : Outcome) → end.outcome ≡ outcome → Spends longest turns before end
       → Spends longest turns before (answered_by setting with_count v state end outcome)
-  answered_spends turns before v state end (value given) is spends = spends
-  answered_spends turns before v state end (exit given) is spends = spends
-  answered_spends turns before v state end (fatal why) is spends = spends
   answered_spends turns before v state end (waits dialog frames) is spends = λ within.
       let counted = with_count state end.state in
       let grown = (resumed_follows setting Grows keeps frames v end.turns counted).kin in
@@ -366,7 +359,7 @@ module _ {S : Type 0} (limits : Limits) (host : Hosting S) (longest : ℕ) where
       later turns end.turns before (end.state.instructions + room longest frames)
       (resumed setting frames v end.turns counted) spent.fewer paid
       (resumed_spends frames v end.turns counted within)
-  answered_spends turns before v state end stuck is spends = spends
+  answered_spends turns before v state end _ is spends = spends
 
   continued_spends : (turns before : ℕ) (answers : List (Value × S)) (end : Ended State)
       → Spends longest turns before end

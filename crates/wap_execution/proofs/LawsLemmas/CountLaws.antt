@@ -14,8 +14,8 @@ use Rattle.wap_execution.specs.declared.library.HostOut.{HostOut}
 use Rattle.wap_execution.specs.declared.library.HostOut.TheVariants as answer
 use Rattle.wap_execution.specs.Frames.{Function, Frame, code_at, code_of, begun, pushed}
 use Rattle.wap_execution.specs.Effects.{Called, local, library, external, Effect, onward, back}
-use Rattle.wap_execution.specs.Effects.{calls, returns, ends, stuck as nowhere, effect_at}
-use Rattle.wap_execution.specs.Outcomes.{Outcome, value, exit, fatal, waits}
+use Rattle.wap_execution.specs.Effects.{calls, effect_at}
+use Rattle.wap_execution.specs.Outcomes.{Outcome, value, fatal, waits}
 use Rattle.wap_execution.specs.Outcomes.{stuck, Ended, Hosting, Setting}
 use Rattle.wap_execution.specs.Running.{ended, returned_by, returned, Enter, Onward, library_gave}
 use Rattle.wap_execution.specs.Running.{entered, called, at_place, run_by, began, enter, run}
@@ -56,10 +56,7 @@ module _ {S : Type 0} (limits : Limits) (host : Hosting S) where
     returned_by_same : (outcome : Outcome)
         → Same (returned_by frames one outcome) (returned_by frames other outcome)
     returned_by_same (value v) turns counted = same v turns counted
-    returned_by_same (exit v) turns counted = refl
-    returned_by_same (fatal why) turns counted = refl
-    returned_by_same (waits dialog inner) turns counted = refl
-    returned_by_same stuck turns counted = refl
+    returned_by_same _ turns counted = refl
 
     returned_same : (end : Ended State) (end' : Ended S) → without_count end ≡ end'
         → without_count (returned frames one end) ≡ returned frames other end'
@@ -127,9 +124,7 @@ module _ {S : Type 0} (limits : Limits) (host : Hosting S) where
         (called with working into function callee arguments turns counted)
         (called without working into' function callee arguments turns counted.state)
         (called_same callee arguments turns counted)
-    followed_same on again on' again' ons agains (returns v) turns counted = refl
-    followed_same on again on' again' ons agains (ends why) turns counted = refl
-    followed_same on again on' again' ons agains nowhere turns counted = refl
+    followed_same on again on' again' ons agains _ turns counted = refl
 
     forward_same : (again : Onward State) (again' : Onward S) → SameOnward again again'
         → (left : ℕ)
@@ -233,12 +228,9 @@ module _ {S : Type 0} (limits : Limits) (host : Hosting S) where
   answered_same : (v : Value) (state : S) (end : Ended State) (outcome : Outcome)
       → without_count (answered_by with with_count v state end outcome)
       ≡ answered_by without alone v state (without_count end) outcome
-  answered_same v state end (value given) = refl
-  answered_same v state end (exit given) = refl
-  answered_same v state end (fatal why) = refl
   answered_same v state end (waits dialog frames) =
       resumed_same frames v end.turns (with_count state end.state)
-  answered_same v state end stuck = refl
+  answered_same v state end _ = refl
 
   continued_same : (answers : List (Value × S)) (end : Ended State)
       → without_count (continued with with_count answers end)

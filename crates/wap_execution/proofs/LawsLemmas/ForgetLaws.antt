@@ -5,8 +5,7 @@ use Rattle.std.proofs.Math.Path.{fun_ext}
 use Rattle.wap_value.specs.declared.value.Value.{Value}
 use Rattle.wap_value.specs.declared.value.Value.TheVariants.{Str}
 use Rattle.wap_execution.specs.Frames.{Function, Frame, code_of}
-use Rattle.wap_execution.specs.Effects.{Called, Effect, onward, back, calls, returns, ends}
-use Rattle.wap_execution.specs.Effects.{stuck as nowhere, effect_at}
+use Rattle.wap_execution.specs.Effects.{Called, Effect, onward, back, calls, effect_at}
 use Rattle.wap_execution.specs.Outcomes.{Outcome, value, exit, fatal, waits, stuck, Ended}
 use Rattle.wap_execution.specs.Running.{ended, returned_by, returned, Onward, at_place, Calls, Ways}
 use Rattle.wap_execution.specs.Running.{followed_by, forward_by, looping_by, goes}
@@ -16,10 +15,7 @@ module _ {S : Type 0} where
   -- a call is over with what it gives
   then_by : (Value → ℕ → S → Ended S) → Outcome → ℕ → S → Ended S
   then_by next (value v) turns state = next v turns state
-  then_by next (exit v) turns state = ended (exit v) turns state
-  then_by next (fatal why) turns state = ended (fatal why) turns state
-  then_by next (waits dialog frames) turns state = ended (waits dialog []) turns state
-  then_by next stuck turns state = ended stuck turns state
+  then_by next outcome turns state = forgotten_by outcome turns state
 
   abbrev then : (Value → ℕ → S → Ended S) → Ended S → Ended S
   then next first = then_by next first.outcome first.turns first.state
@@ -79,9 +75,7 @@ module _ {S : Type 0} where
         (λ v. on place variables (v ∷ operands)) (λ v. on' place variables (v ∷ operands))
         (λ v. ons place variables (v ∷ operands)) (ways.call callee arguments turns state)
         (other callee arguments turns state) (same callee arguments turns state)
-    followed_same on again on' again' ons agains (returns v) turns state = refl
-    followed_same on again on' again' ons agains (ends why) turns state = refl
-    followed_same on again on' again' ons agains nowhere turns state = refl
+    followed_same on again on' again' ons agains _ turns state = refl
 
     -- so do frames that go on further on
     forward_same : (again again' : Onward S) → SameOnward again again' → (left : ℕ)

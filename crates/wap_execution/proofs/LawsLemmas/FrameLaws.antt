@@ -10,17 +10,15 @@ use Rattle.wap_execution.specs.declared.fatal.Fatal.{Fatal}
 use Rattle.wap_execution.specs.declared.fatal.Fatal.TheVariants.{Budget}
 use Rattle.wap_execution.specs.Frames.{Function, Frame, code_at, code_of, begun, pushed}
 use Rattle.wap_execution.specs.Effects.{Called, Effect, onward, back, calls}
-use Rattle.wap_execution.specs.Effects.{returns, ends, stuck as nowhere, effect_at}
-use Rattle.wap_execution.specs.Outcomes.{Outcome, value, exit, fatal, waits, stuck, Ended, Setting}
-use Rattle.wap_execution.specs.Running.{ended, returned_by, returned, Enter, Onward, called}
-use Rattle.wap_execution.specs.Running.{Ways, ways_of, forward_by}
-use Rattle.wap_execution.specs.Running.{at_place, run_by, began, enter, run, resumed, finished}
-use Rattle.wap_execution.specs.Running.{looping_by, goes}
+use Rattle.wap_execution.specs.Effects.{returns, ends, effect_at}
+use Rattle.wap_execution.specs.Outcomes.{Outcome, value, fatal, waits, stuck, Ended, Setting}
+use Rattle.wap_execution.specs.Running.{ended, returned_by, returned, Enter, Onward, called, Ways}
+use Rattle.wap_execution.specs.Running.{ways_of, forward_by, at_place, run_by, began, enter, run}
+use Rattle.wap_execution.specs.Running.{resumed, finished, looping_by, goes}
 use Rattle.wap_execution.proofs.LawsLemmas.FrameRuns.{followed, forward, looping}
 use Rattle.wap_execution.specs.laws.Instructions.{settled}
 use Rattle.wap_execution.proofs.LawsLemmas.Going.{TurnsFall, forward_here, forward_end}
-use Rattle.wap_execution.proofs.LawsLemmas.Going.{forward_past}
-use Rattle.wap_execution.proofs.LawsLemmas.Going.{forward_any, looping_same}
+use Rattle.wap_execution.proofs.LawsLemmas.Going.{forward_past, forward_any, looping_same}
 use Rattle.wap_execution.proofs.LawsLemmas.PlaceLaws.{IsBehind, leads_behind}
 use Rattle.wap_execution.proofs.LawsLemmas.RunLaws.{calls_fall}
 
@@ -39,12 +37,10 @@ module _ {S : Type 0} (setting : Setting S) where
   unfolding resumed
   at_frames outer new next left nexts (value v) fewer later less =
       ap (λ (end : Ended S). returned outer (resumed setting outer) end) (nexts v fewer later less)
-  at_frames outer new next left nexts (exit v) fewer later less = refl
-  at_frames outer new next left nexts (fatal why) fewer later less = refl
   at_frames outer new next left nexts (waits dialog inside) fewer later less =
       ap (λ (all : List Frame). ended (waits dialog all) fewer later)
       (append_assoc inside (new ∷ []) outer)
-  at_frames outer new next left nexts stuck fewer later less = refl
+  at_frames outer new next left nexts _ fewer later less = refl
 
   module _ (function : Function) (outer : List Frame) where
     abbrev within : ℕ
@@ -189,9 +185,7 @@ module _ {S : Type 0} (setting : Setting S) where
         call_whole frame.function outer (suc left)
         (length (code_of frame.function) - frame.place - 1) place left callee arguments variables
         operands state (omega arith) (omega arith)
-    settles_by (returns v) further turns state = refl
-    settles_by (ends why) further turns state = refl
-    settles_by nowhere further turns state = refl
+    settles_by _ further turns state = refl
 
     module _ (turns : ℕ) (state : S) (within : frame.place < length (code_of frame.function)) where
       -- the state before the effect

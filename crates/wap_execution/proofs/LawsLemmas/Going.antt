@@ -1,16 +1,14 @@
 -- What a frame's run does not depend on: how many bytes or jumps may be left makes no difference
 -- where there are enough.
-use Rattle.std.proofs.Common.{◌≡◌, ℕ, zero, suc, ◌+◌, ◌-◌, ◌<◌, ◌≤◌, Bool, true, false}
-use Rattle.std.proofs.Common.{eqb, cond, List, [], ◌∷◌, length}
-use Rattle.std.proofs.Common.{refl, sym, ap, ◌∙◌, inl, inr, arith}
+use Rattle.std.proofs.Common.{◌≡◌, ℕ, zero, suc, ◌+◌, ◌-◌, ◌<◌, ◌≤◌, Bool, true, false, eqb, cond}
+use Rattle.std.proofs.Common.{List, [], ◌∷◌, length, refl, sym, ap, ◌∙◌, inl, inr, arith}
 use Rattle.std.proofs.lemmas.Bool.{eq-eqb}
 use Rattle.std.proofs.lemmas.Bool.Decides.{eqb_tells, leb_tells}
 use Rattle.wap_value.specs.declared.value.Value.{Value}
 use Rattle.wap_value.specs.declared.value.Value.TheVariants.{Str}
 use Rattle.wap_execution.specs.Frames.{Function, Frame, code_of}
-use Rattle.wap_execution.specs.Effects.{Called, Effect, onward, back, calls, returns, ends}
-use Rattle.wap_execution.specs.Effects.{stuck as nowhere, effect_at}
-use Rattle.wap_execution.specs.Outcomes.{Outcome, value, exit, fatal, waits, stuck, Ended}
+use Rattle.wap_execution.specs.Effects.{Called, Effect, onward, back, calls, effect_at}
+use Rattle.wap_execution.specs.Outcomes.{Outcome, value, stuck, Ended}
 use Rattle.wap_execution.specs.Running.{ended, returned_by, Onward, Ways, at_place, followed_by}
 use Rattle.wap_execution.specs.Running.{forward_by, looping_by, goes, Calls}
 
@@ -124,10 +122,7 @@ module _ {S : Type 0} (ways : Ways S) (function : Function) where
       → (outcome : Outcome) (left : ℕ) (state : S) → left < turns
       → returned_by frames some outcome left state ≡ returned_by frames other outcome left state
   returned_same frames some other turns alike (value v) left state fewer = alike v left state fewer
-  returned_same frames some other turns alike (exit v) left state fewer = refl
-  returned_same frames some other turns alike (fatal why) left state fewer = refl
-  returned_same frames some other turns alike (waits dialog inner) left state fewer = refl
-  returned_same frames some other turns alike stuck left state fewer = refl
+  returned_same frames some other turns alike _ left state fewer = refl
 
   module _ (falls : TurnsFall ways.call) where
     -- effects come to the same where what goes on does
@@ -151,9 +146,7 @@ module _ {S : Type 0} (ways : Ways S) (function : Function) where
         (suc (suc left))
         (λ v fewer later less. ons place variables (v ∷ operands) fewer later less)
         call.outcome call.turns call.state (omega arith)
-    followed_same turns on on' again again' ons agains (returns v) state = refl
-    followed_same turns on on' again again' ons agains (ends why) state = refl
-    followed_same turns on on' again again' ons agains nowhere state = refl
+    followed_same turns on on' again again' ons agains _ state = refl
 
     -- so does a frame by what it does where it goes back
     forward_same : (turns : ℕ) (again again' : Onward S) → Alike turns again again' → (left : ℕ)

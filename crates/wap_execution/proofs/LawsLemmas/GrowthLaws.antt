@@ -2,8 +2,7 @@
 use Rattle.std.proofs.Common.{◌≤◌, List, [], ◌∷◌, arith}
 use Rattle.wap_base.specs.declared.limits.Limits.{Limits}
 use Rattle.wap_value.specs.declared.value.Value.{Value}
-use Rattle.wap_execution.specs.Outcomes.{Outcome, value, exit, fatal, waits}
-use Rattle.wap_execution.specs.Outcomes.{stuck, Ended, Hosting, Setting}
+use Rattle.wap_execution.specs.Outcomes.{Outcome, waits, Ended, Hosting, Setting}
 use Rattle.wap_execution.specs.laws.Settings.{Counted, counting}
 use Rattle.wap_execution.specs.laws.Dialogs.{answered_by, continued, with_count}
 use Rattle.wap_execution.proofs.LawsLemmas.RunLaws.{Keeps, resumed_follows}
@@ -27,13 +26,10 @@ module _ {S : Type 0} (limits : Limits) (host : Hosting S) where
 
   answered_grows : (v : Value) (state : S) (end : Ended (Counted S)) (outcome : Outcome)
       → Grows end.state (answered_by set with_count v state end outcome).state
-  answered_grows v state end (value given) = omega arith
-  answered_grows v state end (exit given) = omega arith
-  answered_grows v state end (fatal why) = omega arith
   answered_grows v state end (waits dialog frames) =
       (resumed_follows set Grows (grows_keeps limits host) frames v end.turns
       (with_count state end.state)).kin
-  answered_grows v state end stuck = omega arith
+  answered_grows v state end _ = omega arith
 
   pub continued_grows : (answers : List (Value × S)) (end : Ended (Counted S))
       → Grows end.state (continued set with_count answers end).state

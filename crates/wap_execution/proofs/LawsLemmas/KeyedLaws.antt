@@ -25,9 +25,8 @@ use Rattle.wap_execution.specs.Running.{ended, returned, Onward, library_gave, e
 use Rattle.wap_execution.specs.Running.{at_place, began, enter, run, resumed, finished, forward_by}
 use Rattle.wap_execution.specs.Running.{looping_by, goes}
 use Rattle.wap_execution.specs.laws.Settings.{uncounted}
-use Rattle.wap_execution.specs.laws.Keyed.{Answering, answered_in, keyed, gone_on}
-use Rattle.wap_execution.specs.laws.Keyed.{answered_each, AgreesKeyed}
-use Rattle.wap_execution.specs.laws.Keyed.{unrolled_by, GoesOnKeyed}
+use Rattle.wap_execution.specs.laws.Keyed.{Answering, answered_in, keyed, gone_on, answered_each}
+use Rattle.wap_execution.specs.laws.Keyed.{AgreesKeyed, unrolled_by, GoesOnKeyed}
 use Rattle.wap_execution.proofs.LawsLemmas.FrameRuns.{followed, forward, looping}
 use Rattle.wap_execution.proofs.LawsLemmas.RunLaws.{Any, any_keeps, resumed_follows}
 use Rattle.wap_execution.proofs.LawsLemmas.RunLaws.{finished_follows}
@@ -36,11 +35,8 @@ use Rattle.wap_execution.proofs.LawsLemmas.FrameLaws.{inner, call_whole, enters}
 
 -- nothing waits
 abbrev IsOver : Outcome → Type 0
-IsOver (value v) = ⊤
-IsOver (exit v) = ⊤
-IsOver (fatal why) = ⊤
 IsOver (waits dialog frames) = ⊥
-IsOver stuck = ⊤
+IsOver _ = ⊤
 
 module _ {S : Type 0} (limits : Limits) (host : Hosting S) (answering : Answering S) where
   abbrev set : Setting S
@@ -140,9 +136,7 @@ module _ {S : Type 0} (limits : Limits) (host : Hosting S) (answering : Answerin
           → returned frames (resumed set' frames) (library_gave gave turns state)
           ≡ gone_on set (each less) frames gave turns state
       answer_alike (answer.Value v) less state fits = alike v less turns state few fits
-      answer_alike (answer.Exit v) less state fits = refl
-      answer_alike (answer.Fatal why) less state fits = refl
-      answer_alike (answer.Asks dialog) less state fits = refl
+      answer_alike _ less state fits = refl
 
       asked_alike : (dialog : _) (state : S)
           → returned frames (resumed set' frames)
@@ -322,20 +316,15 @@ module _ {S : Type 0} (limits : Limits) (host : Hosting S) (answering : Answerin
       ≡ gone_on set' (λ end. end) frames gave turns state
   got_unrolls frames (answer.Value v) less turns state enough =
       sym (frames_alike (suc turns) frames v less turns state (omega arith) enough)
-  got_unrolls frames (answer.Exit v) less turns state enough = refl
-  got_unrolls frames (answer.Fatal why) less turns state enough = refl
-  got_unrolls frames (answer.Asks other) less turns state enough = refl
+  got_unrolls frames _ less turns state enough = refl
 
   unrolls_by : (outcome : Outcome) (less turns : ℕ) (state : S) → turns ≤ less
       → each (suc less) (ended outcome turns state)
       ≡ unrolled_by set' answering outcome turns state
-  unrolls_by (value v) less turns state enough = refl
-  unrolls_by (exit v) less turns state enough = refl
-  unrolls_by (fatal why) less turns state enough = refl
   unrolls_by (waits dialog frames) less turns state enough =
       let gave = answering state dialog in
       got_unrolls frames gave.0 less turns gave.1 enough
-  unrolls_by stuck less turns state enough = refl
+  unrolls_by _ less turns state enough = refl
 
   finishes : (frames : List Frame) (more turns : ℕ) (state : S) → turns ≤ more
       → finished set' frames turns state ≡ each more (finished set frames turns state)

@@ -15,73 +15,27 @@ use Rattle.wap_unit.specs.Instructions.{size, row_of, read, read_row}
 use Rattle.wap_unit.specs.Libraries.{lib_args}
 use Rattle.wap_unit.specs.Strings.{string_at}
 use Rattle.wap_execution.specs.declared.action.Action.{Action}
-use Rattle.wap_execution.specs.declared.action.Action.TheVariants.{
-  Jump,
-  JumpBack,
-  JumpUnless,
-  JumpBackUnless,
-  ShortCircuit,
-  CallLocal,
-  CallLibrary,
-  CallExternal,
-  LoadVariable,
-  StoreVariable,
-  ChangeVariable,
-  AssignVariable,
-  LoadConstant,
-  GiveInteger,
-  GiveBoolean,
-  GiveEmpty,
-  GiveInvalid,
-  Unary,
-  Binary,
-  Pop,
-  Return,
-  ReturnEmpty,
-  Pass,
-}
+use Rattle.wap_execution.specs.declared.action.Action.TheVariants.{Jump, JumpBack, JumpUnless}
+use Rattle.wap_execution.specs.declared.action.Action.TheVariants.{JumpBackUnless, ShortCircuit}
+use Rattle.wap_execution.specs.declared.action.Action.TheVariants.{CallLocal, CallLibrary}
+use Rattle.wap_execution.specs.declared.action.Action.TheVariants.{CallExternal, LoadVariable}
+use Rattle.wap_execution.specs.declared.action.Action.TheVariants.{StoreVariable, ChangeVariable}
+use Rattle.wap_execution.specs.declared.action.Action.TheVariants.{AssignVariable, LoadConstant}
+use Rattle.wap_execution.specs.declared.action.Action.TheVariants.{Unary, Binary, Pop, Return}
+use Rattle.wap_execution.specs.declared.action.Action.TheVariants.{ReturnEmpty}
 use Rattle.wap_execution.specs.Actions.{action_of}
 use Rattle.wap_execution.specs.Frames.{Frame, code_of, constant_at}
-use Rattle.wap_execution.specs.Effects.{
-  local,
-  library,
-  external,
-  Effect,
-  onward,
-  back,
-  calls,
-  returns,
-  ends,
-  stuck,
-  with_top,
-  with_value,
-  with_kept,
-  with_arguments,
-  with_count,
-  with_texts,
-  jumps_at,
-  backward,
-  stored,
-  effect_of,
-  is_decided,
-  decided,
-  is_jump_unless,
-  pair_with,
-  pair_by,
-  effect_read,
-  effect_with,
-  effect_by,
-  effect_at,
-}
+use Rattle.wap_execution.specs.Effects.{local, library, external, Effect, onward, back, calls}
+use Rattle.wap_execution.specs.Effects.{stuck, with_top, with_value, with_kept, with_arguments}
+use Rattle.wap_execution.specs.Effects.{with_count, with_texts, jumps_at, backward, stored}
+use Rattle.wap_execution.specs.Effects.{effect_of, is_decided, decided, is_jump_unless, pair_with}
+use Rattle.wap_execution.specs.Effects.{pair_by, effect_read, effect_with, effect_by, effect_at}
 
 -- what goes on, after a call too, goes on behind the place
 abbrev pub IsBehind : ℕ → Effect → Type 0
 IsBehind at (onward place variables operands) = at < place
-IsBehind at (back place variables operands) = ⊤
 IsBehind at (calls callee arguments place variables operands) = at < place
-IsBehind at (returns value) = ⊤
-IsBehind at (ends why) = ⊤
-IsBehind at stuck = ⊤
+IsBehind at _ = ⊤
 
 module _ (at : ℕ) where
   abbrev Behind : Effect → Type 0
@@ -184,10 +138,6 @@ module _ (at : ℕ) where
   effect_of_behind string frame LoadConstant instr further =
       with_value_behind (constant_at frame.function.unit instr.a) _
       (λ value. with_kept_behind (kept_within string value) _ (λ kept. further))
-  effect_of_behind string frame (GiveInteger number) instr further = further
-  effect_of_behind string frame (GiveBoolean truth) instr further = further
-  effect_of_behind string frame GiveEmpty instr further = further
-  effect_of_behind string frame GiveInvalid instr further = further
   effect_of_behind string frame (Unary op) instr further =
       with_top_behind frame.operands _ (λ value rest. further)
   effect_of_behind string frame (Binary op) instr further =
@@ -199,7 +149,7 @@ module _ (at : ℕ) where
   effect_of_behind string frame Return instr further =
       with_top_behind frame.operands _ (λ value rest. tt)
   effect_of_behind string frame ReturnEmpty instr further = tt
-  effect_of_behind string frame Pass instr further = further
+  effect_of_behind string frame _ instr further = further
 
   decided_behind : (truth : Option Bool) (decides : Bool) (target next : ℕ)
       (variables operands : List Value) → at < target → at < next

@@ -1,7 +1,6 @@
 -- What runs by the definitions leave: turns only fall, and states stay kin.
-use Rattle.std.proofs.Common.{ℕ, zero, suc, ◌+◌, ◌-◌, ◌≤◌, Bool, true, false}
-use Rattle.std.proofs.Common.{eqb, leb, cond, List, [], ◌∷◌, length, Option, Some, None}
-use Rattle.std.proofs.Common.{arith}
+use Rattle.std.proofs.Common.{ℕ, zero, suc, ◌+◌, ◌-◌, ◌≤◌, Bool, true, false, eqb, leb, cond, List}
+use Rattle.std.proofs.Common.{[], ◌∷◌, length, Option, Some, None, arith}
 use Rattle.wap_base.specs.declared.limits.TheConstants.{MOST_DEPTH}
 use Rattle.wap_value.specs.declared.value.Value.{Value}
 use Rattle.wap_value.specs.declared.value.Value.TheVariants.{Str}
@@ -16,7 +15,7 @@ use Rattle.wap_execution.specs.declared.library.HostOut.TheVariants as answer
 use Rattle.wap_execution.specs.Frames.{Function, Frame, code_at, code_of, begun, pushed}
 use Rattle.wap_execution.specs.Effects.{Called, local, library, external, Effect, onward, back}
 use Rattle.wap_execution.specs.Effects.{calls, returns, ends, stuck as nowhere, effect_at}
-use Rattle.wap_execution.specs.Outcomes.{Outcome, value, exit, fatal, waits, stuck, Ended, Setting}
+use Rattle.wap_execution.specs.Outcomes.{Outcome, value, fatal, stuck, Ended, Setting}
 use Rattle.wap_execution.specs.Running.{ended, returned_by, Enter, Onward, library_gave, entered}
 use Rattle.wap_execution.specs.Running.{called, at_place, run_by, began, enter, run, resumed}
 use Rattle.wap_execution.specs.Running.{finished, forward_by, looping_by, goes}
@@ -69,13 +68,7 @@ module _ {S : Type 0} (setting : Setting S) (Kin : S → S → Type 0) (keeps : 
       → Kin state later → Follows Kin turns state (returned_by frames next outcome left later)
   returned_follows frames next nexts turns state (value v) left later fewer kin =
       after_all turns left state later (next v left later) fewer kin (nexts v left later)
-  returned_follows frames next nexts turns state (exit v) left later fewer kin =
-      record { turns_fall = fewer; kin = kin }
-  returned_follows frames next nexts turns state (fatal why) left later fewer kin =
-      record { turns_fall = fewer; kin = kin }
-  returned_follows frames next nexts turns state (waits dialog inner) left later fewer kin =
-      record { turns_fall = fewer; kin = kin }
-  returned_follows frames next nexts turns state stuck left later fewer kin =
+  returned_follows frames next nexts turns state _ left later fewer kin =
       record { turns_fall = fewer; kin = kin }
 
   pub library_follows : (gave : HostOut) (turns : ℕ) (state later : S) → Kin state later

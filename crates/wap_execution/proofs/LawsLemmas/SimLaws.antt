@@ -26,9 +26,8 @@ use Rattle.wap_execution.specs.laws.Simulation.{Stays, Both, AreAlike, ComeToSam
 use Rattle.wap_execution.proofs.LawsLemmas.FrameRuns.{followed, forward, looping}
 use Rattle.wap_execution.proofs.LawsLemmas.RunLaws.{Keeps, Follows, EnterFollows, OnwardFollows}
 use Rattle.wap_execution.proofs.LawsLemmas.RunLaws.{returned_follows, library_follows}
-use Rattle.wap_execution.proofs.LawsLemmas.RunLaws.{entered_follows}
-use Rattle.wap_execution.proofs.LawsLemmas.RunLaws.{forward_follows, looping_follows, enter_follows}
-use Rattle.wap_execution.proofs.LawsLemmas.RunLaws.{resumed_follows}
+use Rattle.wap_execution.proofs.LawsLemmas.RunLaws.{entered_follows, forward_follows}
+use Rattle.wap_execution.proofs.LawsLemmas.RunLaws.{looping_follows, enter_follows, resumed_follows}
 
 -- ---- what is lost stays so
 
@@ -150,10 +149,8 @@ module _ {S T : Type 0} (Kin : S → T → Type 0) (Lost : S → Type 0) (Lost' 
     returned_kin : (outcome : Outcome)
         → Alike (returned_by frames next outcome) (returned_by frames next' outcome)
     returned_kin (value v) turns s t k = nexts v turns s t k
-    returned_kin (exit v) turns s t k = kin (exit v) turns s t k
-    returned_kin (fatal why) turns s t k = kin (fatal why) turns s t k
     returned_kin (waits dialog inner) turns s t k = kin (waits dialog (inner ++ frames)) turns s t k
-    returned_kin stuck turns s t k = kin stuck turns s t k
+    returned_kin outcome turns s t k = kin outcome turns s t k
 
     -- frames go on alike with ends that are the same
     returned_alike : (a : Ended S) (b : Ended T) → Same a b

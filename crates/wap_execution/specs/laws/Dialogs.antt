@@ -1,7 +1,7 @@
 -- Runs that go on after their dialogs, which are answered from outside. This project's own.
 use Rattle.std.specs.Prelude.{List, [], ◌∷◌}
 use Rattle.wap_value.specs.declared.value.Value.{Value}
-use Rattle.wap_execution.specs.Outcomes.{Outcome, value, exit, fatal, waits, stuck, Ended, Setting}
+use Rattle.wap_execution.specs.Outcomes.{Outcome, waits, Ended, Setting}
 use Rattle.wap_execution.specs.Running.{resumed}
 use Rattle.wap_execution.specs.laws.Settings.{Counted}
 
@@ -9,12 +9,9 @@ use Rattle.wap_execution.specs.laws.Settings.{Counted}
 -- the one before; the turns stay
 abbrev pub answered_by : {S T : Type 0}
     → Setting T → (S → T → T) → Value → S → Ended T → Outcome → Ended T
-answered_by setting put v state end (value given) = end
-answered_by setting put v state end (exit given) = end
-answered_by setting put v state end (fatal why) = end
 answered_by setting put v state end (waits dialog frames) =
     resumed setting frames v end.turns (put state end.state)
-answered_by setting put v state end stuck = end
+answered_by setting put v state end _ = end
 
 -- one dialog after the other is answered
 abbrev pub continued : {S T : Type 0}

@@ -3,16 +3,13 @@ use Rattle.std.specs.Prelude.{◌≡◌, ℕ, List, []}
 use Rattle.wap_value.specs.declared.value.Value.{Value}
 use Rattle.wap_execution.specs.Frames.{Frame}
 use Rattle.wap_execution.specs.Effects.{Called}
-use Rattle.wap_execution.specs.Outcomes.{Outcome, value, exit, fatal, waits, stuck, Ended}
+use Rattle.wap_execution.specs.Outcomes.{Outcome, waits, Ended}
 use Rattle.wap_execution.specs.Running.{ended, Calls, Ways, goes}
 
 -- an outcome without the frames that wait
 abbrev pub forgotten_by : {S : Type 0} → Outcome → ℕ → S → Ended S
-forgotten_by (value v) turns state = ended (value v) turns state
-forgotten_by (exit v) turns state = ended (exit v) turns state
-forgotten_by (fatal why) turns state = ended (fatal why) turns state
 forgotten_by (waits dialog frames) turns state = ended (waits dialog []) turns state
-forgotten_by stuck turns state = ended stuck turns state
+forgotten_by outcome turns state = ended outcome turns state
 
 -- an end without the frames that wait
 abbrev pub forgotten : {S : Type 0} → Ended S → Ended S

@@ -7,8 +7,7 @@ use Rattle.wap_execution.specs.declared.dialog.Dialog.{Dialog}
 use Rattle.wap_execution.specs.declared.library.HostOut.{HostOut}
 use Rattle.wap_execution.specs.declared.library.HostOut.TheVariants.{Value, Exit, Fatal, Asks}
 use Rattle.wap_execution.specs.Frames.{Frame}
-use Rattle.wap_execution.specs.Outcomes.{Outcome, value, exit, fatal, waits}
-use Rattle.wap_execution.specs.Outcomes.{stuck, Ended, Hosting, Setting}
+use Rattle.wap_execution.specs.Outcomes.{Outcome, exit, fatal, waits, Ended, Hosting, Setting}
 use Rattle.wap_execution.specs.Running.{ended, resumed, finished}
 use Rattle.wap_execution.specs.laws.Settings.{uncounted}
 
@@ -47,13 +46,10 @@ gone_on setting next frames (Asks dialog) turns state = ended (waits dialog fram
 -- a run that waits goes on with what its state answers, and from there as `next` says
 abbrev pub answered_once : {S : Type 0}
     → Setting S → Answering S → (Ended S → Ended S) → Outcome → ℕ → S → Ended S
-answered_once setting answering next (value v) turns state = ended (value v) turns state
-answered_once setting answering next (exit v) turns state = ended (exit v) turns state
-answered_once setting answering next (fatal why) turns state = ended (fatal why) turns state
 answered_once setting answering next (waits dialog frames) turns state =
     let gave = answering state dialog in
     gone_on setting next frames gave.0 turns gave.1
-answered_once setting answering next stuck turns state = ended stuck turns state
+answered_once setting answering next outcome turns state = ended outcome turns state
 
 -- one dialog after the other is answered, and at most so many
 abbrev pub answered_each : {S : Type 0} → Setting S → Answering S → ℕ → Ended S → Ended S
@@ -80,12 +76,9 @@ pub record AgreesKeyed {S : Type 0} (limits : Limits) (host : Hosting S) (answer
 
 -- a run that waits goes on with what its state answers, and from there in another setting
 abbrev pub unrolled_by : {S : Type 0} → Setting S → Answering S → Outcome → ℕ → S → Ended S
-unrolled_by further answering (value v) turns state = ended (value v) turns state
-unrolled_by further answering (exit v) turns state = ended (exit v) turns state
-unrolled_by further answering (fatal why) turns state = ended (fatal why) turns state
 unrolled_by further answering (waits dialog frames) turns state =
     let gave = answering state dialog in gone_on further (λ end. end) frames gave.0 turns gave.1
-unrolled_by further answering stuck turns state = ended stuck turns state
+unrolled_by further answering outcome turns state = ended outcome turns state
 
 -- the same of the end of a run
 abbrev pub unrolled : {S : Type 0} → Setting S → Answering S → Ended S → Ended S

@@ -1,7 +1,6 @@
 -- Lines in a buffer: lines that follow others, and lines as they are written.
 use Rattle.std.proofs.Common.{◌≡◌, ℕ, suc, ◌+◌, List, [], ◌∷◌, ◌++◌, take, drop, length, refl, sym}
-use Rattle.std.proofs.Common.{ap, ◌∙◌, arith, append_assoc, encode_utf8_all}
-use Rattle.std.proofs.Common.{subst, length-append}
+use Rattle.std.proofs.Common.{ap, ◌∙◌, arith, append_assoc, encode_utf8_all, subst, length-append}
 use Rattle.std.proofs.lemmas.List.{take-append-le, drop-append-le, take-append-drop}
 use Rattle.std.proofs.Math.Seq.{take-append_seam, drop-append_seam, drop-append-add}
 use Rattle.std.specs.Str.{chars, IsUtf8}

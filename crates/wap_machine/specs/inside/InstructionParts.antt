@@ -7,8 +7,7 @@ use Rattle.wap_value.specs.Conversion.{boolean_of}
 use Rattle.wap_value.specs.Binary.{TakesBoth}
 use Rattle.wap_unit.specs.declared.unit.Unit.{Unit}
 use Rattle.wap_unit.specs.declared.unit.Constant.{Constant}
-use Rattle.wap_unit.specs.declared.unit.Constant.TheVariants.{Int8, Int16, Int32, Float, Utf8}
-use Rattle.wap_unit.specs.declared.unit.Constant.TheVariants.{Empty, Coded}
+use Rattle.wap_unit.specs.declared.unit.Constant.TheVariants.{Int8, Int16, Int32, Float}
 use Rattle.wap_unit.specs.declared.instr.Instr.{Instr}
 use Rattle.wap_unit.specs.Instructions.{row_of}
 use Rattle.wap_execution.specs.declared.action.Action.{Action}
@@ -46,9 +45,7 @@ number_of (Int8 number) = Some (Int number)
 number_of (Int16 number) = Some (Int number)
 number_of (Int32 number) = Some (Int number)
 number_of (Float bits) = Some Invalid
-number_of (Utf8 text) = None
-number_of Empty = None
-number_of (Coded text) = None
+number_of _ = None
 
 -- there is such a constant, and it has a value
 pub record HasConstant (unit : Unit) (index : ℕ) : Type 0 where

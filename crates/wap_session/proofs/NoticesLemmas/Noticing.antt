@@ -1,6 +1,5 @@
 -- The line of an indication that is taken is shown where its inbox says so.
-use Rattle.std.proofs.Common.{◌≡◌, ℕ, Bool, true, false, cond, List, [], ◌∷◌, ◌++◌, refl}
-use Rattle.std.proofs.Common.{◌&&◌}
+use Rattle.std.proofs.Common.{◌≡◌, ℕ, Bool, true, false, cond, List, [], ◌∷◌, ◌++◌, refl, ◌&&◌}
 use Rattle.std.specs.Prelude.{IsTrue, ◌↔◌}
 use Rattle.wap_push.specs.declared.indication.Indication.{Indication}
 use Rattle.wap_push.specs.Inbox.{alerts, IsAlert}

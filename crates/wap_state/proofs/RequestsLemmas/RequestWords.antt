@@ -3,7 +3,8 @@ use Rattle.std.proofs.Common.{rules, ◌≡◌, ◌∙◌, ℕ, List, refl, ap, 
 use Rattle.std.specs.Prelude.{codes, encode_utf8_all}
 use Rattle.std.specs.Str.{chars, bytes_eq}
 use Rattle.wap_base.specs.Texts.{is_same_text}
-use Rattle.wap_cards.proofs.ComparedTexts.{chars-plain, same_word}
+use Rattle.wap_tokens.proofs.Plain.{chars-plain}
+use Rattle.wap_cards.proofs.ComparedTexts.{same_word}
 
 pub word_request : chars (codes "> ") ≡ codes "> "
 word_request = chars-plain (codes "> ") refl

@@ -5,11 +5,9 @@ use Rattle.std.specs.Prelude.{ℕ, ◌%◌, Bool, true, false, not, ◌==◌, �
 use Rattle.std.specs.Prelude.{nat_le, if◌then◌else◌, Option, Some, None}
 use Rattle.wap_base.specs.declared.name.Conv.TheVariants.{Escape, Unescape, Plain}
 use Rattle.wap_tokens.specs.declared.markup.codes.TheConstants.{END, ENTITY, STR_I, LITERAL}
-use Rattle.wap_tokens.specs.declared.markup.codes.TheConstants.{EXT_I_0}
-use Rattle.wap_tokens.specs.declared.markup.codes.TheConstants.{EXT_I_1, EXT_I_2, PI, EXT_T_0}
-use Rattle.wap_tokens.specs.declared.markup.codes.TheConstants.{EXT_T_1}
-use Rattle.wap_tokens.specs.declared.markup.codes.TheConstants.{EXT_T_2, STR_T, EXT_0, EXT_1, EXT_2}
-use Rattle.wap_tokens.specs.declared.markup.codes.TheConstants.{OPAQUE}
+use Rattle.wap_tokens.specs.declared.markup.codes.TheConstants.{EXT_I_0, EXT_I_1, EXT_I_2, PI}
+use Rattle.wap_tokens.specs.declared.markup.codes.TheConstants.{EXT_T_0, EXT_T_1, EXT_T_2, STR_T}
+use Rattle.wap_tokens.specs.declared.markup.codes.TheConstants.{EXT_0, EXT_1, EXT_2, OPAQUE}
 use Rattle.wap_tokens.specs.declared.markup.mark.Lead.{Lead}
 use Rattle.wap_tokens.specs.declared.markup.mark.Role.TheVariants.{Shown, Variable}
 use Rattle.wap_tokens.specs.declared.markup.mark.LeafMark.{LeafMark}
@@ -101,17 +99,10 @@ attribute_mark lead =
 -- the end of attributes
 abbrev pub is_end : AttributeMark → Bool
 is_end attribute.End = true
-is_end attribute.Coded = false
-is_end attribute.Named = false
-is_end attribute.Value = false
-is_end (attribute.Leaf mark) = false
-is_end attribute.Nothing = false
+is_end _ = false
 
 -- a part of a value
 abbrev pub begins_piece : AttributeMark → Bool
 begins_piece attribute.Value = true
 begins_piece (attribute.Leaf mark) = true
-begins_piece attribute.End = false
-begins_piece attribute.Coded = false
-begins_piece attribute.Named = false
-begins_piece attribute.Nothing = false
+begins_piece _ = false

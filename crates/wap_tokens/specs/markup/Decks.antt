@@ -129,9 +129,7 @@ marks_from inner (Kid-F.Element element) = inner element
 marks_from inner (Kid-F.Str text) = part_marks (literal text)
 marks_from inner (Kid-F.Entity number) = part_marks (character number)
 marks_from inner (Kid-F.Var name conv) = part_marks (reference name conv)
-marks_from inner (Kid-F.Ext index) = []
-marks_from inner (Kid-F.Opaque bytes) = []
-marks_from inner (Kid-F.Pi attr) = []
+marks_from inner _ = []
 
 -- what a kid gives, and what kids give, by what their elements give
 abbrev pub kid_marks : (Element → List Mark) → Kid → List Mark

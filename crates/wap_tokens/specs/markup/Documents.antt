@@ -84,10 +84,7 @@ IsOuter strings before bytes x =
 -- the root after its byte, which has to begin an element
 abbrev pub IsRootBehind : Strings → State → Lead → ContentMark → List ℕ → Element × State → Type 0
 IsRootBehind strings before lead content.Element = IsElement strings LEVEL_LIMIT before lead
-IsRootBehind strings before lead content.Pi = Never
-IsRootBehind strings before lead (content.Leaf mark) = Never
-IsRootBehind strings before lead content.End = Never
-IsRootBehind strings before lead content.Nothing = Never
+IsRootBehind strings before lead _ = Never
 
 -- the root: an element, of at most so many levels as elements may have
 unfoldable pub IsRoot : Strings → State → List ℕ → Element × State → Type 0

@@ -124,10 +124,7 @@ literal name = (Literal name.0, name.1)
 abbrev pub IsStartBehind : Strings → State → Lead → AttributeMark → List ℕ → Token × State → Type 0
 IsStartBehind strings before lead attribute.Coded = Given (Code lead.byte, before)
 IsStartBehind strings before lead attribute.Named = Told literal (IsName strings before)
-IsStartBehind strings before lead attribute.End = Never
-IsStartBehind strings before lead attribute.Value = Never
-IsStartBehind strings before lead (attribute.Leaf mark) = Never
-IsStartBehind strings before lead attribute.Nothing = Never
+IsStartBehind strings before lead _ = Never
 
 -- a leaf as a part of a value
 abbrev pub piece_of : Leaf → Piece
@@ -141,10 +138,7 @@ piece_of (leaf.Opaque bytes) = piece.Opaque bytes
 abbrev pub IsPieceBehind : Strings → Lead → AttributeMark → List ℕ → Piece → Type 0
 IsPieceBehind strings lead attribute.Value = Given (piece.Code lead.page lead.byte)
 IsPieceBehind strings lead (attribute.Leaf mark) = Told piece_of (IsLeaf strings mark)
-IsPieceBehind strings lead attribute.End = Never
-IsPieceBehind strings lead attribute.Coded = Never
-IsPieceBehind strings lead attribute.Named = Never
-IsPieceBehind strings lead attribute.Nothing = Never
+IsPieceBehind strings lead _ = Never
 
 -- a part of a value
 abbrev pub IsPiece : Strings → State → List ℕ → Piece × State → Type 0

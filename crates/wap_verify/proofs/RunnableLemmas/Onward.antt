@@ -1,7 +1,6 @@
 -- What stands at a place leads on, within the code, and gives one value at most.
-use Rattle.std.proofs.Common.{◌≡◌, ℕ, ◌-◌, ◌<◌, ◌≤◌, ltb, true, false, List}
-use Rattle.std.proofs.Common.{length, slice_index, Option, Some, None, Result, Ok, Err}
-use Rattle.std.proofs.Common.{refl, subst, inl, inr, arith}
+use Rattle.std.proofs.Common.{◌≡◌, ℕ, ◌-◌, ◌<◌, ◌≤◌, ltb, List, length, slice_index, Option, Some}
+use Rattle.std.proofs.Common.{None, Result, Ok, Err, refl, subst, inl, inr, arith}
 use Rattle.std.specs.Prelude.{IfSome}
 use Rattle.std.proofs.lemmas.Bool.{ltb-true, ltb-false}
 use Rattle.wap_base.proofs.Choices.{chosen, ok_same}

@@ -1,6 +1,6 @@
 -- Each place of a function is reached with one number of values, and with enough, or the function
 -- has a fault of the third pass.
-use Rattle.std.proofs.Common.{◌≡◌, ℕ, zero, suc, ◌+◌, ◌-◌, ◌<◌, ◌≤◌, ltb, leb, eqb, Bool, true, false}
+use Rattle.std.proofs.Common.{◌≡◌, ℕ, zero, suc, ◌+◌, ◌-◌, ◌<◌, ◌≤◌, ltb, leb, Bool, true, false}
 use Rattle.std.proofs.Common.{List, [], ◌∷◌, ◌++◌, length, Option, Some, None}
 use Rattle.std.proofs.Common.{refl, sym, ap, subst, ◌∙◌, ◌⊎◌, inl, inr, arith}
 use Rattle.std.specs.Prelude.{◌&&◌, ◌≢◌}
@@ -20,15 +20,12 @@ use Rattle.wap_verify.specs.Sound.{IsSplit, IsSound}
 use Rattle.wap_verify.specs.inside.Work.{AgreesWith, Works, Visits}
 use Rattle.wap_verify.specs.Depths.{State, depth_of, followed, effort}
 use Rattle.wap_verify.specs.inside.Kept.{IsConflictOn}
-use Rattle.wap_verify.proofs.Working.{stands_reached, kept_within, Here, too_few, can_on}
-use Rattle.wap_verify.proofs.Working.{can_jump, sane_on, conflict_fault, visited}
-use Rattle.wap_verify.proofs.Working.{popped_sane, popped_here, works_on, sound_at_end}
-use Rattle.wap_verify.proofs.Working.{works_first}
+use Rattle.wap_verify.proofs.Working.{stands_reached, kept_within, Here, too_few, can_on, can_jump}
+use Rattle.wap_verify.proofs.Working.{sane_on, conflict_fault, visited, popped_sane, popped_here}
+use Rattle.wap_verify.proofs.Working.{works_on, sound_at_end, works_first}
 use Rattle.wap_verify.specs.runnable.Runnable.{is_same_depth, agrees, may_follow, both_followed}
-use Rattle.wap_verify.specs.runnable.Runnable.{visits}
-use Rattle.wap_verify.specs.runnable.Runnable.{beside, last_of, without_last, visits_last}
-use Rattle.wap_verify.specs.runnable.Runnable.{works_out}
-use Rattle.wap_verify.specs.runnable.Runnable.{begun, has_depths}
+use Rattle.wap_verify.specs.runnable.Runnable.{visits, beside, last_of, without_last, visits_last}
+use Rattle.wap_verify.specs.runnable.Runnable.{works_out, begun, has_depths}
 use Rattle.wap_verify.proofs.RunnableLemmas.Onward.{goes_on}
 use Rattle.wap_verify.proofs.RunnableLemmas.Splitting.{HasFault}
 

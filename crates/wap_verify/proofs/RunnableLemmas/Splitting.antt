@@ -4,7 +4,7 @@ use Rattle.std.proofs.Common.{◌++◌, length, Option, Some, None, Result, Ok, 
 use Rattle.std.proofs.Common.{subst, ◌∙◌, inl, inr, arith}
 use Rattle.std.specs.Prelude.{◌&&◌, option_map}
 use Rattle.std.specs.List.{list_all}
-use Rattle.std.proofs.lemmas.Bool.{ltb-true, ltb-false, cases_Bool, and_parts}
+use Rattle.std.proofs.lemmas.Bool.{ltb-true, ltb-false, cases_Bool}
 use Rattle.wap_unit.specs.declared.unit.Unit.{Unit}
 use Rattle.wap_unit.specs.declared.unit.Code.{Code}
 use Rattle.wap_verify.specs.declared.step.Step.{Step}
@@ -12,17 +12,9 @@ use Rattle.wap_verify.specs.declared.fault.VerifyFault.{VerifyFault}
 use Rattle.wap_verify.specs.CodePlaces.{step_at}
 use Rattle.wap_verify.specs.Sound.{Runs, is_aimed, IsSplit}
 use Rattle.wap_verify.specs.Faults.{IsFunctionFault, item, target}
-use Rattle.wap_verify.proofs.Walks.{runs_push}
+use Rattle.wap_verify.proofs.Walks.{runs_push, all_push}
 use Rattle.wap_verify.specs.runnable.Runnable.{places_after, places_from, are_aimed, is_split}
 use Rattle.wap_verify.proofs.RunnableLemmas.Onward.{goes_on}
-
--- one more passes the test
-all_push : (test : ℕ → Bool) (xs : List ℕ) (x : ℕ) → list_all test xs ≡ true → test x ≡ true
-    → list_all test (xs ++ x ∷ []) ≡ true
-all_push test [] x all one = ap (λ (b : Bool). b && true) one
-all_push test (y ∷ xs) x all one =
-    let parts = and_parts (test y) (list_all test xs) all in
-    ap (λ (b : Bool). b && list_all test (xs ++ x ∷ [])) parts.0 ∙ all_push test xs x parts.1 one
 
 module _ (unit : Unit) (index : ℕ) (function : Code) where
   -- a fault of the function

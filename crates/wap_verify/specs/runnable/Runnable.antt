@@ -134,18 +134,9 @@ may_run unit = is_none (stray_pragma unit) && are_sound unit 0 unit.functions
 
 -- at a place the number of values doesn't fit: of such faults any may be named
 abbrev pub is_of_depths : VerifyFault → Bool
-is_of_depths (fault.Pragma index) = false
-is_of_depths (fault.Opcode function at) = false
-is_of_depths (fault.Operand function at) = false
-is_of_depths (fault.Variable function at) = false
-is_of_depths (fault.Constant function at) = false
-is_of_depths (fault.Function function at) = false
-is_of_depths (fault.Library function at) = false
-is_of_depths (fault.LoneShort function at) = false
-is_of_depths (fault.Target function at) = false
 is_of_depths (fault.Underflow function at) = true
 is_of_depths (fault.Depths function at found other) = true
-is_of_depths fault.NoMemory = false
+is_of_depths _ = false
 
 -- two faults of a unit are the same, or both are such faults
 abbrev pub AreAlike : VerifyFault → VerifyFault → Type 0

@@ -1,9 +1,8 @@
 -- What is shown when an indication comes is what an inbox says of it.
-use Rattle.std.proofs.Common.{◌≡◌, ◌≤◌, ◌<◌, Bool, true, false, cond, List, [], ◌∷◌, ◌++◌}
-use Rattle.std.proofs.Common.{Option, Some, None, refl, ap, sym, subst, ◌∙◌, nat_le, ◌&&◌, ◌||◌}
-use Rattle.std.proofs.Common.{arith}
+use Rattle.std.proofs.Common.{◌≡◌, ◌≤◌, ◌<◌, Bool, true, false, cond, List, [], ◌∷◌, ◌++◌, Option}
+use Rattle.std.proofs.Common.{Some, None, refl, ap, sym, subst, ◌∙◌, nat_le, ◌&&◌, ◌||◌, arith}
 use Rattle.std.specs.Prelude.{not, ◌↔◌}
-use Rattle.std.proofs.lemmas.Bool.{and_parts, leb-true, leb-false, le-leb}
+use Rattle.std.proofs.lemmas.Bool.{and_from, and_parts, leb-true, leb-false, le-leb}
 use Rattle.std.specs.Cmp.Lexicographic.{bytes_decides}
 use Rattle.wap_push.specs.declared.indication.Indication.{Indication}
 use Rattle.wap_push.specs.Inbox.{is_of, alerts, later, winner_of, IsAlert}
@@ -85,11 +84,6 @@ loses_to (Some winner) more false is won =
     subst (λ (w : Indication). more.created < w.created) same less in
     absurd (omega arith)
 
--- two tests that are passed
-both_pass : (a b : Bool) → a ≡ true → b ≡ true → (a && b) ≡ true
-both_pass true b first second = second
-both_pass false b first second = absurd (cc first)
-
 -- the two are one answer
 pub alert_is : (pushes : List Indication) (more : Indication)
     → ((alerts more.action && is_latest pushes more) ≡ true) ↔ IsAlert (pushes ++ more ∷ []) more
@@ -106,7 +100,7 @@ alert_is pushes more =
           },
       λ alert.
           let won : after (winner_of pushes more.id) more ≡ more = cc (here, alert.wins) in
-          both_pass (alerts more.action) (is_latest pushes more) alert.shown
+          and_from (alerts more.action) (is_latest pushes more) alert.shown
           (latest_passes pushes more
           ∙ loses_to (winner_of pushes more.id) more (passes (winner_of pushes more.id) more) refl
           won),

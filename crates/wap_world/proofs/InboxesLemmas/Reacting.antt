@@ -12,8 +12,7 @@ use Rattle.wap_world.specs.Steps.{quiet}
 use Rattle.wap_world.specs.Keys.{ignored, renewed, react}
 use Rattle.wap_world.specs.inboxes.Notices.{no_push_line, notice_lines}
 use Rattle.wap_world.specs.inboxes.Inboxes.{Phone, taking_none, telling, push_lines, pushes_with}
-use Rattle.wap_world.specs.inboxes.Inboxes.{url_at, is_of_inbox, opening, play_pressed}
-use Rattle.wap_world.specs.inboxes.Inboxes.{react_with}
+use Rattle.wap_world.specs.inboxes.Inboxes.{url_at, is_of_inbox, opening, play_pressed, react_with}
 use Rattle.wap_world.specs.Sessions.{unpushed}
 
 module _ (read : List ℕ → Result Indication PushFault) (site : Site) where

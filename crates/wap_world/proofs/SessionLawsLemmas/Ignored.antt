@@ -1,6 +1,5 @@
 -- Keys that fit nothing.
-use Rattle.std.proofs.Common.{◌≡◌, ℕ, true, false, List, Option, Some, None}
-use Rattle.std.proofs.Common.{refl, sym, ap, ◌∙◌}
+use Rattle.std.proofs.Common.{◌≡◌, ℕ, true, false, List, Option, Some, None, refl, sym, ap, ◌∙◌}
 use Rattle.std.specs.Option.{option_and_then}
 use Rattle.std.proofs.lemmas.Bool.{false≢true}
 use Rattle.wap_base.specs.declared.key.Key.{Key}
@@ -15,7 +14,7 @@ use Rattle.wap_cardrules.specs.Entering.{OptionChosen, none_chosen, enter_in, ch
 use Rattle.wap_cardrules.specs.Entering as entering
 use Rattle.wap_world.specs.Sites.{Site}
 use Rattle.wap_world.specs.declared.timer.Timer.{Timer}
-use Rattle.wap_world.specs.declared.timer.Timer.TheVariants.{NotStarted, Running, Off, Expired}
+use Rattle.wap_world.specs.declared.timer.Timer.TheVariants.{Running}
 use Rattle.wap_world.specs.World.{World, Place, place_now}
 use Rattle.wap_world.specs.Steps.{Step, quiet}
 use Rattle.wap_world.specs.Keys.{react, renewed, ignored, at_card, choose_option, after_choice}
@@ -99,10 +98,8 @@ ignores_option site keys world place n m here none =
 idle : (site : Site) (keys : List Key) (n : ℕ) (timer : Timer) (place : Place) (world : World)
     → is_running timer ≡ false
     → pass_time site keys n timer place world ≡ quiet keys (ignored world)
-idle site keys n NotStarted place world off = refl
 idle site keys n (Running time) place world off = absurd (false≢true (sym off))
-idle site keys n Off place world off = refl
-idle site keys n Expired place world off = refl
+idle site keys n _ place world off = refl
 
 pub ignores_tick : (site : Site) (keys : List Key) (world : World) (n : ℕ)
     → is_running world.timer ≡ false → IsIgnored site (key.Tick n) keys world
@@ -126,17 +123,6 @@ pub ignores_without_card : (site : Site) (one : Key) (keys : List Key) (world : 
     → IsIgnored site one keys world
 unfolding react
 ignores_without_card site (key.Open url) keys world is none = absurd (false≢true is)
-ignores_without_card site (key.Do name) keys world is none =
-    at_none keys (renewed world) _ _ none
-ignores_without_card site (key.Pick n) keys world is none =
-    at_none keys (renewed world) _ _ none
-ignores_without_card site (key.Enter n text) keys world is none =
-    at_none keys (renewed world) _ _ none
-ignores_without_card site (key.Choose n m) keys world is none =
-    at_none keys (renewed world) _ _ none
-ignores_without_card site key.Back keys world is none = at_none keys (renewed world) _ _ none
-ignores_without_card site (key.Tick n) keys world is none =
-    at_none keys (renewed world) _ _ none
 ignores_without_card site key.Ok keys world is none = refl
 ignores_without_card site key.Cancel keys world is none = refl
 ignores_without_card site (key.Answer text) keys world is none = refl
@@ -145,3 +131,4 @@ ignores_without_card site key.Vars keys world is none = absurd (false≢true is)
 ignores_without_card site (key.Push bytes) keys world is none = absurd (false≢true is)
 ignores_without_card site key.Inbox keys world is none = absurd (false≢true is)
 ignores_without_card site (key.Follow n) keys world is none = absurd (false≢true is)
+ignores_without_card site _ keys world is none = at_none keys (renewed world) _ _ none

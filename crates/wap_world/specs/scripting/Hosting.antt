@@ -19,8 +19,7 @@ use Rattle.wap_libs.specs.declared.outcome.LibOut.TheVariants as lib
 use Rattle.wap_libs.specs.Row.{argument}
 use Rattle.wap_libs.specs.Outcome.{outcome, generator_after}
 use Rattle.wap_world.specs.declared.refusal.Refusal.{Refusal}
-use Rattle.wap_world.specs.Shelves.{Shelf, Shelved, script_page}
-use Rattle.wap_world.specs.Shelves.{no_page}
+use Rattle.wap_world.specs.Shelves.{Shelf, Shelved, script_page, no_page}
 use Rattle.wap_world.specs.World.{World, Place}
 use Rattle.wap_world.specs.Steps.{Step}
 use Rattle.wap_execution.specs.Outcomes.{HostingOf}

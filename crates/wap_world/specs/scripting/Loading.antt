@@ -13,8 +13,7 @@ use Rattle.wap_value.specs.declared.value.Value.{Value}
 use Rattle.wap_value.specs.declared.value.Value.TheVariants.{Int, Str, Invalid}
 use Rattle.wap_execution.specs.declared.library.HostOut.{HostOut}
 use Rattle.wap_world.specs.declared.refusal.Refusal.{Refusal}
-use Rattle.wap_world.specs.Shelves.{Shelf, Shelved, text_page}
-use Rattle.wap_world.specs.Shelves.{no_page}
+use Rattle.wap_world.specs.Shelves.{Shelf, Shelved, text_page, no_page}
 use Rattle.wap_world.specs.Steps.{Step}
 use Rattle.wap_world.specs.Urls.{page_url}
 use Rattle.wap_world.specs.Requests.{plain_get}

@@ -5,11 +5,9 @@ use Rattle.wap_world.specs.declared.site.page.Page.{Page}
 use Rattle.wap_world.specs.declared.site.page.Page.TheVariants as page
 
 abbrev pub is_accepted : Page → Bool
-is_accepted (page.Deck deck) = true
-is_accepted (page.Script unit) = true
-is_accepted (page.Words text) = true
 is_accepted page.Refused = false
 is_accepted page.Missing = false
+is_accepted _ = true
 
 -- those of these names whose pages are accepted
 abbrev pub accepted_in : Pages → List (List ℕ) → List (List ℕ)

@@ -22,11 +22,8 @@ pub record IsJudged (job : Job) (named : List ℕ × Page) : Type 0 where
   pub page : named.1 ≡ page_where job.0 (page_of job.1)
 
 abbrev pub is_there : Page → Bool
-is_there (page.Deck deck) = true
-is_there (page.Script unit) = true
-is_there (page.Words text) = true
-is_there page.Refused = true
 is_there page.Missing = false
+is_there _ = true
 
 -- those of the pages that are there
 abbrev pub present : Pages → Pages

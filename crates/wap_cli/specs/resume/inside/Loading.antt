@@ -17,8 +17,7 @@ use Rattle.wap_cli.specs.declared.status.Status.{Status}
 use Rattle.wap_cli.specs.declared.status.Status.TheVariants.{Refused, NoMemory}
 use Rattle.wap_cli.specs.browse.Outside.{Outside}
 use Rattle.wap_cli.specs.browse.Headline.{BrowsesSeen}
-use Rattle.wap_cli.specs.resume.Resuming.{resumed, HasDeck, LacksDeck, Hinders}
-use Rattle.wap_cli.specs.resume.Resuming.{Fails, Unbegun}
+use Rattle.wap_cli.specs.resume.Resuming.{resumed, HasDeck, LacksDeck, Hinders, Fails, Unbegun}
 
 -- ---- one page that is fetched
 

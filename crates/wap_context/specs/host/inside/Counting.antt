@@ -3,8 +3,7 @@ use Rattle.std.specs.Prelude.{◌≡◌, ◌≤◌, ℕ, Bool, true, false, if�
 use Rattle.std.specs.Prelude.{Option, Some, None, IfSome, refl}
 use Rattle.std.proofs.Common.{zero, suc, sym, subst}
 use Rattle.std.specs.Option.{option_map}
-use Rattle.std.proofs.Math.Nat.{le_refl, le_trans, le-add_right, le-min}
-use Rattle.std.proofs.Math.Nat.{min-le_left, min-le_right}
+use Rattle.std.proofs.Math.Nat.{le_refl, le_trans, le-add_right, le-min, min-le_left, min-le_right}
 use Rattle.wap_base.specs.Count.{raised, greatest_count}
 use Rattle.wap_machine.specs.Hosts.{AtMost, Grows}
 use Rattle.wap_world.specs.site.Pages.{Pages as JudgedPages}

@@ -4,8 +4,7 @@ use Rattle.wap_unit.specs.declared.unit.Unit.{Unit}
 use Rattle.wap_dis.specs.Listing.{listing}
 use Rattle.wap_dis.specs.inside.Gathering.{Gathers}
 use Rattle.wap_dis.specs.inside.Gathered.{state}
-use Rattle.wap_dis.proofs.Putting.{gathers_then, gathers_whole, gathers_broken}
-use Rattle.wap_dis.proofs.Putting.{unlike}
+use Rattle.wap_dis.proofs.Putting.{gathers_then, gathers_whole, gathers_broken, unlike}
 use Rattle.wap_dis.proofs.listed.listing.Goals as goal
 
 -- a listing has its first line at least

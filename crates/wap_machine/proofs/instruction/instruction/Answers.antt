@@ -1,4 +1,4 @@
-use Rattle.std.proofs.Common.{◌≡◌, Option, Some, None, Result, Ok, Err, sym, subst}
+use Rattle.std.proofs.Common.{◌≡◌, Option, Some, None, Result, Ok, Err, sym, subst, arith}
 use Rattle.std.specs.Prelude.{slice_index}
 use Rattle.wap_unit.specs.declared.row.Row.{Row}
 use Rattle.wap_unit.specs.declared.instr.Instr.{Instr}
@@ -35,6 +35,9 @@ returns c =
     cc (c.in-Some.is, c.row_of.ensures.row, c.requires.code, c.place-place.ensures) in
     let read : read_row c.in-Some.row (code_of frame.function) frame.place ≡ Ok c.in-Ok.instr =
     cc (c.in-Ok.is, c.read_row.ensures.instr, c.requires.code, c.place-place.ensures) in
+    let byte : slice_index c.args.code.now c.place-place.result
+    ≡ slice_index (code_of frame.function) frame.place =
+    cc (c.requires.code, c.place-place.ensures) in
     subst (λ (action : Action). IsInstruction frame action c.in-Ok.instr) (sym c.action_of.ensures)
     (instruction_is frame c.in-Some.row c.in-Ok.instr c.requires.stands c.requires.within row read
-    c.in-Ok.ensures.operands)
+    (λ below. c.in-Ok.ensures.operands (omega (arith, byte, below))))

@@ -2,8 +2,7 @@ use Rattle.std.proofs.Common.{Ok, Err, sym, ap, ◌∙◌, subst}
 use Rattle.std.proofs.lemmas.Result.{err_from_is_err_and}
 use Rattle.wap_verify.specs.Sound.{IsVerified}
 use Rattle.wap_pages.specs.declared.fault.PageErr.TheVariants as error
-use Rattle.wap_pages.proofs.Refusing.{Only, verify_only, verify_refused}
-use Rattle.wap_pages.proofs.Refusing.{by_unit, ok_is, err_is}
+use Rattle.wap_pages.proofs.Refusing.{Only, verify_only, verify_refused, by_unit, ok_is, err_is}
 use Rattle.wap_pages.proofs.reading.verified_in.Goals as goal
 
 pub returns-in_err-unit-clause-refused : goal.returns-in_err-unit-clause-refused

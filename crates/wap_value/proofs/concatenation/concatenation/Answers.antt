@@ -1,5 +1,4 @@
-use Rattle.std.proofs.Common.{sym, ap, ◌∙◌, length, ◌+◌, ◌++◌}
-use Rattle.std.proofs.Common.{Ok}
+use Rattle.std.proofs.Common.{sym, ap, ◌∙◌, length, ◌+◌, ◌++◌, Ok}
 use Rattle.wap_value.specs.declared.value.Value.TheVariants.{Str}
 use Rattle.wap_value.proofs.Kept.{joined_len, long_is_refused, short_is_kept}
 use Rattle.wap_value.proofs.concatenation.concatenation.Goals as goal

@@ -1,8 +1,7 @@
 use Rattle.wap_world.specs.History.{KeepsToLimit}
 use Rattle.wap_world.specs.session_laws.Standing.{StandsOnCard}
 use Rattle.wap_world.proofs.ScriptingLawsLemmas.Keeping.{units_few, units_fall, scripts_keep}
-use Rattle.wap_world.proofs.ScriptingLawsLemmas.Keeping.{limit_in_scripts}
-use Rattle.wap_world.proofs.ScriptingLawsLemmas.Keeping.{card_in_scripts}
+use Rattle.wap_world.proofs.ScriptingLawsLemmas.Keeping.{limit_in_scripts, card_in_scripts}
 use Rattle.wap_world.proofs.scripting_laws.scripts_keep_to_rules.Goals as goal
 
 pub returns-clause-turns : goal.returns-clause-turns

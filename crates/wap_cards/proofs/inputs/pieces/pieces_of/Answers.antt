@@ -3,8 +3,8 @@ use Rattle.std.specs.Str.{chars}
 use Rattle.std.proofs.lemmas.Iterator.{YieldsList-from_chars}
 use Rattle.std.proofs.lemmas.Iterator.Consumers.{YieldsList-turn, YieldsList-end}
 use Rattle.wap_cardrules.specs.Selects.{pieces_of}
-use Rattle.wap_cards.proofs.InputsLemmas.Splitting.{drop-turn, drop-end, pieces-semicolon}
-use Rattle.wap_cards.proofs.InputsLemmas.Splitting.{pieces-other, pieces-end}
+use Rattle.wap_cards.proofs.InputsLemmas.Splitting.{pieces-semicolon, pieces-other, pieces-end}
+use Rattle.wap_layout.proofs.Splitting.{drop-turn, drop-end}
 use Rattle.wap_cards.proofs.inputs.pieces.pieces_of.Goals as goal
 
 pub loop-character-preserved-then-is_semicolon : goal.loop-character-preserved-then-is_semicolon

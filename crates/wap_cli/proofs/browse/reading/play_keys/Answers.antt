@@ -12,8 +12,7 @@ use Rattle.wap_cli.specs.browse.Standing.{outside_of}
 use Rattle.wap_cli.specs.browse.inside.Played.{Moment}
 use Rattle.wap_cli.proofs.BrowseLemmas.Going.{goes_first, goes_more}
 use Rattle.wap_cli.proofs.BrowseLemmas.Exits.{ended_browses, ended_rests, reader_runs_out}
-use Rattle.wap_cli.proofs.BrowseLemmas.Exits.{read_stops}
-use Rattle.wap_cli.proofs.BrowseLemmas.Exits.{stop_undone, none_read}
+use Rattle.wap_cli.proofs.BrowseLemmas.Exits.{read_stops, stop_undone, none_read}
 use Rattle.wap_cli.proofs.browse.reading.play_keys.Goals as goal
 
 pub loop-key-init : goal.loop-key-init

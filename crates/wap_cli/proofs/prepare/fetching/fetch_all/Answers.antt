@@ -1,8 +1,6 @@
-use Rattle.std.proofs.Common.{◌∙◌, ℕ, ◌+◌, List, [], ◌∷◌, ◌++◌, take, length}
-use Rattle.std.proofs.Common.{sym, ap, arith, ap₂}
+use Rattle.std.proofs.Common.{◌∙◌, ℕ, ◌+◌, List, [], ◌∷◌, ◌++◌, take, length, sym, ap, arith, ap₂}
 use Rattle.std.specs.Map.{keys_of}
-use Rattle.std.proofs.lemmas.List.{map-append}
-use Rattle.std.proofs.lemmas.List.{take_more}
+use Rattle.std.proofs.lemmas.List.{map-append, take_more}
 use Rattle.wap_cli.specs.prepare.Fetching.{Job}
 use Rattle.wap_cli.proofs.PrepareLemmas.Asking.{asked_more, more_fail, then_memory, memory_over}
 use Rattle.wap_cli.proofs.PrepareLemmas.Asking.{answered_more}

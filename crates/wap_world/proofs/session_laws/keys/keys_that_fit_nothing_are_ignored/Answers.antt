@@ -1,7 +1,6 @@
 use Rattle.wap_world.proofs.SessionLawsLemmas.Ignored.{ignores_do, ignores_pick, ignores_type}
-use Rattle.wap_world.proofs.SessionLawsLemmas.Ignored.{ignores_option}
-use Rattle.wap_world.proofs.SessionLawsLemmas.Ignored.{ignores_tick, ignores_dialog_keys}
-use Rattle.wap_world.proofs.SessionLawsLemmas.Ignored.{ignores_inbox_keys}
+use Rattle.wap_world.proofs.SessionLawsLemmas.Ignored.{ignores_option, ignores_tick}
+use Rattle.wap_world.proofs.SessionLawsLemmas.Ignored.{ignores_dialog_keys, ignores_inbox_keys}
 use Rattle.wap_world.proofs.SessionLawsLemmas.Ignored.{ignores_without_card}
 use Rattle.wap_world.proofs.session_laws.keys.keys_that_fit_nothing_are_ignored.Goals as goal
 
