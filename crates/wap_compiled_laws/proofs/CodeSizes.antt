@@ -5,7 +5,5 @@ pub mod Libraries
 pub mod Costs
 pub mod Pieces
 pub mod Places
-pub mod Saving
-pub mod Settled
 pub mod Needs
 pub mod Bodies

@@ -3,7 +3,7 @@
 use Rattle.std.proofs.Common.{◌≡◌, ℕ, suc, ◌+◌, ◌*◌, ◌≤◌, ◌<◌, ◌∷◌, map, sym, ap, ◌∙◌}
 use Rattle.std.proofs.Common.{zero, true, false, List, ◌++◌, Some, None, IsTrue, refl, subst, arith}
 use Rattle.std.proofs.Common.{[], length, Option, IsSomeAnd, slice_get, length-append, append_assoc}
-use Rattle.std.specs.List.{All, AllByRecursion, flat_map, sum_by}
+use Rattle.std.specs.List.{All, AllByRecursion, flat_map}
 use Rattle.std.specs.Option.{option_map, option_map_or}
 use Rattle.std.proofs.lemmas.List.{append-nil}
 use Rattle.std.proofs.lemmas.List.Elements.{recursion_from_All, filter_map-append}
@@ -22,19 +22,17 @@ use Rattle.wap_asm.proofs.PlacedLaws.{is_placed}
 use Rattle.wap_grammar.specs.declared.program.program.Id.{Id}
 use Rattle.wap_grammar.specs.declared.program.program.Function.{Function}
 use Rattle.wap_grammar.specs.declared.program.program.Program.{Program}
-use Rattle.wap_grammar.specs.declared.program.expression.Literal.{Literal}
 use Rattle.wap_scope.specs.declared.limits.TheConstants.{VARIABLE_LIMIT, FUNCTION_LIMIT}
-use Rattle.wap_scope.specs.Names.{Mention, Declares, Refers, Jumps, said, declared, mentions}
+use Rattle.wap_scope.specs.Names.{Mention, Declares, said, declared, mentions}
 use Rattle.wap_scope.specs.Names.{names_declared}
 use Rattle.wap_scope.specs.Scoped.{IsScoped}
 use Rattle.wap_scope.specs.accepted.Known.{variables, CanBeCoded}
 use Rattle.wap_scope.proofs.InOrder.{in_order}
 use Rattle.wap_scope.proofs.AcceptedLemmas.Known.{all_can_be}
-use Rattle.wap_meaning.specs.coding.Constants.{is_in}
 use Rattle.wap_meaning.specs.coding.Compiled.{function_code, numbers_in, IsCodeOf, IsCompiled}
-use Rattle.wap_meaning.specs.coding.Needs.{Need, Constant, Operator, Variable, Local, Other}
-use Rattle.wap_meaning.specs.coding.Needs.{Library, AreMet, literals_of, stmt_needs}
-use Rattle.wap_compiled_laws.proofs.BodiesLemmas.Pooled.{IsPoolable, AllIn, all_in}
+use Rattle.wap_meaning.specs.coding.Needs.{Need, Constant, Operator, Other, AreMet, literals_of}
+use Rattle.wap_meaning.specs.coding.Needs.{stmt_needs}
+use Rattle.wap_compiled_laws.proofs.BodiesLemmas.Pooled.{InPool, all_in}
 use Rattle.wap_compiled_laws.proofs.Depths.Spots.{Layout, Ranged}
 use Rattle.wap_compiled_laws.proofs.Depths.Bodies.{layout_of, wired_at, body_told}
 use Rattle.wap_compiled_laws.proofs.Labels.Wired.{WiredForm, LeadsTo, forward, tests, backward}
@@ -45,10 +43,10 @@ use Rattle.wap_meaning.specs.compiled.Wide.{function_wide}
 use Rattle.wap_meaning.specs.compiled.Accepted.{HasRoom}
 use Rattle.wap_meaning.specs.compiled.Savings.{saved, function_saves}
 use Rattle.wap_compiled_laws.proofs.CodeSizes.Each.{each_front, each_back}
-use Rattle.wap_compiled_laws.proofs.CodeSizes.Costs.{Fits, has_room, both_costs, Costs}
+use Rattle.wap_compiled_laws.proofs.CodeSizes.Costs.{Fits, has_room, both_costs}
 use Rattle.wap_compiled_laws.proofs.CodeSizes.Places.{Place, numbers, Given}
-use Rattle.wap_compiled_laws.proofs.CodeSizes.Saving.{stmt_cost, body_less}
-use Rattle.wap_compiled_laws.proofs.CodeSizes.Bodies.{body_good}
+use Rattle.wap_compiled_laws.proofs.CodeSizes.Bodies.{DoesCost, body_good}
+use Rattle.wap_compiled_laws.proofs.Induction.Pieces.{Saves}
 
 -- ---- how many functions and variables there are
 
@@ -89,18 +87,11 @@ few_names n before (m ∷ rest) less each =
           ap length (filter_map-append declared before (Declares v ∷ [])),
           length-append (names_declared before) (v.name ∷ []),
         )
-    by (Refers r) one =
+    by other one =
         omega (
           arith,
           less,
-          ap length (filter_map-append declared before (Refers r ∷ [])),
-          length-append (names_declared before) [],
-        )
-    by (Jumps word inside) one =
-        omega (
-          arith,
-          less,
-          ap length (filter_map-append declared before (Jumps word inside ∷ [])),
+          ap length (filter_map-append declared before (other ∷ [])),
           length-append (names_declared before) [],
         )
 
@@ -136,15 +127,6 @@ few_variables p scoped f among =
 abbrev pub AllTake : Program → Type 0
 AllTake p = All (λ (f : Function). AllByRecursion HasOperator (function_needs f)) p.functions
 
--- a literal that may be a constant is among some
-abbrev pub InPool : List Literal → Literal → Type 0
-InPool constants l = IsPoolable l → is_in l constants ≡ true
-
-each_in : (constants needed : List Literal) → AllIn constants needed
-    → AllByRecursion (InPool constants) needed
-each_in constants [] all = tt
-each_in constants (l ∷ needed) all = (all.0, each_in constants needed all.1)
-
 -- what holds of each item of lists in a row holds of those of one of them
 of_one : {X Y : Type 0} (P : Y → Type 0) (g : X → List Y) (earlier : List X) (x : X)
     (later : List X)
@@ -159,7 +141,7 @@ in_pool : (p : Program) (f : Function) → Among p f
 unfolding pool literals_needed
 in_pool p f among =
     let uses = flat_map use_literals p.uses in
-    let all = each_in (pool p) (literals_needed p) (all_in [] (literals_needed p)) in
+    let all = all_in [] (literals_needed p) in
     of_one (InPool (pool p)) (function_literals p) among.earlier f among.later
     (subst (λ (fs : List Function). AllByRecursion (InPool (pool p))
     (flat_map (function_literals p) fs)) among.functions
@@ -171,7 +153,7 @@ unfolding pool literals_needed
 in_uses p =
     each_front (InPool (pool p)) (flat_map use_literals p.uses)
     (flat_map (function_literals p) p.functions)
-    (each_in (pool p) (literals_needed p) (all_in [] (literals_needed p)))
+    (all_in [] (literals_needed p))
 
 -- the constants and operators that are needed are given
 module _ (here : Place) where
@@ -182,11 +164,9 @@ module _ (here : Place) where
   given [] all takes = tt
   given (Constant l ∷ needs) all takes = (all.0, given needs all.1 takes.1)
   given (Operator o ∷ needs) all takes = (takes.0, given needs all takes.1)
-  given (Variable v ∷ needs) all takes = (tt, given needs all takes.1)
-  given (Local f count ∷ needs) all takes = (tt, given needs all takes.1)
   given (Other u f ∷ needs) all takes =
       ((all.0 tt, all.1.0 tt), given needs all.1.1 takes.1)
-  given (Library l f count ∷ needs) all takes = (tt, given needs all takes.1)
+  given (_ ∷ needs) all takes = (tt, given needs all takes.1)
 
 -- ---- a function of a program whose names are in order
 
@@ -224,7 +204,8 @@ module _ (p : Program) (scoped : IsScoped p) (takes : AllTake p)
 
   -- what its statements need is met, and they cost what the wide size says but for what they save
   good : AreMet (compiled p) (numbers place) (flat_map stmt_needs f.body)
-      × Costs false (function_code (numbers_in p (pool p) f) f) (sum_by stmt_cost f.body)
+      × Saves (DoesCost place) false (function_code (numbers_in p (pool p) f) f) (function_saves f)
+      (function_wide f)
   unfolding place
   good =
       let said_all =
@@ -237,19 +218,19 @@ module _ (p : Program) (scoped : IsScoped p) (takes : AllTake p)
       (one_of (λ (f : Function). AllByRecursion HasOperator (function_needs f)) takes))
 
   -- they cost the bytes of its forms, and what these save
-  forms_cost : sum_by stmt_cost f.body ≡ wide (forms_of p f) + saved (forms_of p f)
+  forms_cost : good.1.size ≡ wide (forms_of p f) + saved (forms_of p f)
   unfolding forms_of
-  forms_cost = sym (good.1.costs None 0 tt) ∙ both_costs (forms_of p f)
+  forms_cost = sym (good.1.holds.costs None 0 tt) ∙ both_costs (forms_of p f)
 
   -- the wide size is that of its forms, with what these and its statements save
   pub wide_exact : function_wide f ≡ wide (forms_of p f) + saved (forms_of p f) + function_saves f
   wide_exact =
-      (body_less f.body).whole ∙ ap (λ (n : ℕ). n + function_saves f) forms_cost
+      good.1.whole ∙ ap (λ (n : ℕ). n + function_saves f) forms_cost
 
   -- its statements save no more than three bytes for two that are left
   pub saves_few : function_saves f * 2 ≤ (wide (forms_of p f) + saved (forms_of p f)) * 3
   saves_few =
-      subst (λ (n : ℕ). function_saves f * 2 ≤ n * 3) forms_cost (body_less f.body).few
+      subst (λ (n : ℕ). function_saves f * 2 ≤ n * 3) forms_cost good.1.few
 
   -- ---- its forms may be placed
 
@@ -306,7 +287,7 @@ module _ (p : Program) (scoped : IsScoped p) (takes : AllTake p)
     where
       fits : (i : ℕ) (instr : Instr) → slice_get (forms_of p f) i ≡ Some (Op instr)
           → has_room instr ≡ true
-      fits i instr here = at_index Fits (forms_of p f) i (good.1.fits None 0) here
+      fits i instr here = at_index Fits (forms_of p f) i (good.1.holds.fits None 0) here
 
   -- the unit's function is its code
   pub code_is : function_wide f ≤ 65535

@@ -1,9 +1,11 @@
 -- What is needed stands in the pool, under its number.
-use Rattle.std.proofs.Common.{◌≡◌, ℕ, zero, suc, Bool, true, false, ◌||◌, cond, List, [], ◌∷◌}
-use Rattle.std.proofs.Common.{◌++◌, map, ℤ, pos, negsuc, Some, refl, sym, ap, ◌∙◌}
-use Rattle.std.proofs.Common.{slice_get, option_and_then, option_map}
+use Rattle.std.proofs.Common.{◌≡◌, ℕ, suc, Bool, true, false, ◌||◌, cond, List, [], ◌∷◌, ◌++◌}
+use Rattle.std.proofs.Common.{ℤ, pos, negsuc, Some, refl, sym, ap, ◌∙◌, slice_get}
+use Rattle.std.proofs.Common.{option_and_then, option_map}
+use Rattle.std.specs.List.{AllByRecursion}
 use Rattle.std.specs.Cmp.{signed_Decides}
 use Rattle.std.specs.Cmp.Lexicographic.{bytes_decides}
+use Rattle.std.proofs.lemmas.Option.{slice_get-map}
 use Rattle.wap_value.specs.declared.value.Value.TheVariants.{Int}
 use Rattle.wap_unit.specs.declared.unit.Unit.{Unit as CodeUnit}
 use Rattle.wap_unit.specs.declared.unit.Constant.{Constant}
@@ -56,15 +58,18 @@ in_more l (x ∷ pool) more there = by (same_literal l x) there (in_more l pool 
     by true there further = refl
     by false there further = further there
 
--- what is added at the end is in the pool
-in_last : (l : Literal) → IsPoolable l → (pool : List Literal) → is_in l (pool ++ l ∷ []) ≡ true
-in_last l able [] = ap (λ (b : Bool). b || false) (is_same l able)
-in_last l able (x ∷ pool) = by (same_literal l x) (in_last l able pool)
+-- a literal that is added at the end is in the pool
+pub in_end : (k l : Literal) (pool : List Literal) → same_literal k l ≡ true
+    → is_in k (pool ++ l ∷ []) ≡ true
+in_end k l [] same = ap (λ (b : Bool). b || false) same
+in_end k l (x ∷ pool) same = by (same_literal k x) (in_end k l pool same)
   where
-    by : (same : Bool) → is_in l (pool ++ l ∷ []) ≡ true
-        → (same || is_in l (pool ++ l ∷ [])) ≡ true
-    by true further = refl
-    by false further = further
+    by : (b : Bool) → is_in k (pool ++ l ∷ []) ≡ true → (b || is_in k (pool ++ l ∷ [])) ≡ true
+    by true there = refl
+    by false there = there
+
+in_last : (l : Literal) → IsPoolable l → (pool : List Literal) → is_in l (pool ++ l ∷ []) ≡ true
+in_last l able pool = in_end l l pool (is_same l able)
 
 -- what is in a pool stays in it
 kept : (l x : Literal) (pool : List Literal) → is_in l pool ≡ true
@@ -81,13 +86,12 @@ pub kept_on : (l : Literal) (pool more : List Literal) → is_in l pool ≡ true
 kept_on l pool [] there = there
 kept_on l pool (x ∷ more) there = kept_on l (with_literal pool x) more (kept l x pool there)
 
--- each of the literals is in their pool
-abbrev pub AllIn : List Literal → List Literal → Type 0
-AllIn pool [] = Unit {0}
-AllIn pool (l ∷ more) = (IsPoolable l → is_in l pool ≡ true) × AllIn pool more
+-- a literal that may be a constant is among some
+abbrev pub InPool : List Literal → Literal → Type 0
+InPool constants l = IsPoolable l → is_in l constants ≡ true
 
 -- all that are added are in the pool
-pub all_in : (pool needed : List Literal) → AllIn (pooled pool needed) needed
+pub all_in : (pool needed : List Literal) → AllByRecursion (InPool (pooled pool needed)) needed
 all_in pool [] = tt
 all_in pool (l ∷ needed) = (
   λ able. kept_on l (with_literal pool l) needed (added l able pool),
@@ -110,20 +114,14 @@ text_is : (charset : ℕ) (t : List ℕ) → string_of charset (constant_for (li
 text_is charset [] = refl
 text_is charset (c ∷ cs) = refl
 
--- what stands in a list stands in what it is mapped to
-mapped : {X Y : Type 0} (f : X → Y) (xs : List X) (i : ℕ) (x : X) → slice_get xs i ≡ Some x
-    → slice_get (map f xs) i ≡ Some (f x)
-mapped f [] i x is = absurd (cc is)
-mapped f (y ∷ xs) zero x is = ap (option_map f) is
-mapped f (y ∷ xs) (suc i) x is = mapped f xs i x is
-
 module _ (u : CodeUnit) (pool : List Literal) (has : HasPool u pool) where
   -- a literal of the pool has its constant under its number
   constant_there : (l : Literal) → is_in l pool ≡ true
       → slice_get u.constants (place_in l pool) ≡ Some (constant_for l)
   constant_there l there =
       ap (λ (constants : List Constant). slice_get constants (place_in l pool)) has.constants
-      ∙ mapped constant_for pool (place_in l pool) l (stands l pool there)
+      ∙ slice_get-map constant_for pool (place_in l pool)
+      ∙ ap (option_map constant_for) (stands l pool there)
 
   -- a literal of the pool is the constant with its number
   pub literal_at : (l : Literal) → IsPoolable l → is_in l pool ≡ true

@@ -12,23 +12,24 @@ use Rattle.wap_unit.specs.Strings.{string_at, string_of}
 use Rattle.wap_asm.specs.Spellings.{operation_of, longest}
 use Rattle.wap_asm.specs.Placing.{wide_size}
 use Rattle.wap_grammar.specs.declared.program.statement.Stmt.{Stmt}
-use Rattle.wap_scope.specs.Names.{Mention, mentions}
-use Rattle.wap_scope.specs.accepted.Known.{CanBeCoded}
+use Rattle.wap_scope.specs.Names.{mentions}
 use Rattle.wap_meaning.specs.coding.Coded.{all_code, instr, plain}
 use Rattle.wap_meaning.specs.coding.Needs.{AreMet, stmt_needs}
 use Rattle.wap_meaning.specs.coding.Statements.{stmt_code}
+use Rattle.wap_meaning.specs.compiled.Wide.{stmt_wide}
+use Rattle.wap_meaning.specs.compiled.Savings.{stmt_saves}
 use Rattle.wap_compiled_laws.proofs.Depths.Flow.{Flow}
 use Rattle.wap_compiled_laws.proofs.Labels.Ranges.{kind_of, then_within, mapped_within}
 use Rattle.wap_compiled_laws.proofs.CodeSizes.Costs.{has_room, Costs, costs_both, costs_same}
 use Rattle.wap_compiled_laws.proofs.CodeSizes.Costs.{costs_op, costs_empty, costs_test, byte_fits}
 use Rattle.wap_compiled_laws.proofs.CodeSizes.Costs.{word_fits, library_fits, address_fits}
 use Rattle.wap_compiled_laws.proofs.CodeSizes.Libraries.{numbers_fit}
-use Rattle.wap_compiled_laws.proofs.CodeSizes.Needs.{body_met}
+use Rattle.wap_compiled_laws.proofs.CodeSizes.Needs.{Codable, meets}
 use Rattle.wap_compiled_laws.proofs.CodeSizes.Pieces.{costs_exit, costs_either, costs_branch}
 use Rattle.wap_compiled_laws.proofs.CodeSizes.Pieces.{costs_short, costs_loop}
 use Rattle.wap_compiled_laws.proofs.CodeSizes.Places.{Place, numbers, Given}
-use Rattle.wap_compiled_laws.proofs.CodeSizes.Saving.{stmt_cost}
-use Rattle.wap_compiled_laws.proofs.Induction.Pieces.{Facts, Property, HasFacts, OfPieces, names_is}
+use Rattle.wap_compiled_laws.proofs.Induction.Pieces.{Facts, Property, HasFacts, names_is}
+use Rattle.wap_compiled_laws.proofs.Induction.Pieces.{OfPieces, Saves}
 use Rattle.wap_compiled_laws.proofs.Induction.Statements.{of_body}
 use Rattle.std.proofs.lemmas.Grind.{common_steps}
 
@@ -66,16 +67,12 @@ module _ (here : Place) where
   plain_costs {inside} has =
       costs_op inside (ap (λ (f : Facts). f.roomy) has) (ap (λ (f : Facts). f.size) has)
 
-  -- what is said can be coded
-  abbrev Codable : Mention → Type 0
-  Codable = CanBeCoded here.program here.function
-
   -- a piece costs so many bytes, whatever its operands
-  abbrev DoesCost : Property
+  abbrev pub DoesCost : Property
   DoesCost inside coded from to size = Costs inside coded size
 
   -- the pieces of code cost what is told of them, where what is said can be coded
-  costs : OfPieces here.unit (length (numbers here).names.variables) Codable DoesCost
+  costs : OfPieces here.unit (length (numbers here).names.variables) (Codable here) DoesCost
   unfolding wide_size operation_of longest
   costs = record {
     none = λ {inside}. costs_empty inside;
@@ -106,18 +103,19 @@ module _ (here : Place) where
   -- where what a function says can be coded and its constants are there, what its statements need
   -- is met, and they cost what the wide size says but for what they save
   pub body_good : (ss : List Stmt)
-      → AllByRecursion Codable (flat_map (λ (s : Stmt). mentions s false) ss)
+      → AllByRecursion (Codable here) (flat_map (λ (s : Stmt). mentions s false) ss)
       → AllByRecursion (Given here) (flat_map stmt_needs ss)
       → AreMet here.unit (numbers here) (flat_map stmt_needs ss)
-      × Costs false (all_code (map (stmt_code (numbers here)) ss)) (sum_by stmt_cost ss)
+      × Saves DoesCost false (all_code (map (stmt_code (numbers here)) ss)) (sum_by stmt_saves ss)
+      (sum_by stmt_wide ss)
   body_good ss said given =
-      let met = body_met here ss said given in (
-        met,
-        of_body (record {
-          unit = here.unit;
-          numbers = numbers here;
-          Said = Codable;
-          P = DoesCost;
-          pieces = costs;
-        }) ss met said,
-      )
+      let good = of_body (record {
+        unit = here.unit;
+        numbers = numbers here;
+        Needed = Given here;
+        Said = Codable here;
+        own = λ v said. said;
+        meets = meets here;
+        P = DoesCost;
+        pieces = costs;
+      }) ss given said in (good.0.met, good.1)

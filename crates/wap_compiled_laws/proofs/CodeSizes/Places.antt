@@ -15,7 +15,7 @@ use Rattle.wap_meaning.specs.Names.{url_of}
 use Rattle.wap_meaning.specs.coding.Constants.{Numbers, HasPool, same_literal, is_in, place_in}
 use Rattle.wap_meaning.specs.coding.Compiled.{numbers_in}
 use Rattle.wap_meaning.specs.coding.Needs.{Need, Constant, Operator, Other}
-use Rattle.wap_compiled_laws.proofs.BodiesLemmas.Pooled.{IsPoolable}
+use Rattle.wap_compiled_laws.proofs.BodiesLemmas.Pooled.{InPool}
 
 -- what is in a list has a place within it
 pub place_within : (l : Literal) (pool : List Literal) → is_in l pool ≡ true
@@ -53,7 +53,7 @@ module _ (here : Place) where
 
   -- the constants have what a need needs, and an assignment has a fitting operator
   abbrev pub Given : Need → Type 0
-  Given (Constant l) = IsPoolable l → is_in l here.pool ≡ true
+  Given (Constant l) = InPool here.pool l
   Given (Operator o) = TakesBoth o
   Given (Other u f) =
       (is_in (literal.Str (url_of u.name numbers.names.urls)) here.pool ≡ true)

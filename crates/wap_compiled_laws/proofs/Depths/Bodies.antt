@@ -18,7 +18,7 @@ use Rattle.wap_grammar.specs.declared.program.statement.Stmt.{Stmt}
 use Rattle.wap_scope.specs.Names.{Mention, mentions}
 use Rattle.wap_meaning.specs.coding.Coded.{Coded, all_code, instr}
 use Rattle.wap_meaning.specs.coding.Constants.{Numbers}
-use Rattle.wap_meaning.specs.coding.Needs.{AreMet, stmt_needs}
+use Rattle.wap_meaning.specs.coding.Needs.{IsMet, AreMet, stmt_needs}
 use Rattle.wap_meaning.specs.coding.Statements.{stmt_code}
 use Rattle.wap_compiled_laws.proofs.Pieces.Pieces.{holds_all}
 use Rattle.wap_compiled_laws.proofs.CodeSizes.Each.{each_any}
@@ -153,13 +153,16 @@ pub body_told : (unit : CodeUnit) (numbers : Numbers) (ss : List Stmt)
 body_told unit numbers ss met =
     let layout = layout_of unit numbers ss in
     let coded : Coded = all_code (map (stmt_code numbers) ss) in
-    let shape : Shape layout coded 0 0 = of_body (record {
+    let shape : Shape layout coded 0 0 = (of_body (record {
       unit = unit;
       numbers = numbers;
+      Needed = IsMet unit numbers;
       Said = λ (m : Mention). Unit {0};
+      own = λ v said. tt;
+      meets = λ need met settled. met;
       P = IsShaped layout;
       pieces = shapes layout;
-    }) ss met (each_any (flat_map (λ (s : Stmt). mentions s false) ss)) in
+    }) ss met (each_any (flat_map (λ (s : Stmt). mentions s false) ss))).1.holds in
     let d : ℕ → ℕ = number_at shape.depths in
     let size : length (coded.forms None 0) ≡ coded.size = shape.sized None 0 in
     let last : d (0 + coded.size) ≡ 0 =

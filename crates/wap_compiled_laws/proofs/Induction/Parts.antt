@@ -1,6 +1,7 @@
 -- What holds of the pieces of code holds of the code of literals, of operators and of variables.
 use Rattle.std.proofs.Common.{◌≡◌, ℕ, suc, ◌+◌, ◌<◌, Bool, true, false, [], ◌∷◌, length, refl}
 use Rattle.std.proofs.Common.{subst, arith}
+use Rattle.std.specs.List.{AllByRecursion}
 use Rattle.wap_value.specs.declared.operator.UnOp.{UnOp}
 use Rattle.wap_value.specs.declared.operator.UnOp.TheVariants as un
 use Rattle.wap_value.specs.declared.operator.BinOp.{BinOp}
@@ -15,9 +16,10 @@ use Rattle.wap_grammar.specs.declared.program.expression.Literal.{Literal}
 use Rattle.wap_grammar.specs.declared.program.expression.Literal.TheVariants as literal
 use Rattle.wap_meaning.specs.coding.Coded.{Coded, ◌⨾◌, instr, plain, with_operand}
 use Rattle.wap_meaning.specs.coding.Constants.{number_of}
-use Rattle.wap_meaning.specs.coding.Needs.{AreMet, literal_needs}
+use Rattle.wap_meaning.specs.coding.Needs.{Constant, AreMet, literal_needs}
 use Rattle.wap_meaning.specs.coding.Expressions.{literal_code, unary_code, binary_name, joined_code}
 use Rattle.wap_meaning.specs.coding.Expressions.{load_code, store_code, change_name}
+use Rattle.wap_meaning.specs.coding.Expressions.{step_code}
 use Rattle.wap_meaning.specs.compiled.Wide.{literal_wide, unary_wide, binary_wide}
 use Rattle.wap_compiled_laws.proofs.Depths.Flow.{goes}
 use Rattle.wap_compiled_laws.proofs.Labels.Ranges.{constant_within}
@@ -33,7 +35,7 @@ binary_is unit bin.Comma takes = absurd takes
 binary_is unit binop takes = refl
 
 module _ (here : Setting) where
-  open here use {unit, numbers, P, pieces}
+  open here use {unit, numbers, Needed, meets, P, pieces}
 
   -- a size that is the same
   pub same : {inside : Bool} {coded : Coded} {from to m n : ℕ} → m ≡ n → P inside coded from to m
@@ -43,6 +45,14 @@ module _ (here : Setting) where
   -- code leaves one operand more
   abbrev pub Gives : Bool → Coded → ℕ → Type 0
   Gives inside coded size = (x : ℕ) → P inside coded x (suc x) size
+
+  -- what a literal needs is met
+  pub literal_met : (l : Literal) → AllByRecursion Needed (literal_needs l)
+      → AreMet unit numbers (literal_needs l)
+  literal_met (literal.Int z) given = (meets (Constant (literal.Int z)) given.0 tt, tt)
+  literal_met (literal.Str (c ∷ cs)) given =
+      (meets (Constant (literal.Str (c ∷ cs))) given.0 tt, tt)
+  literal_met _ given = tt
 
   -- a literal
   pub literal_gives : {inside : Bool} (l : Literal) → AreMet unit numbers (literal_needs l)
@@ -118,3 +128,11 @@ module _ (here : Setting) where
   unfolding wide_size operation_of longest
   change_holds inside true a x there = pieces.variable_op op.IncrVar a x refl there
   change_holds inside false a x there = pieces.variable_op op.DecrVar a x refl there
+
+  -- a step
+  pub step_gives : {inside : Bool} {a : ℕ} (up prefix : Bool) → a < length numbers.names.variables
+      → Gives inside (step_code a up prefix) 4
+  step_gives {inside} {a} up true there x =
+      pieces.both (change_holds inside up a x there) (load_gives there x)
+  step_gives {inside} {a} up false there x =
+      pieces.both (load_gives there x) (change_holds inside up a (suc x) there)

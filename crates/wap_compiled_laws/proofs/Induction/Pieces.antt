@@ -1,7 +1,8 @@
 -- What holds of the pieces of which code is made: of no form, of operations, of one piece after
 -- the other, of branches, short-circuits, loops and exits. Of a piece is told whether it stands in
 -- a loop, how many operands stand before it and behind it, and how many bytes it costs.
-use Rattle.std.proofs.Common.{◌≡◌, ℕ, zero, suc, ◌+◌, ◌<◌, Bool, true, false, List, length, Some}
+use Rattle.std.proofs.Common.{◌≡◌, ℕ, zero, suc, ◌+◌, ◌*◌, ◌<◌, ◌≤◌, Bool, true, false, List}
+use Rattle.std.proofs.Common.{length, Some}
 use Rattle.std.proofs.Common.{ap, option_map, slice_get}
 use Rattle.wap_unit.specs.declared.unit.Unit.{Unit as CodeUnit}
 use Rattle.wap_unit.specs.declared.unit.Code.{Code}
@@ -16,12 +17,15 @@ use Rattle.wap_asm.specs.Spellings.{operation_of}
 use Rattle.wap_asm.specs.declared.form.Form.TheVariants.{Op}
 use Rattle.wap_grammar.specs.declared.program.program.Id.{Id}
 use Rattle.wap_grammar.specs.declared.program.program.Span.{Span}
-use Rattle.wap_scope.specs.Names.{External, Mention, Refers, Jumps}
+use Rattle.wap_scope.specs.Names.{Variable as named, Local as called, External}
+use Rattle.wap_scope.specs.Names.{Library as supplied, Mention, Declares, Refers, Jumps}
 use Rattle.wap_meaning.specs.coding.Coded.{Coded, empty, one, ◌⨾◌, instr, plain, with_operand}
 use Rattle.wap_meaning.specs.coding.Coded.{jump_over}
 use Rattle.wap_meaning.specs.coding.Constants.{Numbers}
 use Rattle.wap_meaning.specs.coding.Expressions.{short_code}
+use Rattle.wap_meaning.specs.coding.Needs.{Need, Constant, Variable, Local, Library, IsMet}
 use Rattle.wap_meaning.specs.coding.Statements.{branch_code, exit_form, loop_code}
+use Rattle.wap_compiled_laws.proofs.BodiesLemmas.Pooled.{IsPoolable}
 use Rattle.wap_compiled_laws.proofs.Pieces.Sizes.{branches}
 use Rattle.wap_compiled_laws.proofs.Depths.Flow.{Flow, goes, leaves, short, flow_of}
 use Rattle.wap_compiled_laws.proofs.Labels.Wired.{is_jump, IsOperation}
@@ -149,11 +153,32 @@ pub record OfPieces (unit : CodeUnit) (variables : ℕ) (Said : Mention → Type
   pub next_turn : {inside : Bool} {word : Span} → Said (Jumps word inside)
       → P inside (one (λ exits at. exit_form exits (λ labels. labels.1))) 0 0 3
 
--- a unit, what the names of a function and its constants are there, what its source says, and what
--- holds of the pieces of its code
+-- of a piece that leaves the operands as they were so many bytes are saved: what is saved is the
+-- rest of its wide size, and no more than three bytes for two that are left
+pub record Saves (P : Property) (inside : Bool) (coded : Coded) (saves wide : ℕ) : Type 0 where
+  pub size : ℕ
+  pub holds : P inside coded 0 0 size
+  pub whole : wide ≡ size + saves
+  pub few : saves * 2 ≤ size * 3
+
+-- ---- sources
+
+-- what the names of a source settle of a need, where something holds of what is said
+abbrev pub Settled : (Mention → Type 0) → Need → Type 0
+Settled Said (Constant l) = IsPoolable l
+Settled Said (Variable v) = Said (Refers (named v))
+Settled Said (Local f count) = Said (Refers (called f count))
+Settled Said (Library l f count) = Said (Refers (supplied l f count))
+Settled Said _ = Unit {0}
+
+-- a unit, what the names of a function and its constants are there, what is known of its needs and
+-- of what its source says, which meets the needs, and what holds of the pieces of its code
 pub record Setting : Type 1 where
   pub unit : CodeUnit
   pub numbers : Numbers
+  pub Needed : Need → Type 0
   pub Said : Mention → Type 0
+  pub own : (v : Id) → Said (Declares v) → Said (Refers (named v))
+  pub meets : (need : Need) → Needed need → Settled Said need → IsMet unit numbers need
   pub P : Property
   pub pieces : OfPieces unit (length numbers.names.variables) Said P

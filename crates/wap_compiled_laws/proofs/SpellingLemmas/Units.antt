@@ -38,7 +38,8 @@ use Rattle.wap_meaning.specs.compiled.Wide.{function_wide}
 use Rattle.wap_meaning.specs.compiled.Accepted.{HasRoom}
 use Rattle.wap_compiled_laws.proofs.CodeSizes.Each.{each_front, each_back, each_both}
 use Rattle.wap_compiled_laws.proofs.CodeSizes.Places.{place_within}
-use Rattle.wap_compiled_laws.proofs.Functions.{AllTake, Among, InPool, in_uses, few_functions}
+use Rattle.wap_compiled_laws.proofs.BodiesLemmas.Pooled.{InPool}
+use Rattle.wap_compiled_laws.proofs.Functions.{AllTake, Among, in_uses, few_functions}
 use Rattle.wap_compiled_laws.proofs.Functions.{few_variables, wide_exact, placeable, one_of}
 use Rattle.wap_compiled_laws.proofs.SpellingLemmas.Written.{bytes_both, Written, in_turn, row}
 use Rattle.wap_compiled_laws.proofs.SpellingLemmas.Written.{number, constant_written, pragma_size}

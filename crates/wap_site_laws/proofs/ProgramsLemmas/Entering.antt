@@ -17,11 +17,11 @@ use Rattle.wap_grammar.specs.declared.program.program.Program.{Program}
 use Rattle.wap_grammar.specs.declared.program.expression.Literal.{Literal}
 use Rattle.wap_grammar.specs.declared.program.expression.Literal.TheVariants.{Str}
 use Rattle.wap_meaning.specs.coding.Constants.{HasPool}
-use Rattle.wap_compiled_laws.proofs.BodiesLemmas.Pooled.{text_at}
+use Rattle.wap_compiled_laws.proofs.BodiesLemmas.Pooled.{InPool, text_at}
 use Rattle.wap_meaning.specs.compiled.Pool.{use_literals, pool}
 use Rattle.wap_meaning.specs.compiled.Units.{pragmas_of, text_place, is_short, entry_of}
 use Rattle.wap_meaning.specs.compiled.Units.{compiled_function, compiled}
-use Rattle.wap_compiled_laws.proofs.Functions.{InPool, in_uses}
+use Rattle.wap_compiled_laws.proofs.Functions.{in_uses}
 use Rattle.wap_world.specs.Shelves.{Entrance}
 use Rattle.wap_world.specs.Sites.{External}
 use Rattle.wap_world.specs.scripting.Units.{domain_in, path_in, entrance_in, external_in}
