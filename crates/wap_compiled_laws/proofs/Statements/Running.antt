@@ -4,7 +4,7 @@ use Rattle.std.proofs.Common.{Some, None, map, refl, sym, ap, ◌∙◌, subst, 
 use Rattle.std.specs.List.{flat_map}
 use Rattle.wap_value.specs.declared.value.Value.{Value}
 use Rattle.wap_grammar.specs.declared.program.program.Id.{Id}
-use Rattle.wap_grammar.specs.declared.program.expression.Expr.{Expr, roll-Expr, out-Expr}
+use Rattle.wap_grammar.specs.declared.program.expression.Expr.{Expr, roll-Expr, map-Expr, out-Expr}
 use Rattle.wap_grammar.specs.declared.program.expression.Expr.{roll-out-Expr}
 use Rattle.wap_grammar.specs.declared.program.expression.Expr.TheOpen.{Expr-F}
 use Rattle.wap_grammar.specs.declared.program.expression.Expr.TheFolds.{fold-roll-Expr}
@@ -12,9 +12,9 @@ use Rattle.wap_value.specs.declared.operator.BinOp.{BinOp}
 use Rattle.wap_unit.specs.declared.row.OpName.{OpName}
 use Rattle.wap_execution.specs.declared.action.Action.TheVariants.{AssignVariable}
 use Rattle.wap_execution.specs.Actions.{action_of}
-use Rattle.wap_meaning.specs.coding.Needs.{Variable, expr_needs_by, declared_needs, optional_needs}
-use Rattle.wap_meaning.specs.coding.Needs.{Operator, Need, expr_needs, stmt_needs_by, stmt_needs}
-use Rattle.wap_meaning.specs.Expressions.{assigned, stepped, step_of, eval_by, Around, eval}
+use Rattle.wap_meaning.specs.coding.Needs.{Need, expr_needs_by, expr_needs, optional_needs}
+use Rattle.wap_meaning.specs.coding.Needs.{declared_needs, stmt_needs_by, stmt_needs}
+use Rattle.wap_meaning.specs.Expressions.{Around, eval_by, eval}
 use Rattle.wap_meaning.specs.Statements.{in_order, dropped, Ending, goes_on, declared, run_by_part}
 use Rattle.wap_meaning.specs.Statements.{run, test_of, update_of}
 use Rattle.wap_meaning.specs.coding.Statements.{writes, changed_code, effect_code, stmt_code_by}
@@ -34,7 +34,7 @@ use Rattle.wap_meaning.specs.SourceParts.{Came, gave, over, Does, from, give, do
 use Rattle.wap_meaning.specs.Names.{variable_at}
 use Rattle.std.specs.Prelude.{if◌then◌else◌}
 use Rattle.wap_meaning.specs.coding.Constants.{Numbers}
-use Rattle.wap_meaning.specs.coding.Expressions.{store_code, change_name, expr_code}
+use Rattle.wap_meaning.specs.coding.Expressions.{expr_code}
 use Rattle.wap_meaning.proofs.Following.{keeps_both}
 use Rattle.wap_compiled_laws.proofs.Pieces.Pieces.{Site, onto, empty_piece}
 use Rattle.wap_compiled_laws.proofs.Pieces.Instructions.{nothing}
@@ -90,38 +90,25 @@ module _ {S : Type 0} (site : Site S) (numbers : Numbers)
 
   -- ---- expressions as statements
 
-  -- an expression is this assignment
-  abbrev HasParts : Id → BinOp → Expr → Expr → Type 0
-  HasParts v binop right e = roll-Expr (Expr-F.Assign v (Some binop) right) ≡ e
-
-  -- `x += e` and `x -= e`, where e doesn't write x
-  adding_agrees : (v : Id) {binop : BinOp} (name : OpName) (right : Expr) {e : Expr}
-      → action_of name ≡ AssignVariable binop → HasParts v binop right e
-      → writes numbers.names right (variable_at numbers.names v) ≡ false
-      → IsMet (expr_needs e)
-      → Runs site (dropped (eval here e))
-      (expr_code numbers right ⨾ with_operand name (variable_at numbers.names v))
+  -- an expression agrees as a statement, where it does so by its parts
+  by_parts : (x : Expr-F Expr) {e : Expr} {coded : Coded} → roll-Expr x ≡ e
+      → (IsMet (expr_needs_by (map-Expr Expr (List Need) expr_needs x))
+      → Runs site (dropped (eval_by here (map-Expr Expr (Does Value S) (eval here) x))) coded)
+      → IsMet (expr_needs e) → Runs site (dropped (eval here e)) coded
   unfolding eval expr_needs
-  adding_agrees v {binop} name right {e} acts is none met =
-      let index = variable_at numbers.names v in
-      let needs : expr_needs e ≡ Variable v ∷ Operator binop ∷ expr_needs right =
-      ap expr_needs (sym is)
-      ∙ fold-roll-Expr (List Need) expr_needs_by (Expr-F.Assign v (Some binop) right) in
-      let met' : IsMet (Variable v ∷ Operator binop ∷ expr_needs right) = subst IsMet needs met in
-      let evals : assigned site.string index (Some binop) (eval here right) ≡ eval here e =
-      sym (fold-roll-Expr (Does Value S) (eval_by here) (Expr-F.Assign v (Some binop) right))
-      ∙ ap (eval here) is in
-      subst (λ (does : Does Value S). Runs site (dropped does)
-      (expr_code numbers right ⨾ with_operand name index)) evals
-      (adding_piece site name acts met'.1.0 (omega (arith, met'.0, counted))
-      (expr_agrees right met'.1.1) (spares here index right none))
+  by_parts x {coded} is parts met =
+      subst (λ (does : Does Value S). Runs site (dropped does) coded)
+      (sym (fold-roll-Expr (Does Value S) (eval_by here) x) ∙ ap (eval here) is)
+      (parts (subst IsMet
+      (ap expr_needs (sym is) ∙ fold-roll-Expr (List Need) expr_needs_by x) met))
 
-  -- the same, whether it does or not
+  -- `x += e` and `x -= e`, whether e writes x or not
   changed_runs : (v : Id) {binop : BinOp} (name : OpName) (right : Expr) {e : Expr}
-      → action_of name ≡ AssignVariable binop → HasParts v binop right e → IsMet (expr_needs e)
+      → action_of name ≡ AssignVariable binop
+      → roll-Expr (Expr-F.Assign v (Some binop) right) ≡ e → IsMet (expr_needs e)
       → Runs site (dropped (eval here e))
       (changed_code numbers (variable_at numbers.names v) name right (expr_code numbers e))
-  changed_runs v name right {e} acts is met =
+  changed_runs v {binop} name right {e} acts is met =
       by (writes numbers.names right (variable_at numbers.names v)) refl
     where
       by : (does : Bool) → writes numbers.names right (variable_at numbers.names v) ≡ does
@@ -129,49 +116,24 @@ module _ {S : Type 0} (site : Site S) (numbers : Numbers)
           (if does then dropped_code (expr_code numbers e)
           else expr_code numbers right ⨾ with_operand name (variable_at numbers.names v))
       by true writes = dropped_runs site (expr_agrees e met)
-      by false writes = adding_agrees v name right acts is writes met
-
-  -- `x = e`
-  taken_runs : (v : Id) (right e : Expr) → roll-Expr (Expr-F.Assign v None right) ≡ e
-      → IsMet (expr_needs e)
-      → Runs site (dropped (eval here e))
-      (expr_code numbers right ⨾ store_code (variable_at numbers.names v))
-  unfolding eval expr_needs
-  taken_runs v right e is met =
-      let index = variable_at numbers.names v in
-      let needs : expr_needs e ≡ Variable v ∷ expr_needs right =
-      ap expr_needs (sym is)
-      ∙ fold-roll-Expr (List Need) expr_needs_by (Expr-F.Assign v None right) in
-      let met' : IsMet (Variable v ∷ expr_needs right) = subst IsMet needs met in
-      let evals : assigned site.string index None (eval here right) ≡ eval here e =
-      sym (fold-roll-Expr (Does Value S) (eval_by here) (Expr-F.Assign v None right))
-      ∙ ap (eval here) is in
-      subst (λ (does : Does Value S). Runs site (dropped does)
-      (expr_code numbers right ⨾ store_code index)) evals (assigned_runs site index
-      (expr_agrees right met'.1))
-
-  -- `x++`, `++x`, `x--` and `--x`
-  step_runs : (v : Id) (up prefix : Bool) (e : Expr) → roll-Expr (Expr-F.Step v up prefix) ≡ e
-      → Runs site (dropped (eval here e))
-      (with_operand (change_name up) (variable_at numbers.names v))
-  unfolding eval
-  step_runs v up prefix e is =
-      let index = variable_at numbers.names v in
-      let evals : stepped index (step_of up) prefix ≡ eval here e =
-      sym (fold-roll-Expr (Does Value S) (eval_by here) (Expr-F.Step v up prefix))
-      ∙ ap (eval here) is in
-      subst (λ (does : Does Value S). Runs site (dropped does)
-      (with_operand (change_name up) index)) evals (stepped_runs site index up prefix)
+      by false none = by_parts (Expr-F.Assign v (Some binop) right) is (λ parts.
+          adding_piece site name acts parts.1.0 (omega (arith, parts.0, counted))
+          (expr_agrees right parts.1.1)
+          (spares here (variable_at numbers.names v) right none)) met
 
   -- an expression as a statement
   effect_runs : (x : Expr-F Expr) (e : Expr) → roll-Expr x ≡ e → IsMet (expr_needs e)
       → Runs site (dropped (eval here e)) (effect_code numbers x (expr_code numbers e))
-  effect_runs (Expr-F.Assign v None right) e is met = taken_runs v right e is met
+  effect_runs (Expr-F.Assign v None right) e is met =
+      by_parts (Expr-F.Assign v None right) is (λ parts.
+      assigned_runs site (variable_at numbers.names v) (expr_agrees right parts.1)) met
   effect_runs (Expr-F.Assign v (Some bin.Add) right) e is met =
       changed_runs v op.AddAsg right refl is met
   effect_runs (Expr-F.Assign v (Some bin.Sub) right) e is met =
       changed_runs v op.SubAsg right refl is met
-  effect_runs (Expr-F.Step v up prefix) e is met = step_runs v up prefix e is
+  effect_runs (Expr-F.Step v up prefix) e is met =
+      by_parts (Expr-F.Step v up prefix) is (λ parts.
+      stepped_runs site (variable_at numbers.names v) up prefix) met
   effect_runs _ e is met = dropped_runs site (expr_agrees e met)
 
   -- ---- lists
