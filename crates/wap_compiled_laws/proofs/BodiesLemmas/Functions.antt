@@ -18,7 +18,7 @@ use Rattle.wap_execution.specs.Outcomes.{value, Ended}
 use Rattle.wap_execution.specs.Running.{ended, Calls, at_place, goes}
 use Rattle.wap_execution.specs.laws.Forgetting.{forgotten}
 use Rattle.wap_meaning.specs.Names.{names_in}
-use Rattle.wap_meaning.specs.Statements.{Ending, goes_on, breaks, continues, returns, in_order, run}
+use Rattle.wap_meaning.specs.Statements.{Ending, goes_on, in_order, run}
 use Rattle.wap_meaning.specs.Functions.{result_of, run_body, first_values, function_runs}
 use Rattle.wap_meaning.specs.Functions.{program_runs, plain_ways, code_runs, unit_runs}
 use Rattle.wap_meaning.specs.Keeping.{GiveNoTurns}
@@ -76,9 +76,7 @@ module _ {S : Type 0} (site : Site S) (numbers : Numbers)
           ≡ ended (value (result_of ending)) turns state
       by end last goes_on variables turns state =
           at_end site.string site.call site.falls site.function variables [] last
-      by end last breaks variables turns state = refl
-      by end last continues variables turns state = refl
-      by end last (returns v) variables turns state = refl
+      by end last _ variables turns state = refl
 
 -- ---- a function and its code
 

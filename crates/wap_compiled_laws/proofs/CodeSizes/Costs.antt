@@ -1,6 +1,6 @@
 -- What pieces of code cost: their operands have room, and they have as many bytes as the wide size
 -- says, but for those that ADD_ASG and SUB_ASG save.
-use Rattle.std.proofs.Common.{◌≡◌, ℕ, ◌+◌, ◌-◌, ◌<◌, Bool, true, false, ◌&&◌, List, [], ◌∷◌, ◌++◌}
+use Rattle.std.proofs.Common.{◌≡◌, ℕ, ◌+◌, ◌<◌, Bool, true, false, ◌&&◌, List, [], ◌∷◌}
 use Rattle.std.proofs.Common.{Some, None, refl, subst, arith, nat_lt}
 use Rattle.std.specs.List.{AllByRecursion, sum_by}
 use Rattle.std.specs.Option.{option_map_or}
@@ -16,6 +16,7 @@ use Rattle.wap_asm.specs.declared.form.Form.TheVariants.{Op}
 use Rattle.wap_meaning.specs.coding.Coded.{Exits, Coded, empty, one, ◌⨾◌, label, jump_over}
 use Rattle.wap_meaning.specs.coding.Coded.{jump_before, within}
 use Rattle.wap_meaning.specs.compiled.Savings.{form_saves, saved}
+use Rattle.wap_compiled_laws.proofs.CodeSizes.Each.{each_both}
 
 -- ---- one form
 
@@ -60,20 +61,14 @@ pub record Costs (inside : Bool) (coded : Coded) (size : ℕ) : Type 0 where
   pub costs : (exits : Exits) (i : ℕ) → Allowed inside exits
       → sum_by cost (coded.forms exits i) ≡ size
 
--- one list of forms, and another
-fits_both : (some other : List Form) → AllByRecursion Fits some → AllByRecursion Fits other
-    → AllByRecursion Fits (some ++ other)
-fits_both [] other ones twos = twos
-fits_both (form ∷ some) other ones twos = (ones.0, fits_both some other ones.1 twos)
-
 module _ (inside : Bool) where
   -- one piece after the other
   pub costs_both : {first second : Coded} {m n : ℕ} → Costs inside first m → Costs inside second n
       → Costs inside (first ⨾ second) (m + n)
   costs_both {first} {second} ones twos = record {
     fits = λ exits i.
-        fits_both (first.forms exits i) (second.forms exits (i + first.size)) (ones.fits exits i)
-        (twos.fits exits (i + first.size));
+        each_both Fits (first.forms exits i) (second.forms exits (i + first.size))
+        (ones.fits exits i) (twos.fits exits (i + first.size));
     costs = λ exits i allowed.
         omega (
           arith,

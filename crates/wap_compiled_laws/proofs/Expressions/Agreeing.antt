@@ -12,7 +12,7 @@ use Rattle.wap_execution.specs.Actions.{action_of}
 use Rattle.wap_execution.specs.Effects.{jumps_at}
 use Rattle.wap_meaning.specs.SourceParts.{Does, ◌>>=◌, give, kept}
 use Rattle.wap_meaning.specs.Expressions.{stepped, step_of, each_of, joined}
-use Rattle.wap_meaning.specs.coding.Coded.{Coded, one, ◌⨾◌, plain}
+use Rattle.wap_meaning.specs.coding.Coded.{Coded, ◌⨾◌, plain}
 use Rattle.wap_meaning.specs.coding.Expressions.{binary_name, joined_code, cond_code, step_code}
 use Rattle.wap_meaning.proofs.Following.{Gave, gave_any, from_gave}
 use Rattle.wap_compiled_laws.proofs.Pieces.Pieces.{Site, onto, Piece, both}

@@ -1,5 +1,5 @@
 -- Each expression and its code agree.
-use Rattle.std.proofs.Common.{◌≡◌, ℕ, ◌-◌, Bool, true, false, cond, ℤ, ◌-ℤ◌, List, [], ◌∷◌}
+use Rattle.std.proofs.Common.{◌≡◌, ℕ, Bool, true, false, cond, ℤ, ◌-ℤ◌, List, [], ◌∷◌}
 use Rattle.std.proofs.Common.{◌++◌, length, Option, Some, None, Result, Ok, Err, map, refl, sym, ap}
 use Rattle.std.proofs.Common.{◌∙◌, subst, arith, pos, negsuc, option_and_then, add-zero}
 use Rattle.std.specs.List.{flat_map}

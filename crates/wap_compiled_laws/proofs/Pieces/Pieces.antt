@@ -1,6 +1,6 @@
 -- Pieces of placed code do what parts of the source do, and pieces that follow one another what one
 -- part and then the next does.
-use Rattle.std.proofs.Common.{◌≡◌, ℕ, zero, suc, ◌+◌, ◌-◌, ◌<◌, ◌≤◌}
+use Rattle.std.proofs.Common.{◌≡◌, ℕ, zero, suc, ◌+◌, ◌<◌, ◌≤◌}
 use Rattle.std.proofs.Common.{List, [], ◌∷◌, ◌++◌, length, Some, None, Ok, refl, sym, ap, ◌∙◌}
 use Rattle.std.proofs.Common.{append_assoc, subst, arith, length-append, slice_get, le_trans}
 use Rattle.std.proofs.lemmas.Bool.{ltb-false}
@@ -8,7 +8,7 @@ use Rattle.wap_value.specs.declared.value.Value.{Value}
 use Rattle.wap_unit.specs.declared.row.OpName.{OpName}
 use Rattle.wap_unit.specs.declared.row.Row.{Row}
 use Rattle.wap_unit.specs.declared.instr.Instr.{Instr}
-use Rattle.wap_unit.specs.Instructions.{size, read_row}
+use Rattle.wap_unit.specs.Instructions.{read_row}
 use Rattle.wap_asm.specs.Spellings.{operation_of}
 use Rattle.wap_execution.specs.Actions.{action_of}
 use Rattle.wap_execution.specs.declared.action.Action.{Action}

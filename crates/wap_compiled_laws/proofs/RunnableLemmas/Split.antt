@@ -20,8 +20,6 @@ use Rattle.wap_unit.specs.declared.instr.Instr.{Instr}
 use Rattle.wap_unit.specs.Instructions.{has_code, row_of, read_row}
 use Rattle.wap_asm.specs.Spellings.{longest}
 use Rattle.wap_unit.specs.Rows.{rows}
-use Rattle.wap_unit.specs.Libraries.{lib_args}
-use Rattle.wap_unit.specs.Strings.{string_at}
 use Rattle.wap_asm.specs.declared.form.Form.{Form}
 use Rattle.wap_asm.specs.declared.form.Form.TheVariants.{Op, Jump, Label}
 use Rattle.wap_verify.specs.declared.step.Step.{Step}
@@ -170,26 +168,13 @@ module _ (site : Walk)
     next = pos (k + 1);
   }
 
-  -- its operands are there too
-  there_too : (kind : Operands) (one other : Instr) → one.a ≡ other.a → one.b ≡ other.b
-      → AreThere unit (function.args + function.locals) kind one
-      → AreThere unit (function.args + function.locals) kind other
-  there_too operands.Plain one other a b there = tt
-  there_too operands.Variable one other a b there =
-      subst (λ n. n < function.args + function.locals) a there
-  there_too operands.Constant one other a b there =
-      subst (λ n. n < length unit.constants) a there
-  there_too operands.Function one other a b there =
-      subst (λ n. n < length unit.functions) a there
-  there_too operands.Library one other a b there = (
-    there.0,
-    subst (λ n. lib_args n other.a ≡ Some there.0) b
-        (subst (λ n. lib_args one.b n ≡ Some there.0) a there.1),
-  )
-  there_too operands.Address one other a b there = (
-    (there.0.0, subst (λ n. string_at unit n ≡ Some there.0.0) a there.0.1),
-    (there.1.0, subst (λ n. string_at unit n ≡ Some there.1.0) b there.1.1),
-  )
+  -- what its operands name is there, however it is spelled and wherever it ends
+  there_too : (kind : Operands) (form : Instr) (name : OpName) (next : ℕ)
+      → AreThere unit (function.args + function.locals) kind form
+      → AreThere unit (function.args + function.locals) kind
+      (record { name = name; a = form.a; b = form.b; c = form.c; next = next })
+  there_too operands.Plain form name next there = tt
+  there_too _ form name next there = there
 
   module _ (k : ℕ) (form : Instr) (here : slice_get forms k ≡ Some (Op form)) where
     abbrev found : Stands function.code (pos k) form.name (read_as k form here)
@@ -199,7 +184,8 @@ module _ (site : Walk)
     named : AreThere unit (function.args + function.locals) (kind_of form.name)
         (read_as k form here)
     named =
-        there_too (kind_of form.name) form (read_as k form here) refl refl (ranged k form here)
+        there_too (kind_of form.name) form (placed.ops k form here).0 (pos (k + 1))
+        (ranged k form here)
 
     -- its row is as its flow says
     says : {flow : Flow} → flow_of unit form ≡ flow → Says unit found.row (read_as k form here) flow
@@ -215,13 +201,15 @@ module _ (site : Walk)
         → Has (pos k) (pos (k + 1)) None
     goes_step {takes} {gives} flows =
         plain_step unit index function form.name (read_as k form here) found named
-        (ap (λ s. s.0) (says flows)) refl (λ takes gives. refl) (λ takes gives. refl) (λ takes gives. refl)
+        (ap (λ s. s.0) (says flows)) refl (λ takes gives. refl) (λ takes gives. refl)
+        (λ takes gives. refl)
 
     -- or leaves the function
     leaves_step : {takes : ℕ} → flow_of unit form ≡ leaves takes → Has (pos k) (pos (k + 1)) None
     leaves_step {takes} flows =
         plain_step unit index function form.name (read_as k form here) found named
-        (ap (λ s. s.0) (says flows)) refl (λ takes gives. refl) (λ takes gives. refl) (λ takes gives. refl)
+        (ap (λ s. s.0) (says flows)) refl (λ takes gives. refl) (λ takes gives. refl)
+        (λ takes gives. refl)
 
     -- or is one with the jump behind it
     short_step : flow_of unit form ≡ short
@@ -250,14 +238,14 @@ module _ (site : Walk)
           subst (λ (t : ℕ). Has (pos k) (pos (k + 1)) (Some t)) jump.lands
           (subst (λ (m : ℕ). Has (pos k) m (Some (jump.instr.next + jump.instr.a))) jump.ends
           (plain_step unit index function op.JumpFw jump.instr jump.stands tt
-          (ap (λ s. s.0) (stands_as unit jump.stands)) refl (λ takes gives. refl) (λ takes gives. refl)
-          (λ takes gives. refl)))
+          (ap (λ s. s.0) (stands_as unit jump.stands)) refl (λ takes gives. refl)
+          (λ takes gives. refl) (λ takes gives. refl)))
       by (tests less) jump =
           subst (λ (t : ℕ). Has (pos k) (pos (k + 1)) (Some t)) jump.lands
           (subst (λ (m : ℕ). Has (pos k) m (Some (jump.instr.next + jump.instr.a))) jump.ends
           (plain_step unit index function op.TjumpFw jump.instr jump.stands tt
-          (ap (λ s. s.0) (stands_as unit jump.stands)) refl (λ takes gives. refl) (λ takes gives. refl)
-          (λ takes gives. refl)))
+          (ap (λ s. s.0) (stands_as unit jump.stands)) refl (λ takes gives. refl)
+          (λ takes gives. refl) (λ takes gives. refl)))
       by (backward less) jump =
           subst (λ (t : ℕ). Has (pos k) (pos (k + 1)) (Some t)) jump.lands.1
           (subst (λ (m : ℕ). Has (pos k) m (Some (pos k - jump.instr.a))) jump.ends

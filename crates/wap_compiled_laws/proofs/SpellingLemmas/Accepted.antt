@@ -27,8 +27,7 @@ use Rattle.wap_unit.specs.Units.{IsUnit}
 use Rattle.wap_unit.specs.Spelling.{spelling, HasSpelling}
 use Rattle.wap_meaning.specs.Names.{Names, url_of, url_in, names_in}
 use Rattle.wap_meaning.specs.coding.Constants.{is_in, same_literal, with_literal, pooled}
-use Rattle.wap_meaning.specs.coding.Needs.{Need, Constant, Operator, Variable, Local, Other}
-use Rattle.wap_meaning.specs.coding.Needs.{Library, literals_of, stmt_needs}
+use Rattle.wap_meaning.specs.coding.Needs.{Need, Constant, Other, literals_of, stmt_needs}
 use Rattle.wap_meaning.specs.needs.Drawn.{use_needs, function_needs}
 use Rattle.wap_meaning.proofs.NeedsLemmas.Drawing.{Draws, several}
 use Rattle.wap_meaning.proofs.NeedsLemmas.Statements.{draws_statement}
@@ -155,12 +154,9 @@ needs_said : (names : Names)
     → AllByRecursion CanBeSaid (flat_map (literals_of names) ns)
 needs_said names urls [] said = tt
 needs_said names urls (Constant l ∷ ns) said = (said.0, needs_said names urls ns said.1)
-needs_said names urls (Operator o ∷ ns) said = needs_said names urls ns said.1
-needs_said names urls (Variable v ∷ ns) said = needs_said names urls ns said.1
-needs_said names urls (Local f count ∷ ns) said = needs_said names urls ns said.1
 needs_said names urls (Other u f ∷ ns) said =
     (url_said u.name names.urls urls, (said.0, needs_said names urls ns said.1))
-needs_said names urls (Library l f count ∷ ns) said = needs_said names urls ns said.1
+needs_said names urls (_ ∷ ns) said = needs_said names urls ns said.1
 
 functions_said : (p : Program)
     → AllByRecursion (λ (pair : List ℕ × List ℕ). all_scalars pair.1 ≡ true)
@@ -213,20 +209,11 @@ known_right l (x ∷ xs) ys known = by (known_right l xs ys known)
         or_true false there = there
     by (inr none) = inr none
 
-all_left : (ls xs ys : List Literal) → AllByRecursion (Known xs) ls
-    → AllByRecursion (Known (xs ++ ys)) ls
-all_left [] xs ys known = tt
-all_left (l ∷ ls) xs ys known = (known_left l xs ys known.0, all_left ls xs ys known.1)
-
-all_right : (ls xs ys : List Literal) → AllByRecursion (Known ys) ls
-    → AllByRecursion (Known (xs ++ ys)) ls
-all_right [] xs ys known = tt
-all_right (l ∷ ls) xs ys known = (known_right l xs ys known.0, all_right ls xs ys known.1)
-
 -- literals know themselves
 all_known : (xs : List Literal) → AllByRecursion (Known xs) xs
 all_known [] = tt
-all_known (x ∷ xs) = (known_first x xs, all_right xs (x ∷ []) xs (all_known xs))
+all_known (x ∷ xs) =
+    (known_first x xs, each_then (λ l. known_right l (x ∷ []) xs) xs (all_known xs))
 
 -- lists in a row, each of which knows the other's literals
 flat_known : {X : Type 0} (g h : X → List Literal) → ((x : X) → AllByRecursion (Known (g x)) (h x))
@@ -234,8 +221,8 @@ flat_known : {X : Type 0} (g h : X → List Literal) → ((x : X) → AllByRecur
 flat_known g h each [] = tt
 flat_known g h each (x ∷ xs) =
     each_both (Known (g x ++ flat_map g xs)) (h x) (flat_map h xs)
-    (all_left (h x) (g x) (flat_map g xs) (each x))
-    (all_right (flat_map h xs) (g x) (flat_map g xs) (flat_known g h each xs))
+    (each_then (λ l. known_left l (g x) (flat_map g xs)) (h x) (each x))
+    (each_then (λ l. known_right l (g x) (flat_map g xs)) (flat_map h xs) (flat_known g h each xs))
 
 use_known : (u : Use) → AllByRecursion (Known (use_texts u)) (use_literals u)
 use_known (Url name url) = tt
@@ -332,7 +319,7 @@ module _ (p : Program) where
   needed_known =
       each_both (Known (texts ++ others)) (flat_map use_literals p.uses)
       (flat_map (function_literals p) p.functions)
-      (all_left (flat_map use_literals p.uses) texts others
+      (each_then (λ l. known_left l texts others) (flat_map use_literals p.uses)
       (flat_known use_texts use_literals use_known p.uses)) (each_then
       (λ l known. either_both l texts others known) (flat_map (function_literals p) p.functions)
       (functions_known p.functions))
@@ -351,11 +338,8 @@ needs_size (n ∷ ns) =
   where
     one : (n : Need) → sum_by text_size (need_texts n) ≡ need_size n
     one (Constant l) = omega (arith, sum_by-cons text_size l [])
-    one (Operator o) = refl
-    one (Variable v) = refl
-    one (Local f count) = refl
     one (Other u f) = omega (arith, sum_by-cons text_size (literal.Str f.name) [])
-    one (Library l f count) = refl
+    one _ = refl
 
 -- a pragma has no more bytes than its texts and what names them
 use_size : (src : List ℕ) (number : List ℕ → ℕ) (u : Use)

@@ -6,7 +6,7 @@ use Rattle.std.proofs.lemmas.List.Sums.{sum_by-cons, sum_by-append}
 use Rattle.wap_grammar.specs.declared.program.expression.Literal.{Literal}
 use Rattle.wap_meaning.specs.coding.Constants.{same_literal, is_in, with_literal, pooled}
 use Rattle.wap_meaning.proofs.NeedsLemmas.Once.{same_is}
-use Rattle.wap_compiled_laws.proofs.BodiesLemmas.Pooled.{in_more}
+use Rattle.wap_compiled_laws.proofs.BodiesLemmas.Pooled.{in_more, in_end}
 use Rattle.wap_compiled_laws.proofs.SourceSizes.Sizes.{text_size}
 
 -- some literals without the first that is this one
@@ -56,16 +56,6 @@ stays l k (x ∷ xs) other there =
     by false false first second there further =
         ap (λ (b : Bool). b || is_in k (without l xs)) second ∙ further there
 
--- a literal that is added at the end is there
-in_end : (k l : Literal) (pool : List Literal) → same_literal k l ≡ true
-    → is_in k (pool ++ l ∷ []) ≡ true
-in_end k l [] same = ap (λ (b : Bool). b || false) same
-in_end k l (x ∷ pool) same = by (same_literal k x) (in_end k l pool same)
-  where
-    by : (b : Bool) → is_in k (pool ++ l ∷ []) ≡ true → (b || is_in k (pool ++ l ∷ [])) ≡ true
-    by true there = refl
-    by false there = there
-
 module _ (some : List Literal) where
   -- each of them is in the pool or left
   abbrev Kept : List Literal → List Literal → Type 0
@@ -106,9 +96,6 @@ module _ (some : List Literal) where
       still (inl known) = absurd (cc (sym known ∙ new))
       still (inr left) = left
 
-      longer : (k : Literal) (xs : List Literal) → is_in k xs ≡ true → is_in k (xs ++ l ∷ []) ≡ true
-      longer k xs known = in_more k xs (l ∷ []) known
-
       by : (k : Literal) (b : Bool) → same_literal l k ≡ b
           → (is_in k pool ≡ true) ⊎ (is_in k paid.left ≡ true)
           → (is_in k (pool ++ l ∷ []) ≡ true) ⊎ (is_in k (without l paid.left) ≡ true)
@@ -116,7 +103,7 @@ module _ (some : List Literal) where
           let e : l ≡ k = same_is l k is in
           inl (in_end k l pool (subst (λ (z : Literal). same_literal z l ≡ true) e
           (subst (λ (z : Literal). same_literal l z ≡ true) (sym e) is)))
-      by k false is (inl known) = inl (longer k pool known)
+      by k false is (inl known) = inl (in_more k pool (l ∷ []) known)
       by k false is (inr left) = inr (stays l k paid.left is left)
 
   -- one without a text

@@ -8,7 +8,7 @@ use Rattle.wap_execution.specs.Effects.{jumps_at}
 use Rattle.wap_execution.specs.Outcomes.{Ended}
 use Rattle.wap_meaning.specs.SourceParts.{Does, ◌>>=◌, done, give, turn}
 use Rattle.wap_meaning.specs.Statements.{Ending, goes_on, if_continues, looped, loop}
-use Rattle.wap_meaning.specs.coding.Coded.{Exits, Coded, empty, one, ◌⨾◌, jump_over}
+use Rattle.wap_meaning.specs.coding.Coded.{Exits, Coded, empty, ◌⨾◌, jump_over}
 use Rattle.wap_meaning.specs.coding.Statements.{branch_code, loop_code}
 use Rattle.wap_meaning.proofs.Following.{from_done_where, done_same, lessened}
 use Rattle.wap_meaning.specs.Keeping.{Keeps}

@@ -79,9 +79,7 @@ module _ {S : Type 0} (site : Site S) where
           ≡ done (if_goes_on next ending variables turns state)
           (leaves exits (i + second.size) operands)
       by goes_on = twos.follows
-      by breaks = λ exits i reach holds variables fits operands turns state. refl
-      by continues = λ exits i reach holds variables fits operands turns state. refl
-      by (returns v) = λ exits i reach holds variables fits operands turns state. refl
+      by _ = λ exits i reach holds variables fits operands turns state. refl
 
   -- no statement
   pub empty_runs : Runs (give goes_on) empty
