@@ -42,7 +42,7 @@ use Rattle.wap_meaning.specs.compiled.Units.{forms_of, compiled_function, compil
 use Rattle.wap_meaning.specs.compiled.Wide.{function_wide}
 use Rattle.wap_meaning.specs.compiled.Accepted.{HasRoom}
 use Rattle.wap_meaning.specs.compiled.Savings.{saved, function_saves}
-use Rattle.wap_compiled_laws.proofs.CodeSizes.Each.{each_front, each_back}
+use Rattle.wap_meaning.proofs.Each.{each_front, each_back}
 use Rattle.wap_compiled_laws.proofs.CodeSizes.Costs.{Fits, has_room, both_costs}
 use Rattle.wap_compiled_laws.proofs.CodeSizes.Places.{Place, numbers, Given}
 use Rattle.wap_compiled_laws.proofs.CodeSizes.Bodies.{DoesCost, body_good}

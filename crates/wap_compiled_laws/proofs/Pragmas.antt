@@ -15,7 +15,7 @@ use Rattle.wap_compiled_laws.proofs.BodiesLemmas.Pooled.{text_at}
 use Rattle.wap_verify.specs.Sound.{indexes, stray_pragma}
 use Rattle.wap_meaning.specs.compiled.Pool.{use_literals}
 use Rattle.wap_meaning.specs.compiled.Units.{pragmas_of, text_place}
-use Rattle.wap_compiled_laws.proofs.CodeSizes.Each.{each_front, each_back, each_both}
+use Rattle.wap_meaning.proofs.Each.{each_front, each_back, each_both}
 use Rattle.wap_compiled_laws.proofs.BodiesLemmas.Pooled.{InPool}
 use Rattle.std.proofs.Common.{arith}
 use Rattle.std.proofs.lemmas.Grind.{common_steps}

@@ -1,3 +1,4 @@
+pub mod Each
 pub mod Following
 pub mod KeepingParts
 pub mod Meanings

@@ -7,7 +7,7 @@ use Rattle.wap_base.specs.declared.limits.TheConstants.{MOST_DEPTH}
 use Rattle.wap_value.specs.declared.value.Value.{Value}
 use Rattle.wap_unit.specs.declared.unit.Code.{Code}
 use Rattle.wap_execution.specs.Frames.{Function, code_at, begun}
-use Rattle.wap_execution.specs.Outcomes.{Outcome, value, exit, fatal, waits, stuck, Hosting}
+use Rattle.wap_execution.specs.Outcomes.{Outcome, waits, stuck, Hosting}
 use Rattle.wap_execution.specs.Running.{ended, Calls, called, goes, began, enter}
 use Rattle.wap_execution.specs.laws.Settings.{uncounted}
 use Rattle.wap_execution.specs.laws.Forgetting.{forgotten_by, forgotten}
@@ -18,11 +18,8 @@ use Rattle.wap_meaning.specs.Functions.{RunsAsMachines}
 -- what is forgotten once is forgotten twice
 forgotten_twice : {S : Type 0} (outcome : Outcome) (turns : ℕ) (state : S)
     → forgotten_by outcome turns state ≡ forgotten (forgotten_by outcome turns state)
-forgotten_twice (value v) turns state = refl
-forgotten_twice (exit v) turns state = refl
-forgotten_twice (fatal why) turns state = refl
 forgotten_twice (waits dialog frames) turns state = refl
-forgotten_twice stuck turns state = refl
+forgotten_twice _ turns state = refl
 
 module _ {S : Type 0} (limits : Limits) (host : Hosting S) (more : ℕ) (function : Function) where
   -- what its calls come to, with the frames that wait

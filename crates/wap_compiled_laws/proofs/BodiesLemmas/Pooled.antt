@@ -35,7 +35,7 @@ is_same (literal.Str s) able = (bytes_decides s s).1 refl
 is_same _ able = absurd able
 
 -- what is in the pool stands at its place
-stands : (l : Literal) (pool : List Literal) → is_in l pool ≡ true
+pub stands : (l : Literal) (pool : List Literal) → is_in l pool ≡ true
     → slice_get pool (place_in l pool) ≡ Some l
 stands l [] there = absurd (cc there)
 stands l (x ∷ pool) there = by (same_literal l x) refl there (stands l pool)

@@ -16,7 +16,7 @@ use Rattle.wap_asm.specs.declared.form.Form.TheVariants.{Op}
 use Rattle.wap_meaning.specs.coding.Coded.{Exits, Coded, empty, one, ◌⨾◌, label, jump_over}
 use Rattle.wap_meaning.specs.coding.Coded.{jump_before, within}
 use Rattle.wap_meaning.specs.compiled.Savings.{form_saves, saved}
-use Rattle.wap_compiled_laws.proofs.CodeSizes.Each.{each_both}
+use Rattle.wap_meaning.proofs.Each.{each_both}
 
 -- ---- one form
 

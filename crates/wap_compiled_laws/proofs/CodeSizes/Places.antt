@@ -1,6 +1,5 @@
 -- A function of a program, its unit and the constants of the unit.
-use Rattle.std.proofs.Common.{◌≡◌, ℕ, ◌≤◌, ◌<◌, suc, Bool, true, false, ◌||◌, cond, List, []}
-use Rattle.std.proofs.Common.{◌∷◌, length, arith, slice_get}
+use Rattle.std.proofs.Common.{◌≡◌, ℕ, ◌≤◌, ◌<◌, true, List, length, slice_get}
 use Rattle.std.specs.Option.{option_map}
 use Rattle.wap_value.specs.Binary.{TakesBoth}
 use Rattle.wap_unit.specs.declared.unit.Unit.{Unit as CodeUnit}
@@ -12,22 +11,10 @@ use Rattle.wap_grammar.specs.declared.program.expression.Literal.TheVariants as 
 use Rattle.wap_scope.specs.Names.{Reference}
 use Rattle.wap_scope.specs.accepted.Known.{variables, IsKnown}
 use Rattle.wap_meaning.specs.Names.{url_of}
-use Rattle.wap_meaning.specs.coding.Constants.{Numbers, HasPool, same_literal, is_in, place_in}
+use Rattle.wap_meaning.specs.coding.Constants.{Numbers, HasPool, is_in}
 use Rattle.wap_meaning.specs.coding.Compiled.{numbers_in}
 use Rattle.wap_meaning.specs.coding.Needs.{Need, Constant, Operator, Other}
 use Rattle.wap_compiled_laws.proofs.BodiesLemmas.Pooled.{InPool}
-
--- what is in a list has a place within it
-pub place_within : (l : Literal) (pool : List Literal) → is_in l pool ≡ true
-    → place_in l pool < length pool
-place_within l [] there = absurd (cc there)
-place_within l (x ∷ pool) there = by (same_literal l x) there (place_within l pool)
-  where
-    by : (same : Bool) → (same || is_in l pool) ≡ true
-        → (is_in l pool ≡ true → place_in l pool < length pool)
-        → cond same 0 (suc (place_in l pool)) < suc (length pool)
-    by true there further = omega arith
-    by false there further = omega (arith, further there)
 
 -- a function of a program, its unit and the constants of the unit
 pub record Place : Type 0 where

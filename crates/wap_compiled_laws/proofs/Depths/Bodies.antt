@@ -21,7 +21,7 @@ use Rattle.wap_meaning.specs.coding.Constants.{Numbers}
 use Rattle.wap_meaning.specs.coding.Needs.{IsMet, AreMet, stmt_needs}
 use Rattle.wap_meaning.specs.coding.Statements.{stmt_code}
 use Rattle.wap_compiled_laws.proofs.Pieces.Pieces.{holds_all}
-use Rattle.wap_compiled_laws.proofs.CodeSizes.Each.{each_any}
+use Rattle.wap_meaning.proofs.Each.{each_any}
 use Rattle.wap_compiled_laws.proofs.Labels.Ranges.{AreThere, function_within}
 use Rattle.wap_compiled_laws.proofs.Labels.Wired.{IsOperation, WiredForm}
 use Rattle.wap_compiled_laws.proofs.Depths.Flow.{Flow, goes}

@@ -31,7 +31,7 @@ use Rattle.wap_meaning.specs.coding.Constants.{Numbers, text_number, url_number}
 use Rattle.wap_meaning.specs.coding.Expressions.{literal_code, unary_code, expr_code_by, expr_code}
 use Rattle.wap_meaning.specs.coding.Needs.{Need, IsMet, AreMet, literal_needs, expr_needs_by}
 use Rattle.wap_meaning.specs.coding.Needs.{expr_needs}
-use Rattle.wap_compiled_laws.proofs.CodeSizes.Each.{each_front, each_back}
+use Rattle.wap_meaning.proofs.Each.{each_front, each_back}
 use Rattle.wap_compiled_laws.proofs.Pieces.Pieces.{Site, onto, Piece, both, op_piece}
 use Rattle.wap_compiled_laws.proofs.Pieces.Instructions.{as_is, pushed, kept_settles, load_piece}
 use Rattle.wap_compiled_laws.proofs.Pieces.Instructions.{unary_piece, binary_piece}

@@ -28,7 +28,7 @@ use Rattle.wap_meaning.specs.compiled.Wide.{expr_wide_by, expr_wide, effect_wide
 use Rattle.wap_meaning.specs.compiled.Wide.{declared_wide, loop_wide}
 use Rattle.wap_meaning.specs.compiled.Savings.{effect_saves, effect_saves_if}
 use Rattle.wap_compiled_laws.proofs.Depths.Flow.{goes}
-use Rattle.wap_compiled_laws.proofs.CodeSizes.Each.{each_of}
+use Rattle.wap_meaning.proofs.Each.{each_of}
 use Rattle.wap_compiled_laws.proofs.Induction.Pieces.{HasFacts, Saves, Setting}
 use Rattle.wap_compiled_laws.proofs.Induction.Known.{Known, front, behind, Met, none_met, both_met}
 use Rattle.wap_compiled_laws.proofs.Induction.Known.{KnownOf, unrolled}

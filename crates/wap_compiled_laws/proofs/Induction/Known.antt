@@ -7,7 +7,7 @@ use Rattle.wap_grammar.specs.declared.program.expression.Expr.TheOpen.{Expr-F}
 use Rattle.wap_grammar.specs.declared.program.expression.Expr.TheFolds.{fold-roll-Expr}
 use Rattle.wap_scope.specs.Names.{Reference, references, references_by, Refers}
 use Rattle.wap_meaning.specs.coding.Needs.{Need, IsMet, AreMet, expr_needs_by, expr_needs}
-use Rattle.wap_compiled_laws.proofs.CodeSizes.Each.{each_front, each_back, each_both}
+use Rattle.wap_meaning.proofs.Each.{each_front, each_back, each_both}
 use Rattle.wap_compiled_laws.proofs.Induction.Pieces.{Setting}
 
 module _ (here : Setting) where

@@ -37,7 +37,7 @@ use Rattle.wap_meaning.specs.compiled.Pool.{text_if, use_literals, function_lite
 use Rattle.wap_meaning.specs.compiled.Pool.{literals_needed, pool}
 use Rattle.wap_meaning.specs.compiled.Units.{pragmas_of, text_place, compiled}
 use Rattle.wap_meaning.specs.compiled.Accepted.{IsAccepted}
-use Rattle.wap_compiled_laws.proofs.CodeSizes.Each.{each_front, each_back, each_both, each_then}
+use Rattle.wap_meaning.proofs.Each.{each_front, each_back, each_both, each_then}
 use Rattle.wap_compiled_laws.proofs.SpellingLemmas.Written.{pragma_size}
 use Rattle.wap_compiled_laws.proofs.SourceSizes.Sizes.{text_size, CanBeSaid}
 use Rattle.wap_compiled_laws.proofs.SpellingLemmas.Units.{CanBeSpelled, is_spelled}

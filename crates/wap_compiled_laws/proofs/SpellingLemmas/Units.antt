@@ -10,6 +10,7 @@ use Rattle.std.proofs.Math.Nat.{mul-suc}
 use Rattle.std.proofs.lemmas.List.{length-map, length-append}
 use Rattle.std.proofs.lemmas.List.Elements.{recursion_from_All}
 use Rattle.std.proofs.lemmas.List.Sums.{sum_by-cons}
+use Rattle.std.proofs.lemmas.Option.{slice_get_within}
 use Rattle.wap_base.specs.Numbers.{mb_spelling}
 use Rattle.wap_unit.specs.declared.unit.Pragma.{Pragma}
 use Rattle.wap_unit.specs.declared.unit.Pragma.TheVariants as pragma
@@ -24,7 +25,7 @@ use Rattle.wap_grammar.specs.declared.program.expression.Literal.TheVariants.{St
 use Rattle.wap_scope.specs.Scoped.{IsScoped}
 use Rattle.wap_scope.proofs.AcceptedLemmas.Places.{all_by_places}
 use Rattle.wap_meaning.proofs.Variables.{variables_first}
-use Rattle.wap_meaning.specs.coding.Constants.{constant_for}
+use Rattle.wap_meaning.specs.coding.Constants.{place_in, constant_for}
 use Rattle.wap_unit.specs.Sequences.{IsRow, IsCounted}
 use Rattle.wap_unit.specs.Units.{IsConstant, AreConstants, IsPragma, IsName, IsFunction}
 use Rattle.wap_unit.specs.Units.{AreFunctions, IsBody, IsUnit}
@@ -36,9 +37,8 @@ use Rattle.wap_meaning.specs.compiled.Units.{pragmas_of, text_place, is_short, e
 use Rattle.wap_meaning.specs.compiled.Units.{forms_of, compiled_function, compiled}
 use Rattle.wap_meaning.specs.compiled.Wide.{function_wide}
 use Rattle.wap_meaning.specs.compiled.Accepted.{HasRoom}
-use Rattle.wap_compiled_laws.proofs.CodeSizes.Each.{each_front, each_back, each_both}
-use Rattle.wap_compiled_laws.proofs.CodeSizes.Places.{place_within}
-use Rattle.wap_compiled_laws.proofs.BodiesLemmas.Pooled.{InPool}
+use Rattle.wap_meaning.proofs.Each.{each_front, each_back, each_both}
+use Rattle.wap_compiled_laws.proofs.BodiesLemmas.Pooled.{stands, InPool}
 use Rattle.wap_compiled_laws.proofs.Functions.{AllTake, Among, in_uses, few_functions}
 use Rattle.wap_compiled_laws.proofs.Functions.{few_variables, wide_exact, placeable, one_of}
 use Rattle.wap_compiled_laws.proofs.SpellingLemmas.Written.{bytes_both, Written, in_turn, row}
@@ -100,7 +100,13 @@ constants_written (l ∷ ls) said few =
 module _ (constants : List Literal) (few : length constants ≤ 65536) where
   -- the number of a text that is there
   small : (t : List ℕ) → InPool constants (Str t) → text_place constants t < 65536
-  small t there = omega (arith, place_within (Str t) constants (there tt), few)
+  small t there =
+      omega (
+        arith,
+        slice_get_within constants (place_in (Str t) constants) (Str t)
+            (stands (Str t) constants (there tt)),
+        few,
+      )
 
   use_small : (x : Use) → AllByRecursion (InPool constants) (use_literals x)
       → AllByRecursion HasSmall (pragmas_of (text_place constants) x)

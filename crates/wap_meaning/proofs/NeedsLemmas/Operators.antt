@@ -1,5 +1,5 @@
 -- The operators of a program's assignments take both values: they stand so in the table of words.
-use Rattle.std.proofs.Common.{◌≡◌, ℕ, Bool, true, false, cond, List, [], ◌∷◌, ◌++◌}
+use Rattle.std.proofs.Common.{◌≡◌, ℕ, Bool, true, false, cond, List, [], ◌∷◌}
 use Rattle.std.proofs.Common.{Some, refl, subst, unwrap_or}
 use Rattle.std.specs.List.{All, AllByRecursion, list_all, flat_map}
 use Rattle.std.specs.Map.{lookup}
@@ -22,6 +22,7 @@ use Rattle.wap_grammar.specs.Programs.{Spells}
 use Rattle.wap_meaning.specs.coding.Needs.{Need, Operator}
 use Rattle.wap_meaning.specs.needs.Drawn.{use_needs, function_needs, program_needs, HasOperator}
 use Rattle.wap_meaning.specs.needs.Drawn.{StandsFor, Drawn, no_more, skip, here}
+use Rattle.wap_meaning.proofs.Each.{each_front, each_back}
 use Rattle.wap_meaning.proofs.NeedsLemmas.Programs.{drawn}
 
 -- whether an operator takes both values
@@ -101,22 +102,12 @@ drawn_fine src x' ns' y fine (here l n x ns y' is rest) =
 
 -- ---- of each function
 
-back : (P : Need → Type 0) (some other : List Need) → AllByRecursion P (some ++ other)
-    → AllByRecursion P other
-back P [] other all = all
-back P (n ∷ some) other all = back P some other all.1
-
-front : (P : Need → Type 0) (some other : List Need) → AllByRecursion P (some ++ other)
-    → AllByRecursion P some
-front P [] other all = tt
-front P (n ∷ some) other all = (all.0, front P some other all.1)
-
 each : (P : Need → Type 0) (fs : List Function) → AllByRecursion P (flat_map function_needs fs)
     → AllByRecursion (λ (f : Function). AllByRecursion P (function_needs f)) fs
 each P [] all = tt
 each P (f ∷ fs) all = (
-  front P (function_needs f) (flat_map function_needs fs) all,
-  each P fs (back P (function_needs f) (flat_map function_needs fs) all),
+  each_front P (function_needs f) (flat_map function_needs fs) all,
+  each P fs (each_back P (function_needs f) (flat_map function_needs fs) all),
 )
 
 pub operators : (src : List ℕ) (tokens : List Token) (p : Program)
@@ -127,4 +118,4 @@ operators src tokens p spelled =
     (drawn src (lexemes_of src tokens) p spelled) in
     All-from_recursion (λ (f : Function). AllByRecursion HasOperator (function_needs f)) p.functions
     (each HasOperator p.functions
-    (back HasOperator (flat_map use_needs p.uses) (flat_map function_needs p.functions) all))
+    (each_back HasOperator (flat_map use_needs p.uses) (flat_map function_needs p.functions) all))
