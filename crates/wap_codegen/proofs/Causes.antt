@@ -82,9 +82,7 @@ unit_cause src p spelled scoped (CodeTooLong function wide) (few, first) = recor
   first = first;
 }
 unit_cause src p spelled scoped NoMemory is = tt
-unit_cause src p spelled scoped (Lex fault) is = absurd is
-unit_cause src p spelled scoped (Parse fault) is = absurd is
-unit_cause src p spelled scoped (Scope fault) is = absurd is
+unit_cause src p spelled scoped _ is = absurd is
 
 -- ---- sources that are accepted
 

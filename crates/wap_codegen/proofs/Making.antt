@@ -1,7 +1,6 @@
 -- What the code of a function is made from.
-use Rattle.std.proofs.Common.{◌≡◌, ℕ, suc, ◌+◌, ◌*◌, ◌≤◌, List, [], ◌∷◌, length, map, sym, ap}
-use Rattle.std.proofs.Common.{◌∙◌, subst, None, refl}
-use Rattle.std.proofs.lemmas.List.{length-append}
+use Rattle.std.proofs.Common.{◌≡◌, ℕ, ◌+◌, ◌*◌, ◌≤◌, List, length, map, sym, ap, ◌∙◌, subst, None}
+use Rattle.std.proofs.lemmas.List.{length-append, length-map}
 use Rattle.wap_asm.specs.declared.form.Form.{Form}
 use Rattle.wap_asm.specs.Placing.{wide, placed}
 use Rattle.wap_unit.specs.declared.unit.Code.{Code}
@@ -18,8 +17,7 @@ use Rattle.wap_meaning.specs.compiled.Pool.{pool}
 use Rattle.wap_meaning.specs.compiled.Units.{forms_of, compiled_function}
 use Rattle.wap_meaning.specs.compiled.Wide.{function_wide}
 use Rattle.wap_codegen.specs.declared.fault.CompileFault.{CompileFault}
-use Rattle.wap_codegen.specs.declared.fault.CompileFault.TheVariants.{Lex, Parse, Scope, NoMemory}
-use Rattle.wap_codegen.specs.declared.fault.CompileFault.TheVariants.{TooManyConstants, CodeTooLong}
+use Rattle.wap_codegen.specs.declared.fault.CompileFault.TheVariants.{NoMemory, CodeTooLong}
 use Rattle.wap_meaning.specs.compiled.Savings.{saved, function_saves}
 use Rattle.wap_meaning.specs.compiled.Accepted.{most_code}
 use Rattle.wap_compiled_laws.specs.Laws.{HasForms}
@@ -55,11 +53,7 @@ pub locals_counted : (f : Function) → length (variables f) ≡ length f.params
 locals_counted f =
     ap length (parameters_first f)
     ∙ length-append (map (λ (v : Id). v.name) f.params) (locals f)
-    ∙ ap (λ (count : ℕ). count + length (locals f)) (as_many f.params)
-  where
-    as_many : (params : List Id) → length (map (λ (v : Id). v.name) params) ≡ length params
-    as_many [] = refl
-    as_many (v ∷ params) = ap suc (as_many params)
+    ∙ ap (λ (count : ℕ). count + length (locals f)) (length-map f.params (λ (v : Id). v.name))
 
 -- numbers that change in nothing but variables
 pub still_numbers : (p : Program) (before now : Numbers) → AreNumbersOf p before
@@ -118,7 +112,4 @@ function_cause p index f forms same has (CodeTooLong function bytes) (there, siz
   long,
 )
 function_cause p index f forms same has NoMemory is = tt
-function_cause p index f forms same has (Lex fault) is = absurd is
-function_cause p index f forms same has (Parse fault) is = absurd is
-function_cause p index f forms same has (Scope fault) is = absurd is
-function_cause p index f forms same has (TooManyConstants count) is = absurd is
+function_cause p index f forms same has _ is = absurd is

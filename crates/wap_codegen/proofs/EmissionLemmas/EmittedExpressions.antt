@@ -1,27 +1,22 @@
 -- The code of expressions, by their parts.
-use Rattle.std.proofs.Common.{◌≡◌, ℕ, Bool, true, false, List, [], ◌∷◌, length, map}
-use Rattle.std.proofs.Common.{Option, Result, OnOk, refl, sym, ap, ◌∙◌, subst}
+use Rattle.std.proofs.Common.{◌≡◌, ℕ, Bool, true, false, List, [], ◌∷◌, length, map, Result, OnOk}
+use Rattle.std.proofs.Common.{refl, sym, ap, ◌∙◌, subst}
 use Rattle.std.proofs.lemmas.List.{length-map}
 use Rattle.wap_value.specs.declared.operator.BinOp.{BinOp}
-use Rattle.wap_value.specs.declared.operator.UnOp.{UnOp}
 use Rattle.wap_unit.specs.declared.row.OpName.TheVariants as op
 use Rattle.wap_asm.specs.declared.form.Form.{Form}
 use Rattle.wap_asm.specs.declared.form.Form.TheVariants.{Op}
 use Rattle.wap_grammar.specs.declared.program.program.Id.{Id}
-use Rattle.wap_grammar.specs.declared.program.expression.Literal.{Literal}
 use Rattle.wap_grammar.specs.declared.program.expression.Literal.TheVariants as literal
 use Rattle.wap_grammar.specs.declared.program.expression.Expr.{Expr, roll-Expr, map-Expr}
 use Rattle.wap_grammar.specs.declared.program.expression.Expr.TheOpen.{Expr-F}
 use Rattle.wap_grammar.specs.declared.program.expression.Expr.TheFolds.{fold-roll-Expr}
 use Rattle.wap_grammar.specs.declared.program.expression.Expr.TheVariants as expr
-use Rattle.wap_meaning.specs.Names.{variable_at, function_at, numbers_of}
 use Rattle.wap_meaning.specs.coding.Coded.{Coded, one, ◌⨾◌, all_code, instr, plain, with_operand}
 use Rattle.wap_meaning.specs.coding.Constants.{Numbers, text_number, url_number}
-use Rattle.wap_meaning.specs.coding.Expressions.{literal_code, load_code, assigned_code, step_code}
-use Rattle.wap_meaning.specs.coding.Expressions.{unary_code, chain_code, cond_code, expr_code_by}
-use Rattle.wap_meaning.specs.coding.Expressions.{expr_code}
+use Rattle.wap_meaning.specs.coding.Expressions.{literal_code, expr_code_by, expr_code}
 use Rattle.wap_codegen.specs.emission.inside.Adding.{Extends}
-use Rattle.wap_codegen.specs.emission.inside.Operands.{coded, Chains, truth_name}
+use Rattle.wap_codegen.specs.emission.inside.Operands.{Chains, truth_name}
 
 -- a text that isn't empty is a constant
 pub text_code : (numbers : Numbers) (text : List ℕ) → (text ≡ [] → ⊥)
@@ -48,52 +43,18 @@ module _ (numbers : Numbers) where
   code = expr_code numbers
 
   -- the code of an expression, by its form
-  by_form : (x : Expr-F Expr) (e : Expr) → roll-Expr x ≡ e
+  pub by_form : (x : Expr-F Expr) {e : Expr} → roll-Expr x ≡ e
       → code e ≡ expr_code_by numbers (map-Expr Expr Coded code x)
   unfolding expr_code
-  by_form x e is = ap code (sym is) ∙ fold-roll-Expr Coded (expr_code_by numbers) x
-
-  pub of_literal : (l : Literal) → code (expr.Lit l) ≡ literal_code numbers l
-  of_literal l = by_form _ _ (expr.rolls-Lit l)
-
-  pub of_variable : (v : Id) → code (expr.Var v) ≡ load_code (variable_at numbers.names v)
-  of_variable v = by_form _ _ (expr.rolls-Var v)
-
-  pub of_assignment : (v : Id) (o : Option BinOp) (e : Expr) → code (expr.Assign v o e)
-      ≡ assigned_code (variable_at numbers.names v) o (code e)
-  of_assignment v o e = by_form _ _ (expr.rolls-Assign v o e)
-
-  pub of_step : (v : Id) (up before : Bool) → code (expr.Step v up before)
-      ≡ step_code (variable_at numbers.names v) up before
-  of_step v up before = by_form _ _ (expr.rolls-Step v up before)
-
-  pub of_unary : (o : UnOp) (e : Expr) → code (expr.Unary o e) ≡ code e ⨾ unary_code o
-  of_unary o e = by_form _ _ (expr.rolls-Unary o e)
-
-  pub of_chain : (e : Expr) (operands : List (BinOp × Expr)) → code (expr.Chain e operands)
-      ≡ chain_code (code e) (coded numbers operands)
-  of_chain e operands = by_form _ _ (expr.rolls-Chain e operands)
-
-  pub of_choice : (c first second : Expr) → code (expr.Cond c first second)
-      ≡ cond_code (code c) (code first) (code second)
-  of_choice c first second = by_form _ _ (expr.rolls-Cond c first second)
-
-  pub of_local : (f : Id) (es : List Expr) → code (expr.Call f es)
-      ≡ all_code (map code es) ⨾ with_operand op.Call (function_at numbers.names f)
-  of_local f es = by_form _ _ (expr.rolls-Call f es)
+  by_form x is = ap code (sym is) ∙ fold-roll-Expr Coded (expr_code_by numbers) x
 
   pub of_external : (unit f : Id) (es : List Expr) → code (expr.External unit f es)
       ≡ all_code (map code es) ⨾ one (λ exits at.
       Op (instr op.CallUrl (url_number numbers unit) (text_number numbers f.name) (length es)))
-  of_external unit f es = by_form _ _ (expr.rolls-External unit f es)
+  of_external unit f es = by_form _ (expr.rolls-External unit f es)
       ∙ ap (λ count. all_code (map code es) ⨾ one (λ exits at.
       Op (instr op.CallUrl (url_number numbers unit) (text_number numbers f.name) count)))
       (length-map es code)
-
-  pub of_library : (l f : Id) (es : List Expr) → code (expr.Library l f es)
-      ≡ all_code (map code es) ⨾ one (λ exits at.
-      Op (instr op.CallLib (numbers_of l f).1 (numbers_of l f).0 0))
-  of_library l f es = by_form _ _ (expr.rolls-Library l f es)
 
 -- ---- the same parts
 

@@ -1,16 +1,13 @@
 -- Which variables expressions write, by their parts.
-use Rattle.std.proofs.Common.{◌≡◌, ℕ, Bool, false, nat_eq, ◌||◌, List, [], ◌∷◌, map, Option}
-use Rattle.std.proofs.Common.{refl, sym, ap, ◌∙◌}
+use Rattle.std.proofs.Common.{◌≡◌, ℕ, Bool, ◌||◌, List, [], ◌∷◌, map, refl, sym, ap, ◌∙◌}
 use Rattle.std.specs.List.{list_any}
 use Rattle.wap_value.specs.declared.operator.BinOp.{BinOp}
-use Rattle.wap_value.specs.declared.operator.UnOp.{UnOp}
 use Rattle.wap_grammar.specs.declared.program.program.Id.{Id}
-use Rattle.wap_grammar.specs.declared.program.expression.Literal.{Literal}
 use Rattle.wap_grammar.specs.declared.program.expression.Expr.{Expr, roll-Expr, map-Expr}
 use Rattle.wap_grammar.specs.declared.program.expression.Expr.TheOpen.{Expr-F}
 use Rattle.wap_grammar.specs.declared.program.expression.Expr.TheFolds.{fold-roll-Expr}
 use Rattle.wap_grammar.specs.declared.program.expression.Expr.TheVariants as expr
-use Rattle.wap_meaning.specs.Names.{Names, variable_at}
+use Rattle.wap_meaning.specs.Names.{Names}
 use Rattle.wap_meaning.specs.coding.Statements.{writes, writes_by}
 
 any_mapped : {X Y : Type 0} (f : X → Y) (test : Y → Bool) (xs : List X) →
@@ -26,46 +23,25 @@ module _ (names : Names) (index : ℕ) where
   does e = writes names e index
 
   -- whether an expression writes the variable, by its form
-  by_form : (x : Expr-F Expr) (e : Expr) → roll-Expr x ≡ e
+  pub by_form : (x : Expr-F Expr) {e : Expr} → roll-Expr x ≡ e
       → does e ≡ writes_by names (map-Expr Expr (ℕ → Bool) (writes names) x) index
   unfolding writes
-  by_form x e is = ap does (sym is) ∙ ap at (fold-roll-Expr (ℕ → Bool) (writes_by names) x)
-
-  pub of_literal : (l : Literal) → does (expr.Lit l) ≡ false
-  of_literal l = by_form _ _ (expr.rolls-Lit l)
-
-  pub of_variable : (v : Id) → does (expr.Var v) ≡ false
-  of_variable v = by_form _ _ (expr.rolls-Var v)
-
-  pub of_assignment : (v : Id) (o : Option BinOp) (e : Expr) →
-      does (expr.Assign v o e) ≡ (nat_eq (variable_at names v) index || does e)
-  of_assignment v o e = by_form _ _ (expr.rolls-Assign v o e)
-
-  pub of_step : (v : Id) (up before : Bool) →
-      does (expr.Step v up before) ≡ nat_eq (variable_at names v) index
-  of_step v up before = by_form _ _ (expr.rolls-Step v up before)
-
-  pub of_unary : (o : UnOp) (e : Expr) → does (expr.Unary o e) ≡ does e
-  of_unary o e = by_form _ _ (expr.rolls-Unary o e)
+  by_form x is = ap does (sym is) ∙ ap at (fold-roll-Expr (ℕ → Bool) (writes_by names) x)
 
   pub of_chain : (e : Expr) (operands : List (BinOp × Expr)) → does (expr.Chain e operands)
       ≡ (does e || list_any (λ operand. does operand.1) operands)
-  of_chain e operands = by_form _ _ (expr.rolls-Chain e operands)
+  of_chain e operands = by_form _ (expr.rolls-Chain e operands)
       ∙ ap (λ rest. does e || rest)
       (any_mapped (λ (operand : BinOp × Expr). (operand.0, writes names operand.1))
       (λ (operand : BinOp × (ℕ → Bool)). operand.1 index) operands)
 
-  pub of_choice : (c first second : Expr) → does (expr.Cond c first second)
-      ≡ (does c || (does first || does second))
-  of_choice c first second = by_form _ _ (expr.rolls-Cond c first second)
-
   pub of_local : (f : Id) (es : List Expr) → does (expr.Call f es) ≡ list_any does es
-  of_local f es = by_form _ _ (expr.rolls-Call f es) ∙ any_mapped (writes names) at es
+  of_local f es = by_form _ (expr.rolls-Call f es) ∙ any_mapped (writes names) at es
 
   pub of_external : (unit f : Id) (es : List Expr) →
       does (expr.External unit f es) ≡ list_any does es
   of_external unit f es =
-      by_form _ _ (expr.rolls-External unit f es) ∙ any_mapped (writes names) at es
+      by_form _ (expr.rolls-External unit f es) ∙ any_mapped (writes names) at es
 
   pub of_library : (l f : Id) (es : List Expr) → does (expr.Library l f es) ≡ list_any does es
-  of_library l f es = by_form _ _ (expr.rolls-Library l f es) ∙ any_mapped (writes names) at es
+  of_library l f es = by_form _ (expr.rolls-Library l f es) ∙ any_mapped (writes names) at es

@@ -6,6 +6,7 @@ use Rattle.wap_grammar.specs.declared.program.program.Span.{Span}
 use Rattle.wap_grammar.specs.declared.program.expression.Literal.{Literal}
 use Rattle.wap_grammar.specs.declared.program.expression.Literal.TheVariants as literal
 use Rattle.wap_grammar.specs.declared.program.expression.Expr.{Expr}
+use Rattle.wap_grammar.specs.declared.program.expression.Expr.TheVariants as expr
 use Rattle.wap_grammar.specs.declared.program.statement.Stmt.{Stmt}
 use Rattle.wap_grammar.specs.declared.program.statement.Stmt.TheVariants as stmt
 use Rattle.wap_grammar.specs.declared.callee.Callee.{Callee}
@@ -26,12 +27,8 @@ use Rattle.wap_meaning.specs.coding.Needs.{expr_needs, stmt_needs}
 use Rattle.wap_meaning.specs.coding.Needs as need
 use Rattle.wap_meaning.specs.needs.Drawn.{StandsFor, Drawn, no_more}
 use Rattle.wap_meaning.proofs.NeedsLemmas.Drawing.{Draws}
-use Rattle.wap_meaning.proofs.NeedsLemmas.TreeNeeds.{of_literal, of_variable, of_assignment}
-use Rattle.wap_meaning.proofs.NeedsLemmas.TreeNeeds.{of_step, of_unary, of_chain, of_choice}
-use Rattle.wap_meaning.proofs.NeedsLemmas.TreeNeeds.{of_local, of_external, of_library}
-use Rattle.wap_meaning.proofs.NeedsLemmas.TreeNeeds.{of_empty, of_value, of_block, of_variables}
-use Rattle.wap_meaning.proofs.NeedsLemmas.TreeNeeds.{of_if, of_else, of_while, of_for, of_break}
-use Rattle.wap_meaning.proofs.NeedsLemmas.TreeNeeds.{of_continue, of_return}
+use Rattle.wap_meaning.proofs.NeedsLemmas.TreeNeeds.{by_form, of_chain, of_local, of_external}
+use Rattle.wap_meaning.proofs.NeedsLemmas.TreeNeeds.{of_library, by_statement, of_block}
 
 -- what a call with so many arguments needs
 abbrev callee_needs : ℕ → Callee → List Need
@@ -52,8 +49,8 @@ else_needs (Some s) = stmt_needs s
 
 if_needs : (c : Expr) (s : Stmt) (other : Option Stmt) →
     stmt_needs (stmt.If c s other) ≡ expr_needs c ++ (stmt_needs s ++ else_needs other)
-if_needs c s None = of_if c s
-if_needs c s (Some other) = of_else c s other
+if_needs c s None = by_statement _ (stmt.rolls-If c s None)
+if_needs c s (Some other) = by_statement _ (stmt.rolls-If c s (Some other))
 
 module _ (src : List ℕ) where
   draws_callee : (count : ℕ) → Draws src (callee_needs count) (IsCallee src)
@@ -90,24 +87,24 @@ module _ (src : List ℕ) where
     at_literal = draws_literal;
     at_callee = draws_callee;
     at_jump = λ w word x. over (no_more x);
-    of_literal = of_literal;
-    of_variable = of_variable;
-    of_step = of_step;
-    of_assignment = of_assignment;
-    of_unary = of_unary;
+    of_literal = λ l. by_form _ (expr.rolls-Lit l);
+    of_variable = λ v. by_form _ (expr.rolls-Var v);
+    of_step = λ v up before. by_form _ (expr.rolls-Step v up before);
+    of_assignment = λ v o e. by_form _ (expr.rolls-Assign v o e);
+    of_unary = λ o e. by_form _ (expr.rolls-Unary o e);
     of_chain = of_chain;
-    of_choice = of_choice;
+    of_choice = λ c first second. by_form _ (expr.rolls-Cond c first second);
     of_call = call_needs;
-    of_empty = λ inside. of_empty;
-    of_value = λ inside. of_value;
+    of_empty = λ inside. by_statement _ stmt.rolls-Empty;
+    of_value = λ inside e. by_statement _ (stmt.rolls-Expr e);
     of_block = λ inside. of_block;
-    of_variables = λ inside. of_variables;
+    of_variables = λ inside pairs. by_statement _ (stmt.rolls-Vars pairs);
     of_if = λ inside. if_needs;
-    of_while = λ inside. of_while;
-    of_for = λ inside. of_for;
-    of_break = λ inside. of_break;
-    of_continue = λ inside. of_continue;
-    of_return = λ inside. of_return;
+    of_while = λ inside c s. by_statement _ (stmt.rolls-While c s);
+    of_for = λ inside first c update s. by_statement _ (stmt.rolls-For first c update s);
+    of_break = λ inside word. by_statement _ (stmt.rolls-Break word);
+    of_continue = λ inside word. by_statement _ (stmt.rolls-Continue word);
+    of_return = λ inside e. by_statement _ (stmt.rolls-Return e);
   }
 
   pub draws_statement : (levels : ℕ) → Draws src stmt_needs (IsStatement src levels)

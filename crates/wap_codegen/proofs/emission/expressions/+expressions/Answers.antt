@@ -1,11 +1,9 @@
 use Rattle.std.proofs.Common.{sym, ap, ◌∙◌, map}
 use Rattle.wap_unit.specs.declared.row.OpName.TheVariants as op
+use Rattle.wap_grammar.specs.declared.program.expression.Expr.TheVariants as expr
 use Rattle.wap_meaning.specs.coding.Coded.{◌⨾◌, all_code, with_operand}
 use Rattle.wap_meaning.specs.coding.Expressions.{expr_code, assigned_code, step_code}
-use Rattle.wap_codegen.proofs.EmissionLemmas.EmittedExpressions.{of_literal, of_variable}
-use Rattle.wap_codegen.proofs.EmissionLemmas.EmittedExpressions.{of_assignment, of_step, of_unary}
-use Rattle.wap_codegen.proofs.EmissionLemmas.EmittedExpressions.{of_chain, of_choice, of_local}
-use Rattle.wap_codegen.proofs.EmissionLemmas.EmittedExpressions.{of_external, of_library, call_code}
+use Rattle.wap_codegen.proofs.EmissionLemmas.EmittedExpressions.{call_code, by_form, of_external}
 use Rattle.wap_codegen.proofs.EmissionLemmas.EmittedExpressions.{part_same, parts_same, chains_same}
 use Rattle.wap_codegen.proofs.EmissionLemmas.Chaining.{adds_same, cond_adds, extends_both}
 use Rattle.wap_codegen.proofs.EmissionLemmas.Chaining.{extends_same}
@@ -17,12 +15,13 @@ use Rattle.wap_codegen.proofs.emission.expressions.+expressions.Goals as goal
 pub add_expression-returns-in-Lit : goal.add_expression-returns-in-Lit
 add_expression-returns-in-Lit t c =
     on_ok_weaker _ (extends_same (sym (ap (expr_code c.args.numbering.now) c.in-Lit.is
-    ∙ of_literal _ _))) c.add_literal.ensures
+    ∙ by_form _ _ (expr.rolls-Lit _)))) c.add_literal.ensures
 
 pub add_expression-returns-in-Var : goal.add_expression-returns-in-Var
 add_expression-returns-in-Var t c =
     on_ok_weaker _ (extends_same (ap (λ place. with_operand op.LoadVar place) c.variable.ensures
-    ∙ sym (ap (expr_code c.args.numbering.now) c.in-Var.is ∙ of_variable _ _))) c.add_with.ensures
+    ∙ sym (ap (expr_code c.args.numbering.now) c.in-Var.is
+    ∙ by_form _ _ (expr.rolls-Var _)))) c.add_with.ensures
 
 pub add_expression-returns-in_ok-add_expression-in-Assign :
     goal.add_expression-returns-in_ok-add_expression-in-Assign
@@ -30,7 +29,7 @@ add_expression-returns-in_ok-add_expression-in-Assign t c =
     on_ok_weaker _ (extends_same (ap (λ place. assigned_code place c.in-Assign.operator
     (expr_code c.args.numbering.now c.in-Assign.value)) c.variable-place.ensures
     ∙ sym (ap (expr_code c.args.numbering.now) c.in-Assign.is
-    ∙ of_assignment _ _ _ c.in-Assign.value)))
+    ∙ by_form _ _ (expr.rolls-Assign _ _ c.in-Assign.value))))
     (after_assignment _ _ _ _ _ _ _ _ c.in_ok-add_before-in-Assign.ensures
     (part_same c.args.numbering.now _ _ _ _ c.get.ensures c.in_ok-add_expression-in-Assign.ensures)
     c.add_after.ensures)
@@ -39,13 +38,13 @@ pub add_expression-returns-in-Step : goal.add_expression-returns-in-Step
 add_expression-returns-in-Step t c =
     on_ok_weaker _ (extends_same (ap (λ place. step_code place c.in-Step.up c.in-Step.prefix)
     c.variable-in-Step.ensures ∙ sym (ap (expr_code c.args.numbering.now) c.in-Step.is
-    ∙ of_step _ _ _ _))) c.add_step.ensures
+    ∙ by_form _ _ (expr.rolls-Step _ _ _)))) c.add_step.ensures
 
 pub add_expression-returns-in_ok-add_expression-in-Unary :
     goal.add_expression-returns-in_ok-add_expression-in-Unary
 add_expression-returns-in_ok-add_expression-in-Unary t c =
     on_ok_weaker _ (extends_same (sym (ap (expr_code c.args.numbering.now) c.in-Unary.is
-    ∙ of_unary _ _ _))) (on_ok_weaker _ (extends_both
+    ∙ by_form _ _ (expr.rolls-Unary _ _)))) (on_ok_weaker _ (extends_both
     (part_same c.args.numbering.now _ _ _ _ c.get-in-Unary.ensures
     c.in_ok-add_expression-in-Unary.ensures)) c.add_operator.ensures)
 
@@ -53,8 +52,9 @@ pub add_expression-returns-in_ok-add_expression-in-Chain :
     goal.add_expression-returns-in_ok-add_expression-in-Chain
 add_expression-returns-in_ok-add_expression-in-Chain t c =
     on_ok_weaker _ (extends_same (sym (ap (expr_code c.args.numbering.now) c.in-Chain.is
-    ∙ of_chain _ _ _))) (after_chain c.args.numbering.now _ c.in-Chain.operands _ _
-    c.add_operands.new.forms.items _ (part_same c.args.numbering.now _ _ _ _ c.get-in-Chain.ensures
+    ∙ by_form _ _ (expr.rolls-Chain _ _)))) (after_chain c.args.numbering.now _
+    c.in-Chain.operands _ _ c.add_operands.new.forms.items _
+    (part_same c.args.numbering.now _ _ _ _ c.get-in-Chain.ensures
     c.in_ok-add_expression-in-Chain.ensures)
     (chains_same c.args.numbering.now _ _ _ _ c.add_operands.result c.as_slice.ensures
     c.add_operands.ensures))
@@ -62,7 +62,8 @@ add_expression-returns-in_ok-add_expression-in-Chain t c =
 pub add_expression-returns-in_ok-end-in-Cond : goal.add_expression-returns-in_ok-end-in-Cond
 add_expression-returns-in_ok-end-in-Cond t c = λ exits.
     adds_same (sym (ap (expr_code c.args.numbering.now) c.in-Cond.is
-    ∙ of_choice _ _ _ _)) (cond_adds (part_same c.args.numbering.now _ _ _ _ c.get-in-Cond.ensures
+    ∙ by_form _ _ (expr.rolls-Cond _ _ _))) (cond_adds
+    (part_same c.args.numbering.now _ _ _ _ c.get-in-Cond.ensures
     c.in_ok-add_expression-in-Cond.ensures exits) c.in_ok-test-in-Cond.ensures.added
     c.in_ok-test-in-Cond.ensures.index
     (part_same c.args.numbering.now _ _ _ _ c.get-in-Cond-2.ensures
@@ -80,7 +81,7 @@ add_expression-returns-in_ok-add_arguments-in-Call t c =
     on_ok_weaker _ (extends_same (ap (λ place. all_code
     (map (expr_code c.args.numbering.now) c.in-Call.arguments) ⨾ with_operand op.Call place)
     c.function.ensures ∙ sym (ap (expr_code c.args.numbering.now) c.in-Call.is
-    ∙ of_local _ _ _))) (on_ok_weaker _ (extends_both
+    ∙ by_form _ _ (expr.rolls-Call _ _)))) (on_ok_weaker _ (extends_both
     (parts_same c.args.numbering.now _ _ _ _ c.as_slice-in-Call.ensures
     c.in_ok-add_arguments-in-Call.ensures)) c.add_with-in-Call.ensures)
 
@@ -99,7 +100,7 @@ pub add_expression-returns-in_ok-add_arguments-in-Library :
     goal.add_expression-returns-in_ok-add_arguments-in-Library
 add_expression-returns-in_ok-add_arguments-in-Library t c =
     on_ok_weaker _ (extends_same (sym (ap (expr_code c.args.numbering.now) c.in-Library.is
-    ∙ of_library _ _ _ _))) (on_ok_weaker _ (extends_both
+    ∙ by_form _ _ (expr.rolls-Library _ _ _)))) (on_ok_weaker _ (extends_both
     (parts_same c.args.numbering.now _ _ _ _ c.as_slice-in-Library.ensures
     c.in_ok-add_arguments-in-Library.ensures)) c.add_library_call.ensures)
 

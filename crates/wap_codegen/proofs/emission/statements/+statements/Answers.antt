@@ -18,16 +18,14 @@ use Rattle.wap_codegen.proofs.EmissionLemmas.Chaining.{adds_same, cond_adds, lea
 use Rattle.wap_codegen.proofs.EmissionLemmas.Chaining.{leaves_none}
 use Rattle.wap_codegen.proofs.EmissionLemmas.Branching.{branch_adds, in_break, in_continue}
 use Rattle.wap_codegen.proofs.EmissionLemmas.Looping.{whole_loop}
-use Rattle.wap_codegen.proofs.EmissionLemmas.StatementParts.{of_empty, of_block, of_variables}
-use Rattle.wap_codegen.proofs.EmissionLemmas.StatementParts.{of_if, of_else, of_while, of_same_for}
-use Rattle.wap_codegen.proofs.EmissionLemmas.StatementParts.{of_break, of_continue}
+use Rattle.wap_codegen.proofs.EmissionLemmas.StatementParts.{by_form, of_same_for}
 use Rattle.std.proofs.lemmas.Result.{on_ok_weaker}
 use Rattle.wap_codegen.proofs.emission.statements.+statements.Goals as goal
 
 pub add_statement-returns-in-Empty : goal.add_statement-returns-in-Empty
 add_statement-returns-in-Empty t c =
     adds_same (sym (ap (stmt_code c.args.numbering.now) c.in-Empty.is
-    ∙ of_empty _)) (adds_empty (exits_in c.args.inside) c.args.forms.now.items
+    ∙ by_form _ _ stmt.rolls-Empty)) (adds_empty (exits_in c.args.inside) c.args.forms.now.items
     c.args.forms.now.items refl)
 
 pub add_statements-loop-statement-preserved : goal.add_statements-loop-statement-preserved
@@ -69,14 +67,14 @@ add_statement-returns-in-Block t c =
     on_ok_weaker _ (adds_same (ap (λ (ss : List Stmt). all_code
     (map (stmt_code c.args.numbering.now) ss)) c.as_slice.ensures
     ∙ sym (ap (stmt_code c.args.numbering.now) c.in-Block.is
-    ∙ of_block _ _))) c.add_statements.ensures
+    ∙ by_form _ _ (stmt.rolls-Block _)))) c.add_statements.ensures
 
 pub add_statement-returns-in-Vars : goal.add_statement-returns-in-Vars
 add_statement-returns-in-Vars t c =
     on_ok_weaker _ (adds_same (ap (λ (pairs : List (Id × Option Expr)). all_code
     (map (declared_code c.args.numbering.now) pairs)) c.as_slice-in-Vars.ensures
     ∙ sym (ap (stmt_code c.args.numbering.now) c.in-Vars.is
-    ∙ of_variables _ _))) (on_ok_weaker c.add_declarations.result (λ adds. adds
+    ∙ by_form _ _ (stmt.rolls-Vars _)))) (on_ok_weaker c.add_declarations.result (λ adds. adds
     (exits_in c.args.inside)) c.add_declarations.ensures)
 
 pub add_statement-returns-in_ok-end-in-None : goal.add_statement-returns-in_ok-end-in-None
@@ -85,7 +83,7 @@ add_statement-returns-in_ok-end-in-None t c =
     (stmt_code c.args.numbering.now s)) c.get.ensures
     ∙ sym (ap (stmt_code c.args.numbering.now) (c.in-If.is
     ∙ ap (λ (other : Option Stmt). stmt.If c.in-If.condition c.in-If.body other) c.in-None.is)
-    ∙ of_if _ _ _)) (branch_adds (c.in_ok-add_expression-in-If.ensures
+    ∙ by_form _ _ (stmt.rolls-If _ _ None))) (branch_adds (c.in_ok-add_expression-in-If.ensures
     (exits_in c.args.inside)) c.in_ok-test-in-If.ensures.added c.in_ok-test-in-If.ensures.index
     c.in_ok-add_statement-in-If.ensures (c.in_ok-end-in-None.ensures.added
     (exits_in c.args.inside)) c.in_ok-end-in-None.ensures.number c.close.ensures)
@@ -99,7 +97,7 @@ add_statement-returns-in_ok-end-in-Some t c =
     (stmt_code c.args.numbering.now s)) c.get-in-Some.ensures
     ∙ sym (ap (stmt_code c.args.numbering.now) (c.in-If.is
     ∙ ap (λ (other : Option Stmt). stmt.If c.in-If.condition c.in-If.body other) c.in-Some.is)
-    ∙ of_else _ _ _ _)) (cond_adds (c.in_ok-add_expression-in-If.ensures
+    ∙ by_form _ _ (stmt.rolls-If _ _ (Some _)))) (cond_adds (c.in_ok-add_expression-in-If.ensures
     (exits_in c.args.inside)) c.in_ok-test-in-If.ensures.added c.in_ok-test-in-If.ensures.index
     c.in_ok-add_statement-in-If.ensures c.in_ok-over-in-Some.ensures.added
     c.in_ok-over-in-Some.ensures.index (c.in_ok-no-in-Some.ensures.added
@@ -113,7 +111,7 @@ add_statement-returns-in-While t c =
     on_ok_weaker _ (adds_same (ap (λ (s : Stmt). loop_code (test_code c.args.numbering.now
     (Some c.in-While.condition)) (stmt_code c.args.numbering.now s) empty) c.get-in-While.ensures
     ∙ sym (ap (stmt_code c.args.numbering.now) c.in-While.is
-    ∙ of_while _ _ _))) (on_ok_weaker c.add_loop.result (λ adds. adds
+    ∙ by_form _ _ (stmt.rolls-While _ _)))) (on_ok_weaker c.add_loop.result (λ adds. adds
     (exits_in c.args.inside)) c.add_loop.ensures)
 
 pub add_statement-returns-in_ok-add_statement-in-For :
@@ -131,9 +129,9 @@ add_statement-returns-in_ok-add_statement-in-For t c =
 pub add_statement-returns-in-Break : goal.add_statement-returns-in-Break
 add_statement-returns-in-Break t c =
     on_ok_weaker _ (adds_same (sym (ap (stmt_code c.args.numbering.now) c.in-Break.is
-    ∙ of_break _ _))) (in_break _ _ _ _ c.add_exit.ensures)
+    ∙ by_form _ _ (stmt.rolls-Break _)))) (in_break _ _ _ _ c.add_exit.ensures)
 
 pub add_statement-returns-in-Continue : goal.add_statement-returns-in-Continue
 add_statement-returns-in-Continue t c =
     on_ok_weaker _ (adds_same (sym (ap (stmt_code c.args.numbering.now) c.in-Continue.is
-    ∙ of_continue _ _))) (in_continue _ _ _ _ c.add_exit-in-Continue.ensures)
+    ∙ by_form _ _ (stmt.rolls-Continue _)))) (in_continue _ _ _ _ c.add_exit-in-Continue.ensures)

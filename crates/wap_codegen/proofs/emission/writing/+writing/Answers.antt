@@ -3,10 +3,10 @@ use Rattle.std.proofs.Common.{eq-eqb, ne_eqb}
 use Rattle.std.specs.List.{list_any}
 use Rattle.wap_value.specs.declared.operator.BinOp.{BinOp}
 use Rattle.wap_grammar.specs.declared.program.expression.Expr.{Expr}
+use Rattle.wap_grammar.specs.declared.program.expression.Expr.TheVariants as expr
 use Rattle.wap_meaning.specs.coding.Statements.{writes}
-use Rattle.wap_codegen.proofs.EmissionLemmas.WritingParts.{of_literal, of_variable, of_assignment}
-use Rattle.wap_codegen.proofs.EmissionLemmas.WritingParts.{of_step, of_unary, of_chain, of_choice}
-use Rattle.wap_codegen.proofs.EmissionLemmas.WritingParts.{of_local, of_external, of_library}
+use Rattle.wap_codegen.proofs.EmissionLemmas.WritingParts.{by_form, of_chain, of_local}
+use Rattle.wap_codegen.proofs.EmissionLemmas.WritingParts.{of_external, of_library}
 use Rattle.wap_codegen.proofs.emission.writing.+writing.Goals as goal
 
 -- the first of two decides
@@ -39,12 +39,12 @@ third_of_three true b c is also = absurd (cc is)
 pub writes-returns-in-Lit : goal.writes-returns-in-Lit
 writes-returns-in-Lit t c =
     let does : Expr → Bool = λ e. writes c.args.numbering.now.names e c.args.variable in
-    sym (ap does c.in-Lit.is ∙ of_literal _ _ _)
+    sym (ap does c.in-Lit.is ∙ by_form _ _ _ (expr.rolls-Lit _))
 
 pub writes-returns-in-Var : goal.writes-returns-in-Var
 writes-returns-in-Var t c =
     let does : Expr → Bool = λ e. writes c.args.numbering.now.names e c.args.variable in
-    sym (ap does c.in-Var.is ∙ of_variable _ _ _)
+    sym (ap does c.in-Var.is ∙ by_form _ _ _ (expr.rolls-Var _))
 
 pub writes-returns-then-variable : goal.writes-returns-then-variable
 writes-returns-then-variable t c =
@@ -52,7 +52,7 @@ writes-returns-then-variable t c =
     by_first (eqb c.variable.result c.args.variable) (does c.in-Assign.value)
     (eq-eqb c.variable.result c.args.variable c.if-variable.true)
     ∙ ap (λ place. eqb place c.args.variable || does c.in-Assign.value) c.variable.ensures
-    ∙ sym (ap does c.in-Assign.is ∙ of_assignment _ _ _ _ _)
+    ∙ sym (ap does c.in-Assign.is ∙ by_form _ _ _ (expr.rolls-Assign _ _ _))
 
 pub writes-returns-else-variable : goal.writes-returns-else-variable
 writes-returns-else-variable t c =
@@ -61,19 +61,19 @@ writes-returns-else-variable t c =
     ∙ by_second (eqb c.variable.result c.args.variable) (does c.in-Assign.value)
     (ne_eqb c.variable.result c.args.variable c.if-variable.false)
     ∙ ap (λ place. eqb place c.args.variable || does c.in-Assign.value) c.variable.ensures
-    ∙ sym (ap does c.in-Assign.is ∙ of_assignment _ _ _ _ _)
+    ∙ sym (ap does c.in-Assign.is ∙ by_form _ _ _ (expr.rolls-Assign _ _ _))
 
 pub writes-returns-in-Step : goal.writes-returns-in-Step
 writes-returns-in-Step t c =
     let does : Expr → Bool = λ e. writes c.args.numbering.now.names e c.args.variable in
     ap (λ place. eqb place c.args.variable) c.variable-in-Step.ensures
-    ∙ sym (ap does c.in-Step.is ∙ of_step _ _ _ _ _)
+    ∙ sym (ap does c.in-Step.is ∙ by_form _ _ _ (expr.rolls-Step _ _ _))
 
 pub writes-returns-in-Unary : goal.writes-returns-in-Unary
 writes-returns-in-Unary t c =
     let does : Expr → Bool = λ e. writes c.args.numbering.now.names e c.args.variable in
     c.writes-in-Unary.ensures ∙ ap does c.get-in-Unary.ensures
-    ∙ sym (ap does c.in-Unary.is ∙ of_unary _ _ _ _)
+    ∙ sym (ap does c.in-Unary.is ∙ by_form _ _ _ (expr.rolls-Unary _ _))
 
 pub writes-returns-then-writes : goal.writes-returns-then-writes
 writes-returns-then-writes t c =
@@ -101,7 +101,7 @@ writes-returns-then-writes-2 t c =
     let does : Expr → Bool = λ e. writes c.args.numbering.now.names e c.args.variable in
     first_of_three (does c.in-Cond.condition) (does c.in-Cond.yes) (does c.in-Cond.no)
     (sym (c.writes-in-Cond.ensures ∙ ap does c.get-in-Cond.ensures) ∙ c.if-writes-2.true)
-    ∙ sym (ap does c.in-Cond.is ∙ of_choice _ _ _ _ _)
+    ∙ sym (ap does c.in-Cond.is ∙ by_form _ _ _ (expr.rolls-Cond _ _ _))
 
 pub writes-returns-then-writes-3 : goal.writes-returns-then-writes-3
 writes-returns-then-writes-3 t c =
@@ -109,7 +109,7 @@ writes-returns-then-writes-3 t c =
     second_of_three (does c.in-Cond.condition) (does c.in-Cond.yes) (does c.in-Cond.no)
     (sym (c.writes-in-Cond.ensures ∙ ap does c.get-in-Cond.ensures) ∙ c.if-writes-2.false)
     (sym (c.writes-in-Cond-2.ensures ∙ ap does c.get-in-Cond-2.ensures) ∙ c.if-writes-3.true)
-    ∙ sym (ap does c.in-Cond.is ∙ of_choice _ _ _ _ _)
+    ∙ sym (ap does c.in-Cond.is ∙ by_form _ _ _ (expr.rolls-Cond _ _ _))
 
 pub writes-returns-else-writes-3 : goal.writes-returns-else-writes-3
 writes-returns-else-writes-3 t c =
@@ -118,7 +118,7 @@ writes-returns-else-writes-3 t c =
     ∙ third_of_three (does c.in-Cond.condition) (does c.in-Cond.yes) (does c.in-Cond.no)
     (sym (c.writes-in-Cond.ensures ∙ ap does c.get-in-Cond.ensures) ∙ c.if-writes-2.false)
     (sym (c.writes-in-Cond-2.ensures ∙ ap does c.get-in-Cond-2.ensures) ∙ c.if-writes-3.false)
-    ∙ sym (ap does c.in-Cond.is ∙ of_choice _ _ _ _ _)
+    ∙ sym (ap does c.in-Cond.is ∙ by_form _ _ _ (expr.rolls-Cond _ _ _))
 
 pub writes-returns-in-Call : goal.writes-returns-in-Call
 writes-returns-in-Call t c =

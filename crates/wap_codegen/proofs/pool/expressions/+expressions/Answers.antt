@@ -3,10 +3,10 @@ use Rattle.std.specs.List.{flat_map}
 use Rattle.std.proofs.lemmas.Result.{on_ok_weaker}
 use Rattle.wap_value.specs.declared.operator.BinOp.{BinOp}
 use Rattle.wap_grammar.specs.declared.program.expression.Expr.{Expr}
+use Rattle.wap_grammar.specs.declared.program.expression.Expr.TheVariants as expr
 use Rattle.wap_meaning.specs.coding.Needs.{Local, Other, Library, expr_needs}
-use Rattle.wap_meaning.proofs.NeedsLemmas.TreeNeeds.{of_literal, of_variable, of_assignment}
-use Rattle.wap_meaning.proofs.NeedsLemmas.TreeNeeds.{of_step, of_unary, of_chain, of_choice}
-use Rattle.wap_meaning.proofs.NeedsLemmas.TreeNeeds.{of_local, of_external, of_library}
+use Rattle.wap_meaning.proofs.NeedsLemmas.TreeNeeds.{by_form, of_chain, of_local, of_external}
+use Rattle.wap_meaning.proofs.NeedsLemmas.TreeNeeds.{of_library}
 use Rattle.wap_codegen.proofs.PoolLemmas.Pooling.{pools_none, pools_same, pools_variable}
 use Rattle.wap_codegen.proofs.PoolLemmas.Pooling.{pools_both, pools_local, pools_library}
 use Rattle.wap_codegen.proofs.PoolLemmas.Pooling.{pools_assign, leaves_more, leaves_none}
@@ -15,22 +15,22 @@ use Rattle.wap_codegen.proofs.pool.expressions.+expressions.Goals as goal
 pub add_expression-returns-in-Lit : goal.add_expression-returns-in-Lit
 add_expression-returns-in-Lit t c =
     on_ok_weaker _ (pools_same (sym (ap expr_needs c.in-Lit.is
-    ∙ of_literal _))) c.add_literal.ensures
+    ∙ by_form _ (expr.rolls-Lit _)))) c.add_literal.ensures
 
 pub add_expression-returns-in-Var : goal.add_expression-returns-in-Var
 add_expression-returns-in-Var t c =
     pools_same (sym (ap expr_needs c.in-Var.is
-    ∙ of_variable _)) (pools_variable c.in-Var.field-0 [] _ _ (pools_none _ _ refl))
+    ∙ by_form _ (expr.rolls-Var _))) (pools_variable c.in-Var.field-0 [] _ _ (pools_none _ _ refl))
 
 pub add_expression-returns-in-Step : goal.add_expression-returns-in-Step
 add_expression-returns-in-Step t c =
     pools_same (sym (ap expr_needs c.in-Step.is
-    ∙ of_step _ _ _)) (pools_variable c.in-Step.id [] _ _ (pools_none _ _ refl))
+    ∙ by_form _ (expr.rolls-Step _ _ _))) (pools_variable c.in-Step.id [] _ _ (pools_none _ _ refl))
 
 pub add_expression-returns-in-Assign : goal.add_expression-returns-in-Assign
 add_expression-returns-in-Assign t c =
     on_ok_weaker _ (pools_same (sym (ap expr_needs c.in-Assign.is
-    ∙ of_assignment _ _ c.in-Assign.value))) (on_ok_weaker _
+    ∙ by_form _ (expr.rolls-Assign _ _ c.in-Assign.value)))) (on_ok_weaker _
     (pools_assign c.in-Assign.field-0 c.in-Assign.field-1
     (expr_needs c.in-Assign.value) _ _) (on_ok_weaker _ (pools_same
     (ap expr_needs c.get.ensures)) c.add_expression.ensures))
@@ -38,7 +38,8 @@ add_expression-returns-in-Assign t c =
 pub add_expression-returns-in-Unary : goal.add_expression-returns-in-Unary
 add_expression-returns-in-Unary t c =
     on_ok_weaker _ (pools_same (ap expr_needs c.get-in-Unary.ensures
-    ∙ (sym (ap expr_needs c.in-Unary.is ∙ of_unary _ _)))) c.add_expression-in-Unary.ensures
+    ∙ (sym (ap expr_needs c.in-Unary.is ∙ by_form _ (expr.rolls-Unary _ _)))))
+    c.add_expression-in-Unary.ensures
 
 pub add_expression-returns-in_ok-add_expression-in-Chain :
     goal.add_expression-returns-in_ok-add_expression-in-Chain
@@ -61,7 +62,8 @@ add_expression-returns-in_ok-add_expression-in-Cond-2 t c =
     ∙ ap (λ (e : Expr). expr_needs c.in-Cond.condition ++
     (expr_needs c.in-Cond.yes ++ expr_needs e)) c.get-in-Cond-3.ensures
     ∙ (sym (ap expr_needs c.in-Cond.is
-    ∙ of_choice _ _ _)))) (on_ok_weaker _ (pools_both c.in_ok-add_expression-in-Cond.ensures)
+    ∙ by_form _ (expr.rolls-Cond _ _ _))))) (on_ok_weaker _
+    (pools_both c.in_ok-add_expression-in-Cond.ensures)
     (on_ok_weaker _ (pools_both c.in_ok-add_expression-in-Cond-2.ensures)
     c.add_expression-in-Cond-3.ensures))
 

@@ -1,4 +1,4 @@
-use Rattle.std.proofs.Common.{[], ◌++◌, List, Option, sym, refl, ap, ◌∙◌}
+use Rattle.std.proofs.Common.{[], ◌++◌, List, Option, Some, None, sym, refl, ap, ◌∙◌}
 use Rattle.std.specs.List.{flat_map}
 use Rattle.wap_grammar.specs.declared.program.program.Id.{Id}
 use Rattle.wap_grammar.specs.declared.program.expression.Expr.{Expr}
@@ -6,9 +6,7 @@ use Rattle.wap_grammar.specs.declared.program.statement.Stmt.{Stmt}
 use Rattle.wap_grammar.specs.declared.program.statement.Stmt.TheVariants as stmt
 use Rattle.wap_meaning.specs.coding.Needs.{Need, expr_needs, optional_needs, declared_needs}
 use Rattle.wap_meaning.specs.coding.Needs.{stmt_needs}
-use Rattle.wap_meaning.proofs.NeedsLemmas.TreeNeeds.{of_empty, of_value, of_block, of_variables}
-use Rattle.wap_meaning.proofs.NeedsLemmas.TreeNeeds.{of_if, of_else, of_while, of_for, of_break}
-use Rattle.wap_meaning.proofs.NeedsLemmas.TreeNeeds.{of_continue, of_return}
+use Rattle.wap_meaning.proofs.NeedsLemmas.TreeNeeds.{by_statement, of_block}
 use Rattle.wap_codegen.proofs.PoolLemmas.Pooling.{pools_none, pools_same, pools_both}
 use Rattle.wap_codegen.proofs.PoolLemmas.Pooling.{leaves_more, leaves_none}
 use Rattle.std.proofs.lemmas.Result.{on_ok_weaker}
@@ -16,20 +14,23 @@ use Rattle.wap_codegen.proofs.pool.statements.+statements.Goals as goal
 
 pub add_statement-returns-in-Empty : goal.add_statement-returns-in-Empty
 add_statement-returns-in-Empty t c =
-    pools_same (sym (ap stmt_needs c.in-Empty.is ∙ of_empty)) (pools_none _ _ refl)
+    pools_same (sym (ap stmt_needs c.in-Empty.is ∙ by_statement _ stmt.rolls-Empty))
+    (pools_none _ _ refl)
 
 pub add_statement-returns-in-Break : goal.add_statement-returns-in-Break
 add_statement-returns-in-Break t c =
-    pools_same (sym (ap stmt_needs c.in-Break.is ∙ of_break _)) (pools_none _ _ refl)
+    pools_same (sym (ap stmt_needs c.in-Break.is ∙ by_statement _ (stmt.rolls-Break _)))
+    (pools_none _ _ refl)
 
 pub add_statement-returns-in-Continue : goal.add_statement-returns-in-Continue
 add_statement-returns-in-Continue t c =
-    pools_same (sym (ap stmt_needs c.in-Continue.is ∙ of_continue _)) (pools_none _ _ refl)
+    pools_same (sym (ap stmt_needs c.in-Continue.is ∙ by_statement _ (stmt.rolls-Continue _)))
+    (pools_none _ _ refl)
 
 pub add_statement-returns-in-Expr : goal.add_statement-returns-in-Expr
 add_statement-returns-in-Expr t c =
     on_ok_weaker _ (pools_same (sym (ap stmt_needs c.in-Expr.is
-    ∙ of_value c.in-Expr.value))) c.add_expression.ensures
+    ∙ by_statement _ (stmt.rolls-Expr c.in-Expr.value)))) c.add_expression.ensures
 
 pub add_statement-returns-in-Block : goal.add_statement-returns-in-Block
 add_statement-returns-in-Block t c =
@@ -40,14 +41,15 @@ pub add_statement-returns-in-Vars : goal.add_statement-returns-in-Vars
 add_statement-returns-in-Vars t c =
     on_ok_weaker _ (pools_same (ap (λ (pairs : List
     (Id × Option Expr)). flat_map declared_needs pairs) c.as_slice-in-Vars.ensures
-    ∙ (sym (ap stmt_needs c.in-Vars.is ∙ of_variables _)))) c.add_declarations.ensures
+    ∙ (sym (ap stmt_needs c.in-Vars.is ∙ by_statement _ (stmt.rolls-Vars _)))))
+    c.add_declarations.ensures
 
 pub add_statement-returns-in-None : goal.add_statement-returns-in-None
 add_statement-returns-in-None t c =
     pools_same (ap (λ (s : Stmt). expr_needs c.in-If.condition ++
     (stmt_needs s ++ [])) c.get.ensures ∙ sym (ap stmt_needs (c.in-If.is
     ∙ ap (λ (other : Option Stmt). stmt.If c.in-If.condition c.in-If.body other) c.in-None.is)
-    ∙ of_if _ _)) (pools_both c.in_ok-add_expression-in-If.ensures
+    ∙ by_statement _ (stmt.rolls-If _ _ None))) (pools_both c.in_ok-add_expression-in-If.ensures
     (pools_both c.in_ok-add_statement-in-If.ensures (pools_none _ _ refl)))
 
 pub add_statement-returns-in-Some : goal.add_statement-returns-in-Some
@@ -58,7 +60,8 @@ add_statement-returns-in-Some t c =
     (stmt_needs c.in-If.body ++ stmt_needs s)) c.get-in-Some.ensures
     ∙ sym (ap stmt_needs (c.in-If.is
     ∙ ap (λ (other : Option Stmt). stmt.If c.in-If.condition c.in-If.body other) c.in-Some.is)
-    ∙ of_else _ _ _))) (on_ok_weaker _ (pools_both c.in_ok-add_expression-in-If.ensures)
+    ∙ by_statement _ (stmt.rolls-If _ _ (Some _))))) (on_ok_weaker _
+    (pools_both c.in_ok-add_expression-in-If.ensures)
     (on_ok_weaker _ (pools_both c.in_ok-add_statement-in-If.ensures)
     c.add_statement-in-Some.ensures))
 
@@ -67,7 +70,8 @@ pub add_statement-returns-in_ok-add_expression-in-While :
 add_statement-returns-in_ok-add_expression-in-While t c =
     on_ok_weaker _ (pools_same (ap (λ (s : Stmt). expr_needs c.in-While.condition ++ stmt_needs s)
     c.get-in-While.ensures ∙ (sym (ap stmt_needs c.in-While.is
-    ∙ of_while _ _)))) (on_ok_weaker _ (pools_both c.in_ok-add_expression-in-While.ensures)
+    ∙ by_statement _ (stmt.rolls-While _ _))))) (on_ok_weaker _
+    (pools_both c.in_ok-add_expression-in-While.ensures)
     c.add_statement-in-While.ensures)
 
 pub add_statement-returns-in_ok-add_optional-in-For-2 :
@@ -79,7 +83,7 @@ add_statement-returns-in_ok-add_optional-in-For-2 t c =
     (pools_same (ap (λ (s : Stmt). stmt_needs s ++ rest) c.get-in-For.ensures
     ∙ ap (λ (s : Stmt). stmt_needs c.in-For.first ++ (optional_needs c.in-For.condition
     ++ (optional_needs c.in-For.update ++ stmt_needs s))) c.get-in-For-2.ensures
-    ∙ sym (ap stmt_needs c.in-For.is ∙ of_for _ _ _ _)))
+    ∙ sym (ap stmt_needs c.in-For.is ∙ by_statement _ (stmt.rolls-For _ _ _ _))))
     (on_ok_weaker _ (pools_both c.in_ok-add_statement-in-For.ensures)
     (on_ok_weaker _ (pools_both c.in_ok-add_optional-in-For.ensures)
     (on_ok_weaker _ (pools_both c.in_ok-add_optional-in-For-2.ensures)
@@ -88,7 +92,7 @@ add_statement-returns-in_ok-add_optional-in-For-2 t c =
 pub add_statement-returns-in-Return : goal.add_statement-returns-in-Return
 add_statement-returns-in-Return t c =
     on_ok_weaker _ (pools_same (sym (ap stmt_needs c.in-Return.is
-    ∙ of_return c.in-Return.value))) c.add_optional-in-Return.ensures
+    ∙ by_statement _ (stmt.rolls-Return c.in-Return.value)))) c.add_optional-in-Return.ensures
 
 pub add_statements-loop-statement-preserved : goal.add_statements-loop-statement-preserved
 add_statements-loop-statement-preserved t c =
