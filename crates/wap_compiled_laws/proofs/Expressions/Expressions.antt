@@ -32,6 +32,7 @@ use Rattle.wap_meaning.specs.coding.Expressions.{literal_code, unary_code, expr_
 use Rattle.wap_meaning.specs.coding.Needs.{Need, IsMet, AreMet, literal_needs, expr_needs_by}
 use Rattle.wap_meaning.specs.coding.Needs.{expr_needs}
 use Rattle.wap_meaning.proofs.Each.{each_front, each_back}
+use Rattle.wap_compiled_laws.proofs.Induction.Parts.{as_many}
 use Rattle.wap_compiled_laws.proofs.Pieces.Pieces.{Site, onto, Piece, both, op_piece}
 use Rattle.wap_compiled_laws.proofs.Pieces.Instructions.{as_is, pushed, kept_settles, load_piece}
 use Rattle.wap_compiled_laws.proofs.Pieces.Instructions.{unary_piece, binary_piece}
@@ -45,7 +46,6 @@ use Rattle.wap_value.specs.declared.operator.UnOp.TheVariants as un
 use Rattle.wap_value.specs.declared.operator.BinOp.TheVariants as bin
 use Rattle.wap_unit.specs.declared.row.OpName.TheVariants as op
 use Rattle.wap_grammar.specs.declared.program.expression.Literal.TheVariants as literal
-use Rattle.std.proofs.lemmas.List.{length-map}
 use Rattle.wap_asm.specs.declared.form.Form.{Form}
 use Rattle.wap_meaning.specs.coding.Coded.{Exits, all_code}
 use Rattle.wap_meaning.specs.coding.Expressions.{chain_code}
@@ -93,9 +93,6 @@ module _ {S : Type 0} (site : Site S) (numbers : Numbers) where
       → Agrees site (kept site.string (value_of l)) (literal_code numbers l)
   unfolding effect_of
   literal_agrees (literal.Int number) met = constant_agrees met.0
-  literal_agrees literal.Float met =
-      op_piece site (give_keeps Invalid)
-      (λ exits place i other variables operands turns state. refl)
   literal_agrees (literal.Str []) met =
       op_piece site (kept_keeps site.string (Str []))
       (λ exits place i other variables operands turns state. rw empty_kept refl)
@@ -106,7 +103,7 @@ module _ {S : Type 0} (site : Site S) (numbers : Numbers) where
   literal_agrees (literal.Bool false) met =
       op_piece site (give_keeps (Boolean false))
       (λ exits place i other variables operands turns state. refl)
-  literal_agrees literal.Invalid met =
+  literal_agrees _ met =
       op_piece site (give_keeps Invalid)
       (λ exits place i other variables operands turns state. refl)
 
@@ -231,17 +228,6 @@ module _ {S : Type 0} (site : Site S) (numbers : Numbers) where
       (all_given site (evals es)) (λ exits i. refl)
       (λ vs. calling_keeps site.call site.falls callee vs) (λ vs many. (calls vs many).follows)
 
-  -- there are as many codes as meanings
-  as_many_codes : (es : List Part) → length (evals es) ≡ length (codes es)
-  as_many_codes es =
-      length-map (trees es) (eval around) ∙ sym (length-map (trees es) (expr_code numbers))
-
-  -- as many values are given as arguments stand
-  as_many : (es : List Part) (vs : List Value) → length vs ≡ length (evals es)
-      → length (map expr_needs (trees es)) ≡ length vs
-  as_many es vs many =
-      length-map (trees es) expr_needs ∙ sym (many ∙ length-map (trees es) (eval around))
-
   -- every construct
   layers : (y : Expr-F Part) → Layer (map-Expr Part Expr (λ e. e.0) y)
   layers (Expr-F.Lit l) met = literal_agrees l met
@@ -263,16 +249,17 @@ module _ {S : Type 0} (site : Site S) (numbers : Numbers) where
       (second.1 (met_back (expr_needs first.0) (expr_needs second.0) rest))
   layers (Expr-F.Call f es) met =
       call_agrees (callee_local numbers.names f) es met.1 (λ vs many. local_piece site vs
-      (met.0 ∙ ap Some (as_many es vs many)))
+      (met.0 ∙ ap Some (as_many expr_needs (eval around) (trees es) ∙ sym many)))
   layers (Expr-F.External unit f es) met =
       call_agrees (callee_external numbers.names unit f) es met.1 (λ vs many. subst (λ (n : ℕ).
       Piece site (calling site.call (callee_external numbers.names unit f) vs)
       (one (λ exits at. Op (instr op.CallUrl (url_number numbers unit) (text_number numbers f.name)
-      n))) (popped vs) (onto site pushed)) (many ∙ as_many_codes es)
+      n))) (popped vs) (onto site pushed))
+      (many ∙ as_many (eval around) (expr_code numbers) (trees es))
       (external_piece site vs met.0.0 met.0.1))
   layers (Expr-F.Library l f es) met =
       call_agrees (callee_library l f) es met.1 (λ vs many. library_piece site vs
-      (met.0 ∙ ap Some (as_many es vs many)))
+      (met.0 ∙ ap Some (as_many expr_needs (eval around) (trees es) ∙ sym many)))
 
   -- every expression and its code agree
   pub agrees : (e : Expr) → Claim e

@@ -1,9 +1,8 @@
 -- What holds of the pieces of code holds of the code of each expression, by induction on trees: it
 -- leaves one operand more, and costs its wide size; and what the expression needs is met.
-use Rattle.std.proofs.Common.{◌≡◌, ℕ, suc, ◌+◌, Bool, List, [], ◌∷◌, ◌++◌, length, Some, None}
+use Rattle.std.proofs.Common.{ℕ, suc, ◌+◌, Bool, List, [], ◌∷◌, ◌++◌, length, Some, None}
 use Rattle.std.proofs.Common.{refl, sym, ap, ◌∙◌, subst, arith, map}
 use Rattle.std.specs.List.{flat_map, sum, sum_by}
-use Rattle.std.proofs.lemmas.List.{length-map}
 use Rattle.std.proofs.lemmas.List.Sums.{sum_by-cons}
 use Rattle.wap_value.specs.declared.operator.BinOp.{BinOp}
 use Rattle.wap_grammar.specs.declared.program.expression.Expr.{Expr, roll-Expr, map-Expr}
@@ -21,9 +20,10 @@ use Rattle.wap_meaning.specs.compiled.Wide.{binary_wide, expr_wide_by, expr_wide
 use Rattle.wap_compiled_laws.proofs.Induction.Pieces.{higher, Setting}
 use Rattle.wap_compiled_laws.proofs.Induction.Known.{Known, front, behind, Met, none_met, both_met}
 use Rattle.wap_compiled_laws.proofs.Induction.Known.{Named, KnownOf, KnownBy, unrolled}
-use Rattle.wap_compiled_laws.proofs.Induction.Parts.{same, Gives, literal_met, literal_gives}
-use Rattle.wap_compiled_laws.proofs.Induction.Parts.{unary_holds, binary_holds, joined_holds}
-use Rattle.wap_compiled_laws.proofs.Induction.Parts.{load_gives, kept_holds, step_gives}
+use Rattle.wap_compiled_laws.proofs.Induction.Parts.{as_many, same, Gives, literal_met}
+use Rattle.wap_compiled_laws.proofs.Induction.Parts.{literal_gives, unary_holds, binary_holds}
+use Rattle.wap_compiled_laws.proofs.Induction.Parts.{joined_holds, load_gives, kept_holds}
+use Rattle.wap_compiled_laws.proofs.Induction.Parts.{step_gives}
 
 module _ (here : Setting) where
   open here use {unit, numbers, Said, meets, P, pieces}
@@ -135,11 +135,6 @@ module _ (here : Setting) where
   call_gives es known there calls =
       let all = all_hold es known in
       (record { met = (there, all.0.met) }, λ x. pieces.both (all.1 x) (calls x))
-
-  -- of each list there are as many as of any other
-  as_many : {X Y : Type 0} (f : Expr → X) (g : Expr → Y) (es : List Expr)
-      → length (map f es) ≡ length (map g es)
-  as_many f g es = length-map es f ∙ sym (length-map es g)
 
   -- what a call names is said with as many as it needs
   said_of : {X : Type 0} (make : ℕ → Reference) (f : Expr → X) (es : List Expr)

@@ -1,7 +1,8 @@
 -- What holds of the pieces of code holds of the code of literals, of operators and of variables.
-use Rattle.std.proofs.Common.{◌≡◌, ℕ, suc, ◌+◌, ◌<◌, Bool, true, false, [], ◌∷◌, length, refl}
-use Rattle.std.proofs.Common.{subst, arith}
+use Rattle.std.proofs.Common.{◌≡◌, ℕ, suc, ◌+◌, ◌<◌, Bool, true, false, List, ◌∷◌, length}
+use Rattle.std.proofs.Common.{map, refl, sym, ◌∙◌, subst, arith}
 use Rattle.std.specs.List.{AllByRecursion}
+use Rattle.std.proofs.lemmas.List.{length-map}
 use Rattle.wap_value.specs.declared.operator.UnOp.{UnOp}
 use Rattle.wap_value.specs.declared.operator.UnOp.TheVariants as un
 use Rattle.wap_value.specs.declared.operator.BinOp.{BinOp}
@@ -34,6 +35,11 @@ binary_is unit bin.Or takes = absurd takes
 binary_is unit bin.Comma takes = absurd takes
 binary_is unit binop takes = refl
 
+-- lists to which one is mapped have as many items
+pub as_many : {X Y Z : Type 0} (f : X → Y) (g : X → Z) (xs : List X)
+    → length (map f xs) ≡ length (map g xs)
+as_many f g xs = length-map xs f ∙ sym (length-map xs g)
+
 module _ (here : Setting) where
   open here use {unit, numbers, Needed, meets, P, pieces}
 
@@ -60,13 +66,10 @@ module _ (here : Setting) where
   unfolding wide_size operation_of longest
   literal_gives (literal.Int z) met x =
       pieces.constant_op (number_of numbers (literal.Int z)) (constant_within unit met.0)
-  literal_gives literal.Float met x = pieces.plain_op op.ConstInvalid x refl
-  literal_gives (literal.Str []) met x = pieces.plain_op op.ConstEs x refl
   literal_gives (literal.Str (c ∷ cs)) met x =
       pieces.constant_op (number_of numbers (literal.Str (c ∷ cs))) (constant_within unit met.0)
   literal_gives (literal.Bool true) met x = pieces.plain_op op.ConstTrue x refl
-  literal_gives (literal.Bool false) met x = pieces.plain_op op.ConstFalse x refl
-  literal_gives literal.Invalid met x = pieces.plain_op op.ConstInvalid x refl
+  literal_gives _ met x = pieces.plain_op _ x refl
 
   -- an operator of one operand
   pub unary_holds : {inside : Bool} (unop : UnOp) {x : ℕ}
@@ -74,14 +77,7 @@ module _ (here : Setting) where
   unfolding wide_size operation_of longest
   unary_holds un.Plus {x} =
       pieces.both (pieces.plain_op op.Const0 (suc x) refl) (pieces.plain_op op.Sub x refl)
-  unary_holds un.Minus {x} = pieces.plain_op op.Uminus x refl
-  unary_holds un.BitNot {x} = pieces.plain_op op.BNot x refl
-  unary_holds un.Not {x} = pieces.plain_op op.Not x refl
-  unary_holds un.TypeOf {x} = pieces.plain_op op.Typeof x refl
-  unary_holds un.IsValid {x} = pieces.plain_op op.Isvalid x refl
-  unary_holds un.ToBool {x} = pieces.plain_op op.Tobool x refl
-  unary_holds un.Incr {x} = pieces.plain_op op.Incr x refl
-  unary_holds un.Decr {x} = pieces.plain_op op.Decr x refl
+  unary_holds _ {x} = pieces.plain_op _ x refl
 
   -- an operator that takes both values
   pub binary_holds : {inside : Bool} (binop : BinOp) {x : ℕ} → TakesBoth binop
