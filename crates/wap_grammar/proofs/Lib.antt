@@ -11,6 +11,7 @@ pub mod Pragmas
 pub mod Blocks
 pub mod Whole
 mod Rows
+pub mod Escapes
 pub mod Texts
 pub mod Guards
 pub mod Unique

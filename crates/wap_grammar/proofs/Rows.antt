@@ -4,7 +4,7 @@ use Rattle.wap_value.specs.declared.operator.BinOp.TheVariants as op
 use Rattle.wap_grammar.specs.declared.word.Word.TheVariants as word
 use Rattle.wap_grammar.specs.declared.word.Sign.TheVariants as signs
 use Rattle.wap_grammar.specs.Lexemes.{word_rows, word_spelled}
-use Rattle.wap_grammar.specs.Strings.{unescaped}
+use Rattle.wap_grammar.specs.Unescaping.{unescaped}
 
 plain : unescaped (codes "a b") ≡ codes "a b"
 plain = refl

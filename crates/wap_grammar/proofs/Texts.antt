@@ -1,19 +1,18 @@
--- Strings that are tokens stand for texts: what stands between their quotes is UTF-8, and no escape
--- has the number of a surrogate.
-use Rattle.std.proofs.Common.{◌≡◌, ℕ, zero, suc, ◌+◌, ◌*◌, ◌-◌, ◌<◌, ◌≤◌, nat_le, nat_lt, Bool}
-use Rattle.std.proofs.Common.{true, false, cond, ◌==◌, ◌&&◌, List, [], ◌∷◌, ◌++◌, length, take}
-use Rattle.std.proofs.Common.{drop, encode_utf8, encode_utf8_all, refl, sym, ap, subst, ◌∙◌, inl}
-use Rattle.std.proofs.Common.{inr, ◌⊎◌, length-append, append_assoc, arith}
+-- Strings that are tokens stand for texts, and a string for one text.
+use Rattle.std.proofs.Common.{◌≡◌, ℕ, zero, suc, ◌+◌, ◌-◌, ◌<◌, ◌≤◌, Bool, true, false, cond}
+use Rattle.std.proofs.Common.{◌==◌, ◌&&◌, List, [], ◌∷◌, ◌++◌, length, take, drop, encode_utf8}
+use Rattle.std.proofs.Common.{encode_utf8_all, refl, sym, ap, subst, ◌∙◌, inl, inr, length-append}
+use Rattle.std.proofs.Common.{append_assoc, arith}
 use Rattle.std.specs.Char.{is_ascii_hexdigit}
-use Rattle.std.specs.List.{All}
+use Rattle.std.specs.List.{All, list_all}
 use Rattle.std.specs.Str.{IsUtf8, chars, all_scalars}
-use Rattle.std.specs.Int.{is_in_range}
-use Rattle.std.proofs.Math.Utf8.{scalar, low_scalar}
+use Rattle.std.proofs.Math.Utf8.{scalar}
 use Rattle.std.proofs.Math.Seq.{drop-append_seam, take-append_seam}
-use Rattle.std.proofs.lemmas.Bool.{cases_lt, eqb-true, ne_eqb, leb-true, and_from, and_parts}
+use Rattle.std.proofs.lemmas.Bool.{cases_lt, eqb-true, ne_eqb, and_parts}
 use Rattle.std.proofs.lemmas.Grind.{common_steps}
 use Rattle.std.proofs.lemmas.Str.{encode_ascii, chars-encodes}
 use Rattle.std.proofs.lemmas.List.Elements.{All-nil, All-cons}
+use Rattle.std.proofs.lemmas.List.Folds.{list_all-append}
 use Rattle.wap_lex.specs.declared.token.Kind.{Kind}
 use Rattle.wap_lex.specs.declared.token.Kind.TheVariants as kind
 use Rattle.wap_lex.specs.declared.token.Token.{Token}
@@ -23,11 +22,14 @@ use Rattle.wap_lex.specs.ReservedWords.{is_reserved}
 use Rattle.wap_lex.specs.Tokens.{IsShape, kind_of, token_before, Lexes, ends, piece, AreTokens}
 use Rattle.wap_base.proofs.Utf8Cuts.{AllHigh, high_bytes, encode_some}
 use Rattle.wap_lex.specs.Characters.{is_octal_digit, is_quote}
-use Rattle.wap_lex.specs.Numbers.{with_digit, digit_value}
-use Rattle.wap_lex.specs.Strings.{is_simple, is_surrogate, IsEscape, simple, octal, hexadecimal}
-use Rattle.wap_lex.specs.Strings.{unicode, escape, plain, AreItems, none, more, IsString, quoted}
-use Rattle.wap_grammar.specs.Strings.{named_by, goes_on, unescaped, escaped, numbered, string_of}
-use Rattle.wap_grammar.specs.Texts.{inside_quotes, StandsForText}
+use Rattle.wap_lex.specs.Numbers.{numeral}
+use Rattle.wap_lex.specs.Strings as lex
+use Rattle.wap_lex.specs.Strings.{is_simple, IsEscape, AreItems, IsString, quoted}
+use Rattle.wap_grammar.specs.Strings.{named_by, is_octal, single, octal, hexadecimal, unicode}
+use Rattle.wap_grammar.specs.Strings.{IsWhole, StandFor, none, plain, inside_quotes, StandsForText}
+use Rattle.wap_grammar.specs.Unescaping.{unescaped, string_of}
+use Rattle.wap_grammar.proofs.Escapes.{octal_digit, no_backslash, parts, reads, read_before, whole_other}
+use Rattle.wap_grammar.proofs.Escapes.{one_digit, scalars_after, text_scalars}
 
 -- ---- lists and tests
 
@@ -36,9 +38,6 @@ head_same x y xs ys e = cc
 
 tail_same : (x y : ℕ) (xs ys : List ℕ) → x ∷ xs ≡ y ∷ ys → xs ≡ ys
 tail_same x y xs ys e = cc
-
-in_range : (low high c : ℕ) → is_in_range low high c ≡ true → (low ≤ c) × (c ≤ high)
-in_range low high c e = (grind (arith, common_steps), grind (arith, common_steps))
 
 -- ---- characters of US-ASCII in UTF-8
 
@@ -116,13 +115,50 @@ cut (c ∷ cs) a q b low e = elim (cases_lt c 128) [
         left.4,
       )
 
-scalars_after : (ds : List ℕ) (es : List ℕ) → all_scalars (ds ++ es) ≡ true →
-    (all_scalars ds ≡ true) × (all_scalars es ≡ true)
-scalars_after [] es e = (refl, e)
-scalars_after (d ∷ ds) es e = (
-  grind (arith, common_steps, scalars_after ds es),
-  grind (arith, common_steps, scalars_after ds es),
-)
+-- ---- escapes are of US-ASCII
+
+abbrev AreLow : List ℕ → Type 0
+AreLow [] = Unit {0}
+AreLow (b ∷ bs) = (b < 128) × AreLow bs
+
+-- what begins with such bytes begins with their characters
+peeled : (text cs rest : List ℕ) → AreLow text → encode_utf8_all cs ≡ text ++ rest →
+    (ds : List ℕ) × (cs ≡ text ++ ds) × (encode_utf8_all ds ≡ rest)
+peeled [] cs rest low e = (cs, refl, e)
+peeled (b ∷ text) cs rest low e =
+    let one = peel cs b (text ++ rest) e low.0 in
+    let more = peeled text one.0 rest low.1 one.2 in
+    (more.0, one.1 ∙ ap (λ (z : List ℕ). b ∷ z) more.1, more.2)
+
+simple_low : (c : ℕ) → is_simple c ≡ true → c < 128
+simple_low c is = grind (arith, common_steps)
+
+simple_other : (c : ℕ) → is_simple c ≡ true → is_octal_digit c ≡ false
+simple_other c is = grind (arith, common_steps)
+
+digits_low : (digits : List ℕ) → list_all is_ascii_hexdigit digits ≡ true → AreLow digits
+digits_low [] are = tt
+digits_low (c ∷ digits) are =
+    let both = and_parts (is_ascii_hexdigit c) (list_all is_ascii_hexdigit digits) are in
+    (digit_low c both.0, digits_low digits both.1) where
+      digit_low : (c : ℕ) → is_ascii_hexdigit c ≡ true → c < 128
+      digit_low c is = grind (arith, common_steps)
+
+escape_low : (text : List ℕ) → IsEscape text → AreLow text
+escape_low text (lex.simple c is) = (simple_low c is, tt)
+escape_low text (lex.octal c is) = (omega (arith, octal_digit c is), tt)
+escape_low text (lex.hexadecimal a b hex) = (omega arith, digits_low (a ∷ b ∷ []) hex)
+escape_low text (lex.unicode a b c d hex fails) =
+    (omega arith, digits_low (a ∷ b ∷ c ∷ d ∷ []) hex)
+
+-- the last of octal digits
+last_digit : (digits : List ℕ) (c : ℕ) → is_octal (digits ++ c ∷ []) ≡ true →
+    is_octal_digit c ≡ true
+last_digit digits c is =
+    let all = sym (list_all-append is_octal_digit digits (c ∷ []))
+    ∙ (parts (digits ++ c ∷ []) is).all in
+    let last = and_parts (list_all is_octal_digit digits) (is_octal_digit c && true) all in
+    (and_parts (is_octal_digit c) true last.1).0
 
 -- ---- what stands between quotes
 
@@ -135,9 +171,9 @@ data Front (quote : ℕ) : List ℕ → Type 0 where
 
 module _ (quote : ℕ) where
   front : (bytes : List ℕ) → AreItems quote bytes → Front quote bytes
-  front bytes none = over
-  front bytes (more item others (escape text is) rest) = an_escape text others is rest
-  front bytes (more item others (plain c other inside) rest) = a_plain c others other rest
+  front bytes lex.none = over
+  front bytes (lex.more item others (lex.escape text is) rest) = an_escape text others is rest
+  front bytes (lex.more item others (lex.plain c other inside) rest) = a_plain c others other rest
 
   after_plain : (c : ℕ) (rest : List ℕ) → (c == 92) ≡ false → AreItems quote (c ∷ rest) →
       AreItems quote rest
@@ -178,213 +214,102 @@ module _ (quote : ℕ) where
 
   -- ---- what escapes stand for
 
-  -- so many characters at most between quotes stand for characters
-  abbrev Sound : ℕ → Type 0
-  Sound most = (cs : List ℕ) → length cs ≤ most → all_scalars cs ≡ true →
-      AreItems quote (encode_utf8_all cs) → all_scalars (unescaped cs) ≡ true
+  -- so many characters at most between quotes stand for what is read
+  abbrev Stands : ℕ → Type 0
+  Stands most = (cs : List ℕ) → length cs ≤ most → AreItems quote (encode_utf8_all cs) →
+      StandFor cs (unescaped cs)
 
-  small : (v : ℕ) (rest : List ℕ) → v < 55296 → all_scalars rest ≡ true →
-      all_scalars (v ∷ rest) ≡ true
-  small v rest low e = and_from (scalar v) (all_scalars rest) (low_scalar v low) e
+  -- an octal escape with each digit that could belong to it
+  record Longest (digits cs : List ℕ) : Type 0 where
+    spelling : List ℕ
+    rest : List ℕ
+    octal : is_octal spelling ≡ true
+    whole : IsWhole spelling rest
+    same : spelling ++ rest ≡ digits ++ cs
+    few : length rest ≤ length cs
+    are : AreItems quote (encode_utf8_all rest)
 
-  octal_sound : (most : ℕ) → Sound most → (ds : List ℕ) (left v : ℕ) → length ds ≤ most → v ≤ 255 →
-      all_scalars ds ≡ true → AreItems quote (encode_utf8_all ds) →
-      all_scalars (numbered 8 left v ds) ≡ true
-  octal_sound most sound [] left v few low scalars are = small v [] (omega (arith, low)) refl
-  octal_sound most sound (d ∷ ds) left v few low scalars are =
-      by_test (octal_sound most sound ds (left - 1)) (nat_lt 0 left && goes_on 8 v d) refl where
-        by_test : ((w : ℕ) → length ds ≤ most → w ≤ 255 → all_scalars ds ≡ true →
-            AreItems quote (encode_utf8_all ds) →
-            all_scalars (numbered 8 (left - 1) w ds) ≡ true) → (test : Bool) →
-            (nat_lt 0 left && goes_on 8 v d) ≡ test →
-            all_scalars (cond test (numbered 8 (left - 1) (with_digit 8 v d) ds)
-            (v ∷ unescaped (d ∷ ds))) ≡ true
-        by_test again true so =
-            let goes = (and_parts (nat_lt 0 left) (goes_on 8 v d) so).1 in
-            let both = and_parts (is_octal_digit d) (nat_le (with_digit 8 v d) 255) goes in
-            let digit = in_range 48 55 d both.0 in
-            again (with_digit 8 v d) (omega (arith, few))
-            (leb-true (with_digit 8 v d) 255 both.1)
-            (and_parts (scalar d) (all_scalars ds) scalars).1
-            (after_character d ds (ne_eqb d 92 (λ e. absurd (omega (arith, e, digit.1)))) are)
-        by_test again false so = small v (unescaped (d ∷ ds)) (omega (arith, low))
-            (sound (d ∷ ds) few scalars are)
+  longest : (cs digits : List ℕ) → is_octal digits ≡ true → AreItems quote (encode_utf8_all cs) →
+      Longest digits cs
+  longest [] digits is are = record {
+    spelling = digits;
+    rest = [];
+    octal = is;
+    whole = tt;
+    same = refl;
+    few = omega arith;
+    are = are;
+  }
+  longest (c ∷ cs) digits is are = by_test (is_octal (digits ++ c ∷ [])) refl
+      (λ so. longest cs (digits ++ c ∷ []) so (after_character c cs (no_backslash c
+      (last_digit digits c so)) are)) where
+        by_test : (test : Bool) → is_octal (digits ++ c ∷ []) ≡ test →
+            (is_octal (digits ++ c ∷ []) ≡ true → Longest (digits ++ c ∷ []) cs) →
+            Longest digits (c ∷ cs)
+        by_test true so goes =
+            let more = goes so in
+            record {
+              spelling = more.spelling;
+              rest = more.rest;
+              octal = more.octal;
+              whole = more.whole;
+              same = more.same ∙ append_assoc digits (c ∷ []) cs;
+              few = omega (arith, more.few);
+              are = more.are;
+            }
+        by_test false so goes = record {
+          spelling = digits;
+          rest = c ∷ cs;
+          octal = is;
+          whole = so;
+          same = refl;
+          few = omega arith;
+          are = are;
+        }
 
-  -- after the last digit
-  ended_sound : (most : ℕ) → Sound most → (ds : List ℕ) (v : ℕ) → length ds ≤ most →
-      scalar v ≡ true → all_scalars ds ≡ true → AreItems quote (encode_utf8_all ds) →
-      all_scalars (numbered 16 0 v ds) ≡ true
-  ended_sound most sound [] v few one scalars are = and_from (scalar v) true one refl
-  ended_sound most sound (d ∷ ds) v few one scalars are =
-      and_from (scalar v) (all_scalars (unescaped (d ∷ ds))) one (sound (d ∷ ds) few scalars are)
+  -- an escape, and what follows it
+  by_escape : (most : ℕ) → Stands most → (text cs : List ℕ) → IsEscape text → length cs ≤ most →
+      AreItems quote (encode_utf8_all cs) →
+      StandFor (92 ∷ (text ++ cs)) (unescaped (92 ∷ (text ++ cs)))
+  by_escape most stands text cs (lex.simple c is) few are =
+      read_before (c ∷ []) cs (named_by c) (single c is) (whole_other c [] cs (simple_other c is))
+      (stands cs few are)
+  by_escape most stands text cs (lex.octal c is) few are =
+      let l = longest cs (c ∷ []) (one_digit c is) are in
+      subst (λ (z : List ℕ). StandFor (92 ∷ z) (unescaped (92 ∷ z))) l.same
+      (read_before l.spelling l.rest (numeral 8 l.spelling) (octal l.spelling l.octal) l.whole
+      (stands l.rest (omega (arith, l.few, few)) l.are))
+  by_escape most stands text cs (lex.hexadecimal a b hex) few are =
+      read_before (120 ∷ a ∷ b ∷ []) cs (numeral 16 (a ∷ b ∷ [])) (hexadecimal a b hex)
+      (whole_other 120 (a ∷ b ∷ []) cs refl) (stands cs few are)
+  by_escape most stands text cs (lex.unicode a b c d hex fails) few are =
+      read_before (117 ∷ a ∷ b ∷ c ∷ d ∷ []) cs (numeral 16 (a ∷ b ∷ c ∷ d ∷ []))
+      (unicode a b c d hex fails) (whole_other 117 (a ∷ b ∷ c ∷ d ∷ []) cs refl)
+      (stands cs few are)
 
--- ---- digits of escapes
+  -- ---- all that stands between quotes
 
-digit_small : (c : ℕ) → is_ascii_hexdigit c ≡ true → (digit_value c ≤ 15) × (c < 128)
-digit_small c is = (grind (arith, common_steps), grind (arith, common_steps))
-
--- the first two of four digits are above those of surrogates, or below them
-apart : (a b : ℕ) → is_ascii_hexdigit a ≡ true → is_ascii_hexdigit b ≡ true →
-    is_surrogate a b ≡ false →
-    (14 ≤ digit_value a) ⊎ (digit_value a * 16 + digit_value b < 216)
-apart a b first second fails = grind (arith, common_steps)
-
-high_scalar : (c : ℕ) → 57344 ≤ c → c < 1114112 → scalar c ≡ true
-high_scalar c low high = grind (arith, common_steps)
-
-abbrev four : ℕ → ℕ → ℕ → ℕ → ℕ
-four a b c d = with_digit 16 (with_digit 16 (with_digit 16 (with_digit 16 0 a) b) c) d
-
-four_scalar : (a b c d : ℕ) → is_ascii_hexdigit a ≡ true → is_ascii_hexdigit b ≡ true →
-    is_ascii_hexdigit c ≡ true → is_ascii_hexdigit d ≡ true → is_surrogate a b ≡ false →
-    scalar (four a b c d) ≡ true
-four_scalar a b c d one two three last fails =
-    let a_small = (digit_small a one).0 in
-    let b_small = (digit_small b two).0 in
-    let c_small = (digit_small c three).0 in
-    let d_small = (digit_small d last).0 in
-    elim (apart a b one two fails) [
-      | inl high ↦ high_scalar (four a b c d) (omega (arith, high))
-          (omega (arith, a_small, b_small, c_small, d_small))
-      | inr low ↦ low_scalar (four a b c d) (omega (arith, low, c_small, d_small))
-    ]
-
--- ---- escapes of one character
-
-named : (ds : List ℕ) (c : ℕ) → is_simple c ≡ true →
-    (escaped (c ∷ ds) ≡ named_by c ∷ unescaped ds) × (named_by c < 55296) × (c < 128)
-named ds c is = (
-  grind (arith, common_steps),
-  grind (arith, common_steps),
-  grind (arith, common_steps),
-)
-
--- ---- what is left after such a character
-
-pub record Peeled (most : ℕ) (cs : List ℕ) (b : ℕ) (rest : List ℕ) : Type 0 where
-  pub left : List ℕ
-  pub is : cs ≡ b ∷ left
-  pub bytes : encode_utf8_all left ≡ rest
-  pub few : length left ≤ most
-  pub scalars : all_scalars left ≡ true
-
-peeled : (most : ℕ) (cs : List ℕ) (b : ℕ) (rest : List ℕ) → encode_utf8_all cs ≡ b ∷ rest →
-    b < 128 → length cs ≤ most → all_scalars cs ≡ true → Peeled most cs b rest
-peeled most cs b rest e low few scalars =
-    let found = peel cs b rest e low in
-    record {
-      left = found.0;
-      is = found.1;
-      bytes = found.2;
-      few = omega (arith, few, ap length found.1);
-      scalars = (and_parts (scalar b) (all_scalars found.0)
-          (subst (λ (z : List ℕ). all_scalars z ≡ true) found.1 scalars)).1;
-    }
-
-module _ (quote most : ℕ) (sound : Sound quote most) where
-  abbrev AllSound : List ℕ → Type 0
-  AllSound cs = all_scalars cs ≡ true
-
-  simple_sound : (cs rest : List ℕ) (c : ℕ) → is_simple c ≡ true → encode_utf8_all cs ≡ c ∷ rest →
-      length cs ≤ most → AllSound cs → AreItems quote rest → AllSound (escaped cs)
-  simple_sound cs rest c is e few scalars are =
-      let p = peeled most cs c rest e (named [] c is).2 few scalars in
-      let this = named p.left c is in
-      rw (p.is, this.0) (small quote (named_by c) (unescaped p.left) this.1
-      (sound p.left p.few p.scalars (subst (AreItems quote) (sym p.bytes) are)))
-
-  octal_escape : (cs rest : List ℕ) (c : ℕ) → is_octal_digit c ≡ true →
-      encode_utf8_all cs ≡ c ∷ rest → length cs ≤ most → AllSound cs → AreItems quote rest →
-      AllSound (escaped cs)
-  octal_escape cs rest c is e few scalars are =
-      let digit = in_range 48 55 c is in
-      let p = peeled most cs c rest e (omega (arith, digit.1)) few scalars in
-      let value = octal_sound quote most sound p.left 2 (c - 48) p.few (omega (arith, digit.1))
-      p.scalars (subst (AreItems quote) (sym p.bytes) are) in
-      rw (
-        p.is,
-        ne_eqb c 120 (λ f. absurd (omega (arith, f, digit.1))),
-        ne_eqb c 117 (λ f. absurd (omega (arith, f, digit.1))),
-        is,
-      ) value
-
-  two_escape : (cs rest : List ℕ) (a b : ℕ) → is_ascii_hexdigit a ≡ true →
-      is_ascii_hexdigit b ≡ true → encode_utf8_all cs ≡ 120 ∷ a ∷ b ∷ rest →
-      length cs ≤ most → AllSound cs → AreItems quote rest → AllSound (escaped cs)
-  two_escape cs rest a b one two e few scalars are =
-      let x = peeled most cs 120 (a ∷ b ∷ rest) e (omega arith) few scalars in
-      let p = peeled most x.left a (b ∷ rest) x.bytes (digit_small a one).1 x.few x.scalars in
-      let q = peeled most p.left b rest p.bytes (digit_small b two).1 p.few p.scalars in
-      let first = with_digit 16 0 a in
-      let whole : cs ≡ 120 ∷ a ∷ b ∷ q.left =
-      x.is ∙ ap (λ (z : List ℕ). 120 ∷ z) (p.is ∙ ap (λ (z : List ℕ). a ∷ z) q.is) in
-      let low : with_digit 16 first b < 55296 = omega
-      (arith, (digit_small a one).0, (digit_small b two).0) in
-      rw (whole, one, two) (ended_sound quote most sound q.left (with_digit 16 first b) q.few
-      (low_scalar (with_digit 16 first b) low) q.scalars
-      (subst (AreItems quote) (sym q.bytes) are))
-
-  four_escape : (cs rest : List ℕ) (a b c d : ℕ) → is_ascii_hexdigit a ≡ true →
-      is_ascii_hexdigit b ≡ true → is_ascii_hexdigit c ≡ true →
-      is_ascii_hexdigit d ≡ true → is_surrogate a b ≡ false →
-      encode_utf8_all cs ≡ 117 ∷ a ∷ b ∷ c ∷ d ∷ rest → length cs ≤ most → AllSound cs →
-      AreItems quote rest → AllSound (escaped cs)
-  four_escape cs rest a b c d one two three last fails e few scalars are =
-      let x = peeled most cs 117 (a ∷ b ∷ c ∷ d ∷ rest) e (omega arith) few scalars in
-      let p = peeled most x.left a (b ∷ c ∷ d ∷ rest) x.bytes (digit_small a one).1 x.few
-      x.scalars in
-      let q = peeled most p.left b (c ∷ d ∷ rest) p.bytes (digit_small b two).1 p.few
-      p.scalars in
-      let r = peeled most q.left c (d ∷ rest) q.bytes (digit_small c three).1 q.few q.scalars in
-      let s = peeled most r.left d rest r.bytes (digit_small d last).1 r.few r.scalars in
-      let whole : cs ≡ 117 ∷ a ∷ b ∷ c ∷ d ∷ s.left =
-      x.is ∙ ap (λ (z : List ℕ). 117 ∷ z) (p.is ∙ ap (λ (z : List ℕ). a ∷ z) (q.is
-      ∙ ap (λ (z : List ℕ). b ∷ z) (r.is ∙ ap (λ (z : List ℕ). c ∷ z) s.is))) in
-      rw (whole, one, two, three, last) (ended_sound quote most sound s.left (four a b c d) s.few
-      (four_scalar a b c d one two three last fails) s.scalars
-      (subst (AreItems quote) (sym s.bytes) are))
-
-  by_escape : (cs text rest : List ℕ) → IsEscape text → encode_utf8_all cs ≡ text ++ rest →
-      length cs ≤ most → AllSound cs → AreItems quote rest → AllSound (escaped cs)
-  by_escape cs text rest (simple c is) e few scalars are =
-      simple_sound cs rest c is e few scalars are
-  by_escape cs text rest (octal c is) e few scalars are =
-      octal_escape cs rest c is e few scalars are
-  by_escape cs text rest (hexadecimal a b is) e few scalars are =
-      let first = and_parts (is_ascii_hexdigit a) (is_ascii_hexdigit b && true) is in
-      let second = and_parts (is_ascii_hexdigit b) true first.1 in
-      two_escape cs rest a b first.0 second.0 e few scalars are
-  by_escape cs text rest (unicode a b c d is fails) e few scalars are =
-      let first = and_parts (is_ascii_hexdigit a) (is_ascii_hexdigit b
-      && (is_ascii_hexdigit c && (is_ascii_hexdigit d && true))) is in
-      let second = and_parts (is_ascii_hexdigit b) (is_ascii_hexdigit c
-      && (is_ascii_hexdigit d && true)) first.1 in
-      let third = and_parts (is_ascii_hexdigit c) (is_ascii_hexdigit d && true) second.1 in
-      let fourth = and_parts (is_ascii_hexdigit d) true third.1 in
-      four_escape cs rest a b c d first.0 second.0 third.0 fourth.0 fails e few scalars are
-
--- ---- all that stands between quotes
-
-pub all_sound : (quote most : ℕ) → Sound quote most
-all_sound quote zero [] few scalars are = refl
-all_sound quote zero (c ∷ cs) few scalars are = absurd (omega (arith, few))
-all_sound quote (suc most) [] few scalars are = refl
-all_sound quote (suc most) (c ∷ cs) few scalars are =
-    by_test (c == 92) refl (and_parts (scalar c) (all_scalars cs) scalars)
-    (all_sound quote most) where
-      by_test : (test : Bool) → (c == 92) ≡ test →
-          (scalar c ≡ true) × (all_scalars cs ≡ true) → Sound quote most →
-          all_scalars (cond test (escaped cs) (c ∷ unescaped cs)) ≡ true
-      by_test true so both sound =
-          let begun : AreItems quote (92 ∷ encode_utf8_all cs) =
-          subst (AreItems quote) (ap (λ (n : ℕ). encode_utf8 n ++ encode_utf8_all cs)
-          (eqb-true c 92 so) ∙ ap (λ (bs : List ℕ). bs ++ encode_utf8_all cs)
-          (encode_ascii 92 (omega arith))) are in
-          let found = after_backslash quote (encode_utf8_all cs) begun in
-          by_escape quote most sound cs found.0 found.1 found.2 found.3 (omega (arith, few)) both.1
-          found.4
-      by_test false so both sound = and_from (scalar c) (all_scalars (unescaped cs)) both.0
-          (sound cs (omega (arith, few)) both.1 (after_character quote c cs so are))
+  all_stand : (most : ℕ) → Stands most
+  all_stand zero [] few are = none
+  all_stand zero (c ∷ cs) few are = absurd (omega (arith, few))
+  all_stand (suc most) [] few are = none
+  all_stand (suc most) (c ∷ cs) few are = by_test (c == 92) refl (all_stand most) where
+    by_test : (test : Bool) → (c == 92) ≡ test → Stands most →
+        StandFor (c ∷ cs) (unescaped (c ∷ cs))
+    by_test true so stands =
+        let slash = eqb-true c 92 so in
+        let found = after_backslash (encode_utf8_all cs) (subst (AreItems quote)
+        (ap (λ (n : ℕ). encode_utf8 n ++ encode_utf8_all cs) slash
+        ∙ ap (λ (bs : List ℕ). bs ++ encode_utf8_all cs) (encode_ascii 92 (omega arith))) are) in
+        let left = peeled found.0 cs found.1 (escape_low found.0 found.2) found.3 in
+        subst (λ (z : List ℕ). StandFor z (unescaped z))
+        (ap (λ (z : List ℕ). 92 ∷ z) (sym left.1) ∙ ap (λ (n : ℕ). n ∷ cs) (sym slash))
+        (by_escape most stands found.0 left.0 found.2
+        (omega (arith, few, ap length left.1, length-append found.0 left.0))
+        (subst (AreItems quote) (sym left.2) found.4))
+    by_test false so stands =
+        subst (StandFor (c ∷ cs)) (rw so refl)
+        (plain c cs (unescaped cs) so (stands cs (omega (arith, few)) (after_character c cs so are)))
 
 -- ---- a string in a source
 
@@ -397,8 +322,12 @@ inside_is quote items =
     (arith, length-append items (quote ∷ [])) in
     ap (λ (n : ℕ). take n (items ++ quote ∷ [])) count ∙ take-append_seam items (quote ∷ [])
 
+-- what a string stands for is what is read
+abbrev pub IsRead : List ℕ → Type 0
+IsRead bytes = StandsForText bytes (string_of bytes)
+
 string_text : (cs before bytes rest : List ℕ) → all_scalars cs ≡ true →
-    encode_utf8_all cs ≡ before ++ (bytes ++ rest) → IsString bytes → StandsForText bytes
+    encode_utf8_all cs ≡ before ++ (bytes ++ rest) → IsString bytes → IsRead bytes
 unfolding string_of
 string_text cs before bytes rest scalars e (quoted quote items is are) =
     let low = quote_low quote is in
@@ -409,19 +338,33 @@ string_text cs before bytes rest scalars e (quoted quote items is are) =
     let inner = (scalars_after two.0 (quote ∷ two.1) (subst (λ
     (z : List ℕ). all_scalars z ≡ true) two.2 all)).0 in
     let inside = inside_is quote items in
-    let sound = all_sound quote (length two.0) two.0 (omega arith) inner
+    let stand = all_stand quote (length two.0) two.0 (omega arith)
     (subst (AreItems quote) two.3 are) in
     let characters : chars (inside_quotes (quote ∷ (items ++ quote ∷ []))) ≡ two.0 =
-    ap chars inside ∙ ap chars two.3 ∙ chars-encodes two.0 inner in (
-      (two.0, (inner, sym two.3 ∙ sym inside)),
-      subst (λ (z : List ℕ). all_scalars (unescaped z) ≡ true) (sym characters) sound,
-    )
+    ap chars inside ∙ ap chars two.3 ∙ chars-encodes two.0 inner in
+    subst (StandsForText (quote ∷ (items ++ quote ∷ []))) (ap unescaped (sym characters)) (record {
+      characters = two.0;
+      encoded = sym two.3 ∙ sym inside;
+      scalars = inner;
+      stand = stand;
+      no_surrogates = text_scalars two.0 (unescaped two.0) stand inner;
+    })
+
+-- a string stands for what is read alone
+read_alone : (bytes text : List ℕ) → StandsForText bytes text → text ≡ string_of bytes
+unfolding string_of
+read_alone bytes text is =
+    reads is.characters text is.stand
+    ∙ ap unescaped (sym (chars-encodes is.characters is.scalars) ∙ ap chars is.encoded)
+
+pub one_text : (bytes s t : List ℕ) → StandsForText bytes s → StandsForText bytes t → s ≡ t
+one_text bytes s t one other = read_alone bytes s one ∙ sym (read_alone bytes t other)
 
 -- ---- the tokens of a source
 
 abbrev pub Textual : List ℕ → Token → Type 0
 Textual src token = token.kind ≡ kind.Str →
-    StandsForText (take (token.to - token.from) (drop token.from src))
+    IsRead (take (token.to - token.from) (drop token.from src))
 
 module _ (src cs : List ℕ) (scalars : all_scalars cs ≡ true)
     (spells : encode_utf8_all cs ≡ src) where
@@ -467,7 +410,7 @@ module _ (src cs : List ℕ) (scalars : all_scalars cs ≡ true)
       ∙ ap (take (length text)) (drop-append_seam before (text ++ rest))
       ∙ take-append_seam text rest in
       one_more kind.Str at (at + length text) tokens
-      (λ e. subst StandsForText (sym here) (string_text cs before text rest scalars (spells ∙ is)
+      (λ e. subst IsRead (sym here) (string_text cs before text rest scalars (spells ∙ is)
       (fits refl))) others
 
   lexed_texts : (at : ℕ) (bytes : List ℕ) (tokens : List Token) → Lexes at bytes tokens →

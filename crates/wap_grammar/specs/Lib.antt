@@ -1,6 +1,6 @@
 pub mod Lexemes
 pub mod Strings
-pub mod Texts
+pub mod Unescaping
 pub mod Values
 pub mod Spellings
 pub mod Expressions

@@ -11,7 +11,7 @@ use Rattle.wap_grammar.specs.declared.callee.Callee.{Callee}
 use Rattle.wap_grammar.specs.declared.callee.Callee.TheVariants as callee
 use Rattle.wap_grammar.specs.declared.word.Word.{Word}
 use Rattle.wap_grammar.specs.declared.word.Word.TheVariants as word
-pub use Rattle.wap_grammar.specs.Strings.{string_of}
+pub use Rattle.wap_grammar.specs.Unescaping.{string_of}
 use Rattle.wap_grammar.specs.Lexemes.{text_in}
 
 -- a name has no characters but ASCII's, so its bytes are its characters

@@ -5,7 +5,8 @@ ghost use Rattle.wap_lex.specs.declared.token.Kind.TheVariants.{Str};
 ghost use Rattle.wap_lex.specs.Tokens.{AreTokens};
 ghost use Rattle.wap_grammar.specs.declared.lexeme.Lexeme.{Lexeme};
 ghost use Rattle.wap_grammar.specs.Programs.{Spells};
-ghost use Rattle.wap_grammar.specs.Texts.{StandsForText};
+ghost use Rattle.wap_grammar.specs.Strings.{StandsForText};
+ghost use Rattle.wap_grammar.specs.Values.{text_of};
 ghost use Rattle.wap_grammar.specs.Lexemes.{word_rows, text_in, lexeme_of};
 ghost use Rattle.wap_grammar.specs.declared.program.program.Program.{Program};
 
@@ -17,11 +18,17 @@ pub fn one_program()
         Spells src p lexemes → Spells src q lexemes → p ≡ q }
 {}
 
-/// Each string among the tokens of a source stands for a text, so none is refused for its bytes.
+/// Each string among the tokens of a source stands for a text, the one that is read from it, so
+/// none is refused for its bytes.
 pub fn strings_are_texts()
     ensures { (src : List ℕ) (tokens : List Token) → AreTokens src tokens →
-        All (λ token. token.kind ≡ Str → StandsForText (text_in src (lexeme_of src token).span))
-        tokens }
+        All (λ token. token.kind ≡ Str → StandsForText (text_in src (lexeme_of src token).span)
+        (text_of src (lexeme_of src token).span)) tokens }
+{}
+
+/// A string stands for no two texts.
+pub fn one_text()
+    ensures { (bytes s t : List ℕ) → StandsForText bytes s → StandsForText bytes t → s ≡ t }
 {}
 
 /// The table of words in the code is that of the definitions.

@@ -16,7 +16,7 @@ mod words;
 
 pub use callee::Callee;
 pub use fault::ParseFault;
-pub use laws::{one_program, strings_are_texts, words_are_listed};
+pub use laws::{one_program, one_text, strings_are_texts, words_are_listed};
 pub use lexeme::Lexeme;
 pub use precedence::{ASSIGNMENT, COMMA, CONDITIONAL, LEVEL_LIMIT, UNARY};
 pub use start::Start;

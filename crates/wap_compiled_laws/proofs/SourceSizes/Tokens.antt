@@ -265,7 +265,7 @@ module _ (src : List ℕ) (token : Token) (sound : IsSound src token)
   one : Sound src (lexeme_of src token)
   one = record {
     some = sound.some;
-    scalars = λ e. (textual (string_kind token.kind bytes e)).1;
+    scalars = λ e. (textual (string_kind token.kind bytes e)).no_surrogates;
     string = λ e.
         let k = string_kind token.kind bytes e in
         omega (

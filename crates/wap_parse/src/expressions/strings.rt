@@ -4,8 +4,8 @@ ghost use Rattle.std.specs.Char.{is_ascii_hexdigit};
 ghost use Rattle.std.specs.Str.{chars};
 ghost use Rattle.wap_lex.specs.Numbers.{with_digit, digit_value};
 ghost use Rattle.wap_lex.specs.Characters.{is_octal_digit};
-ghost use Rattle.wap_grammar.specs.Strings.{named_by, goes_on, unescaped};
-ghost use Rattle.wap_grammar.specs.Strings.{escaped, numbered, string_of};
+ghost use Rattle.wap_grammar.specs.Strings.{named_by};
+ghost use Rattle.wap_grammar.specs.Unescaping.{goes_on, unescaped, escaped, numbered, string_of};
 ghost use Rattle.wap_parse.specs.expressions.inside.Escapes.{left_of};
 
 use std::alloc::Global;
@@ -24,7 +24,7 @@ enum Place {
 /// The text that a string stands for, from its bytes with their quotes. Bytes that stand for no
 /// text, since they are not UTF-8 or escape a surrogate, are answered as `NoMemory`; a string in a
 /// source has no such bytes.
-#[tactic(auto, unfolding(wap_grammar::specs::Strings::string_of))]
+#[tactic(auto, unfolding(wap_grammar::specs::Unescaping::string_of))]
 pub(crate) fn string_of(alloc: Global, bytes: &[u8]) -> Result<Text, NoMemory>
     ensures { IfOk result (λ text. text ≡ string_of bytes.now) }
 {

@@ -1,6 +1,6 @@
 -- What is still to come of a string's text. This project's own.
 use Rattle.std.specs.Prelude.{ℕ, List}
-use Rattle.wap_grammar.specs.Strings.{unescaped, escaped, numbered}
+use Rattle.wap_grammar.specs.Unescaping.{unescaped, escaped, numbered}
 use Rattle.wap_parse.specs.declared.expressions.strings.Place.{Place}
 use Rattle.wap_parse.specs.declared.expressions.strings.Place.TheVariants.{Plain, Backslash, Number}
 

@@ -2,7 +2,7 @@ use Rattle.std.proofs.Common.{sym, ap, ◌∙◌, [], ◌∷◌, append_assoc}
 use Rattle.std.proofs.lemmas.List.{map-id, append-nil}
 use Rattle.std.proofs.lemmas.Iterator.{YieldsList-from_chars}
 use Rattle.std.proofs.lemmas.Iterator.Consumers.{YieldsList-end}
-use Rattle.wap_grammar.specs.Strings.{unescaped}
+use Rattle.wap_grammar.specs.Unescaping.{unescaped}
 use Rattle.wap_parse.proofs.expressions.strings.unescape.Goals as goal
 
 pub returns : goal.returns

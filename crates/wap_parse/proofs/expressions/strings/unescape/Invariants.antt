@@ -1,5 +1,5 @@
 use Rattle.std.proofs.Common.{◌≡◌, ℕ, List, ◌++◌}
-use Rattle.wap_grammar.specs.Strings.{unescaped}
+use Rattle.wap_grammar.specs.Unescaping.{unescaped}
 use Rattle.wap_parse.specs.expressions.inside.Escapes.{left_of}
 use Rattle.wap_parse.proofs.expressions.strings.unescape.Given as goal
 

@@ -1,0 +1,5 @@
+use Rattle.wap_grammar.proofs.Texts.{one_text}
+use Rattle.wap_grammar.proofs.laws.one_text.Goals as goal
+
+pub returns : goal.returns
+returns c = one_text
