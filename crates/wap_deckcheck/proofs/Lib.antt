@@ -7,5 +7,5 @@ pub mod Soundness
 pub mod GoodDecks
 pub mod Completeness
 pub mod Ascending
-pub mod OtherTags
+pub mod FormsOf
 pub mod Passing

@@ -1,5 +1,6 @@
 pub mod Profile
 pub mod Places
 pub mod Faults
+pub mod Forms
 pub mod Order
 pub mod inside

@@ -1,12 +1,13 @@
 //! The values that attributes may have.
-ghost use Rattle.std.specs.Prelude.{◌≡◌, ◌||◌, [], true, not, map, is_none};
+ghost use Rattle.std.specs.Prelude.{◌≡◌, ◌||◌, [], ◌∷◌, true, not, map, is_none, IfSome};
 ghost use Rattle.std.specs.List.{list_any, list_all};
 ghost use Rattle.std.specs.Str.{bytes_eq};
 ghost use Rattle.wap_base.specs.Texts.{is_same_text};
 ghost use Rattle.wap_tokens.specs.markup.Trees.{plain_text};
 ghost use Rattle.wap_tokens.specs.markup.Tables.{is_same_attr};
 ghost use Rattle.wap_tokens.specs.markup.Good.{text_has, value_has, all_have, names_of, has_forms};
-ghost use Rattle.wap_deckcheck.specs.inside.Rows.{words_of, has_plain_words, form_of, has_forms_as};
+ghost use Rattle.wap_deckcheck.specs.inside.Rows.{has_plain_words};
+ghost use Rattle.wap_deckcheck.specs.Forms.{words_of, form_of, forms_of, IsWrong};
 ghost use Rattle.wap_deckcheck.specs.Faults.{has_twice};
 
 use wap_base::{Part, Rows, Text, is_name};
@@ -69,8 +70,7 @@ static SELECT: [Row; 3] = [
 /// The attributes of an element that have a form.
 fn rows_of(tag: Tag) -> &'static [Row]
     ensures plain { list_all (λ row. has_plain_words row.1) result.now ≡ true }
-    ensures all { (node : Node) → has_forms_as tag node
-        ≡ list_all (λ row. all_have row.0 (form_of row.1) node) result.now }
+    ensures rows { forms_of tag ≡ map (λ row. (row.0, form_of row.1)) result.now }
 {
     match tag {
         Tag::Go => &GO,
@@ -176,8 +176,10 @@ fn value_has(form: &LentForm, parts: &[Part]) -> bool
 /// The first value of this name that isn't of a form, with its attribute.
 fn wrong_of<'a>(name: AttrName, form: &LentForm, attrs: &'a [Attribute]) -> Option<&'a Attribute>
     requires { has_plain_words form.now ≡ true }
-    ensures { is_none result ≡ list_all (λ a. not (is_same_attr a.0 name)
+    ensures none { is_none result ≡ list_all (λ a. not (is_same_attr a.0 name)
         || value_has (form_of form.now) (plain_text a.1)) attrs.now }
+    ensures wrong { IfSome result (λ found.
+        IsWrong ((name, form_of form.now) ∷ []) attrs.now found.now (form_of form.now)) }
 {
     for attr in attrs {
         if attr.0 == name && !value_has(form, attr.1.as_slice()) {
@@ -191,7 +193,10 @@ fn wrong_of<'a>(name: AttrName, form: &LentForm, attrs: &'a [Attribute]) -> Opti
 /// rows, with that form.
 fn wrong_in<'a>(rows: &[Row], node: &'a Node) -> Option<(&'a Attribute, LentForm)>
     requires { list_all (λ row. has_plain_words row.1) rows.now ≡ true }
-    ensures { is_none result ≡ list_all (λ row. all_have row.0 (form_of row.1) node.now) rows.now }
+    ensures none { is_none result
+        ≡ list_all (λ row. all_have row.0 (form_of row.1) node.now) rows.now }
+    ensures wrong { IfSome result (λ found. IsWrong (map (λ row. (row.0, form_of row.1)) rows.now)
+        node.now.attrs found.0.now (form_of found.1)) }
 {
     for row in rows {
         if let Some(attr) = wrong_of(row.0, &row.1, node.attrs.as_slice()) {
@@ -204,7 +209,9 @@ fn wrong_in<'a>(rows: &[Row], node: &'a Node) -> Option<(&'a Attribute, LentForm
 /// An attribute of an element whose value isn't of the form that it has to be of, and that form:
 /// none where each value may stand there.
 pub fn wrong_value(node: &Node) -> Option<(&Attribute, LentForm)>
-    ensures { is_none result ≡ has_forms node.now }
+    ensures none { is_none result ≡ has_forms node.now }
+    ensures wrong { IfSome result (λ found.
+        IsWrong (forms_of node.now.tag) node.now.attrs found.0.now (form_of found.1)) }
 {
     wrong_in(rows_of(node.tag), node)
 }

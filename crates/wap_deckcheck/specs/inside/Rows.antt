@@ -1,15 +1,13 @@
 -- The tables' rows as a program has them, their lists lent. This project's own.
-use Rattle.std.specs.Prelude.{ℕ, Bool, true, not, ◌||◌, nat_lt, List, map}
+use Rattle.std.specs.Prelude.{ℕ, Bool, true, nat_lt, List, map}
 use Rattle.std.specs.List.{list_all}
 use Rattle.std.specs.Borrow.{Bor}
 use Rattle.wap_tokens.specs.declared.markup.name.Tag.{Tag}
 use Rattle.wap_tokens.specs.declared.markup.name.AttrName.{AttrName}
-use Rattle.wap_tokens.specs.declared.markup.deck.Node.{Node}
-use Rattle.wap_tokens.specs.markup.Tables.{is_same_tag}
-use Rattle.wap_tokens.specs.markup.Good.{Rule, Form, words, variable, optional_variable}
-use Rattle.wap_tokens.specs.markup.Good.{plain, forms, all_have}
+use Rattle.wap_tokens.specs.markup.Good.{Rule}
 use Rattle.wap_deckcheck.specs.declared.forms.LentForm.{LentForm}
 use Rattle.wap_deckcheck.specs.declared.forms.LentForm.TheVariants as lent
+use Rattle.wap_deckcheck.specs.Forms.{words_of}
 
 abbrev pub groups_of : List (Bor (List Tag)) → List (List Tag)
 groups_of = map (λ group. group.now)
@@ -32,9 +30,6 @@ rule_row row = (
   },
 )
 
-abbrev pub words_of : List (Bor (List ℕ)) → List (List ℕ)
-words_of = map (λ word. word.now)
-
 -- words are of US-ASCII, so their bytes are their characters
 abbrev pub is_plain_word : List ℕ → Bool
 is_plain_word word = list_all (λ c. nat_lt c 128) word
@@ -42,14 +37,3 @@ is_plain_word word = list_all (λ c. nat_lt c 128) word
 abbrev pub has_plain_words : LentForm → Bool
 has_plain_words (lent.Words some) = list_all is_plain_word (words_of some.now)
 has_plain_words _ = true
-
-abbrev pub form_of : LentForm → Form
-form_of (lent.Words some) = words (words_of some.now)
-form_of lent.Variable = variable
-form_of lent.OptionalVariable = optional_variable
-form_of lent.Plain = plain
-
--- whether the attributes of a node that have a form in elements of this tag are of that form
-abbrev pub has_forms_as : Tag → Node → Bool
-has_forms_as tag node =
-    list_all (λ form. not (is_same_tag tag form.0) || all_have form.1 form.2 node) forms

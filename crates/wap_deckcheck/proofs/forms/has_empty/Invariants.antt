@@ -1,6 +1,6 @@
 use Rattle.std.proofs.Common.{◌≡◌, drop}
 use Rattle.std.specs.List.{list_any}
-use Rattle.wap_deckcheck.specs.inside.Rows.{words_of}
+use Rattle.wap_deckcheck.specs.Forms.{words_of}
 use Rattle.wap_base.specs.Texts.{is_same_text}
 use Rattle.std.proofs.Common.{[]}
 use Rattle.wap_deckcheck.proofs.forms.has_empty.Given as goal

@@ -1,6 +1,6 @@
 use Rattle.std.proofs.Common.{◌≡◌, drop}
 use Rattle.std.specs.List.{list_any}
-use Rattle.wap_deckcheck.specs.inside.Rows.{words_of}
+use Rattle.wap_deckcheck.specs.Forms.{words_of}
 use Rattle.std.specs.Str.{bytes_eq}
 use Rattle.wap_deckcheck.proofs.forms.is_word.Given as goal
 

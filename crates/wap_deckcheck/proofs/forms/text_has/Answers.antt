@@ -1,6 +1,7 @@
 use Rattle.std.proofs.Common.{ap, sym, ◌∙◌, true, false}
 use Rattle.wap_tokens.specs.markup.Good.{text_has}
-use Rattle.wap_deckcheck.specs.inside.Rows.{words_of, has_plain_words, form_of}
+use Rattle.wap_deckcheck.specs.Forms.{words_of, form_of}
+use Rattle.wap_deckcheck.specs.inside.Rows.{has_plain_words}
 use Rattle.wap_deckcheck.specs.declared.forms.LentForm.{LentForm}
 use Rattle.wap_deckcheck.proofs.WordTests.{words_told, named, empty_or, empty_told}
 use Rattle.wap_deckcheck.proofs.forms.text_has.Goals as goal

@@ -1,7 +1,7 @@
 use Rattle.std.proofs.Common.{◌≡◌, drop}
 use Rattle.std.specs.List.{list_all}
 use Rattle.wap_tokens.specs.markup.Good.{all_have}
-use Rattle.wap_deckcheck.specs.inside.Rows.{form_of}
+use Rattle.wap_deckcheck.specs.Forms.{form_of}
 use Rattle.wap_deckcheck.proofs.forms.wrong_in.Given as goal
 
 -- what is left tells it

@@ -2,7 +2,7 @@ use Rattle.std.proofs.Common.{◌≡◌, ◌||◌, not, drop}
 use Rattle.std.specs.List.{list_all}
 use Rattle.wap_tokens.specs.markup.Tables.{is_same_attr}
 use Rattle.wap_tokens.specs.markup.Good.{value_has}
-use Rattle.wap_deckcheck.specs.inside.Rows.{form_of}
+use Rattle.wap_deckcheck.specs.Forms.{form_of}
 use Rattle.wap_tokens.specs.markup.Trees.{plain_text}
 use Rattle.wap_deckcheck.proofs.forms.wrong_of.Given as goal
 
