@@ -57,9 +57,11 @@ pub fn read_row(row: Row, code: &[u8], at: usize) -> Result<Instr, InstrFault>
     requires here { at < length code.now }
     requires within { row.first ≤ slice_index code.now at }
     ensures instr { result ≡ read_row row code.now at }
-    // Each operand of a code of the row is within its bits.
-    ensures operands { IfOk result (λ instr. slice_index code.now at < row.first + row.count
-        → Holds row instr.a instr.b instr.c) }
+    // Each operand is within its bits, for as many codes of the row as the byte is among: those of
+    // its table, or 256, of which each byte is.
+    ensures operands { IfOk result (λ instr. (count : ℕ)
+        → slice_index code.now at < row.first + count
+        → Holds (record row { count = count }) instr.a instr.b instr.c) }
 {
     let left = code.len() - at;
     let low = code[at] - row.first;

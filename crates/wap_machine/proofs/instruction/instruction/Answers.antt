@@ -40,4 +40,4 @@ returns c =
     cc (c.requires.code, c.place-place.ensures) in
     subst (λ (action : Action). IsInstruction frame action c.in-Ok.instr) (sym c.action_of.ensures)
     (instruction_is frame c.in-Some.row c.in-Ok.instr c.requires.stands c.requires.within row read
-    (λ below. c.in-Ok.ensures.operands (omega (arith, byte, below))))
+    (λ below. c.in-Ok.ensures.operands c.in-Some.row.count (omega (arith, byte, below))))
