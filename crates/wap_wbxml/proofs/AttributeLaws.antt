@@ -3,10 +3,11 @@ use Rattle.std.proofs.Common.{◌≡◌, ℕ, ◌<◌, Bool, true, false, cond, 
 use Rattle.std.proofs.Common.{◌∷◌, ◌++◌, length, Option, Some, None, Result, Ok, Err, refl}
 use Rattle.std.proofs.Common.{sym, ap, subst, ◌∙◌, append_assoc, inl, inr, arith}
 use Rattle.std.specs.Prelude.{not, ◌&&◌}
-use Rattle.std.proofs.lemmas.Bool.{eqb-true}
+use Rattle.std.proofs.lemmas.Bool.{eqb-true, false≢true, not-true, and_parts}
 use Rattle.std.proofs.lemmas.List.{length-append}
 use Rattle.wap_base.specs.Outcome.{◌>>=◌}
 use Rattle.wap_base.proofs.Choices.{bind_ok, bind_err, some_same}
+use Rattle.wap_base.proofs.formats.Readers.{pair_same, joined}
 use Rattle.wap_tokens.specs.declared.markup.codes.TheConstants.{END, LITERAL, SWITCH_PAGE}
 use Rattle.wap_tokens.specs.declared.markup.document.Attr.{Attr}
 use Rattle.wap_tokens.specs.declared.markup.document.Piece.{Piece}
@@ -28,8 +29,8 @@ use Rattle.wap_tokens.specs.markup.Grammar.{on_attribute_page}
 use Rattle.wap_wbxml.specs.declared.fault.DocFault.{DocFault}
 use Rattle.wap_wbxml.specs.declared.fault.DocFault.TheVariants as doc
 use Rattle.wap_wbxml.specs.reading.ByteReading.{Reading, told}
-use Rattle.wap_wbxml.specs.Places.{Input, place_before}
-use Rattle.wap_wbxml.specs.reading.Fronts.{lead_in, lead_at, inline_at, indexed_at, character_at}
+use Rattle.wap_wbxml.specs.Places.{Input}
+use Rattle.wap_wbxml.specs.reading.Fronts.{lead_in, lead_at}
 use Rattle.wap_tokens.specs.markup.Codes.{is_end}
 use Rattle.wap_wbxml.specs.reading.BodyReading.{no_token, as_none, as_short, leaf_at, start_at}
 use Rattle.wap_wbxml.specs.reading.BodyReading.{some_piece, piece_from, piece_led, next_piece}
@@ -41,11 +42,9 @@ use Rattle.wap_wbxml.specs.Refusal.{RefusedLead, RefusedLeaf, NoToken, RefusedSt
 use Rattle.wap_wbxml.specs.Refusal.{RefusedPieceBehind, RefusedPiece, ValueEnds, AttributeEnds}
 use Rattle.wap_wbxml.specs.Refusal.{RefusedValue, RefusedAttribute, RefusedUnless, RefusedNext}
 use Rattle.wap_wbxml.specs.Refusal.{RefusedAttributes, RefusedEnd, RefusedInstruction}
-use Rattle.wap_wbxml.proofs.Readings.{Reads, pair_same, joined, no_fault, reads_behind}
-use Rattle.wap_wbxml.proofs.Readings.{reads_then, reads_told, reads_given, reads_never}
-use Rattle.wap_wbxml.proofs.Readings.{reads_placed, reads_as, reads_those}
+use Rattle.wap_wbxml.proofs.Readings.{Reads, at_end, no_fault, reads_behind, reads_then}
+use Rattle.wap_wbxml.proofs.Readings.{reads_told, reads_given, reads_never, reads_as, reads_those}
 use Rattle.wap_wbxml.proofs.Runs.{Items, StopsOpen, StopsAt, reads_open, reads_ended}
-use Rattle.wap_wbxml.proofs.TextLaws.{and_parts}
 use Rattle.wap_wbxml.proofs.FrontLaws.{reads_lead, reads_character, reads_opaque}
 use Rattle.wap_wbxml.proofs.StringLaws.{reads_inline, reads_indexed, reads_name}
 use Rattle.wap_wbxml.proofs.LeadLaws.{lead_length, lead_alone, lead_seen, lead_of, some_pair}
@@ -55,19 +54,15 @@ use Rattle.wap_wbxml.proofs.LeadLaws.{none_some, some_none, none_same, led_items
 
 pub reads_leaf : (input : Input) (m : LeafMark)
     → Reads Anything (leaf_at input m) (IsLeaf input.strings m) (RefusedLeaf input m)
-unfolding leaf_at RefusedLeaf inline_at indexed_at character_at
+unfolding leaf_at RefusedLeaf
 reads_leaf input (mark.Inline role) =
-    reads_told (leaf_of role)
-    (reads_placed (reads_inline input) (place_before input.total)) (λ a rest u. u)
+    reads_told (leaf_of role) (at_end (reads_inline input.strings) input.total) (λ a rest u. u)
     (λ a rest u. u)
 reads_leaf input (mark.Indexed role) =
-    reads_told (leaf_of role)
-    (reads_placed (reads_indexed input) (place_before input.total)) (λ a rest u. u)
+    reads_told (leaf_of role) (at_end (reads_indexed input.strings) input.total) (λ a rest u. u)
     (λ a rest u. u)
 reads_leaf input mark.Entity =
-    reads_told leaf.Entity
-    (reads_placed (reads_character input.total) (place_before input.total)) (λ a rest u. u)
-    (λ a rest u. u)
+    reads_told leaf.Entity (at_end reads_character input.total) (λ a rest u. u) (λ a rest u. u)
 reads_leaf input mark.Opaque =
     reads_told leaf.Opaque (reads_opaque input.total) (λ a rest u. u) (λ a rest u. u)
 reads_leaf input (mark.Extension number) = reads_given (leaf.Ext number)
@@ -76,7 +71,7 @@ reads_leaf input (mark.Extension number) = reads_given (leaf.Ext number)
 
 pub reads_no_token : {A : Type 0} (total : ℕ)
     → Reads {A = A} Anything (no_token total) Never (NoToken total)
-reads_no_token total = reads_never Anything (λ rest. doc.Token (place_before total rest))
+reads_no_token = reads_never doc.Token
 
 reads_start : (input : Input) (before : State) (lead : Lead) (m : AttributeMark)
     → Reads Anything (start_at input before lead m) (IsStartBehind input.strings before lead m)
@@ -84,7 +79,8 @@ reads_start : (input : Input) (before : State) (lead : Lead) (m : AttributeMark)
 unfolding start_at RefusedStart
 reads_start input before lead attribute.Coded = reads_given (Code lead.byte, before)
 reads_start input before lead attribute.Named =
-    reads_told literal (reads_name input before) (λ a rest u. u) (λ a rest u. u)
+    reads_told literal (at_end (reads_name input.strings before) input.total) (λ a rest u. u)
+    (λ a rest u. u)
 reads_start input before lead _ = reads_no_token input.total
 
 -- ---- parts of values
@@ -94,24 +90,17 @@ pub told_told : {A B C : Type 0} (make : A → B) (after : B → C) (read : Read
 told_told make after (Ok x) = refl
 told_told make after (Err fault) = refl
 
-pub false_true : false ≡ true → ⊥
-false_true e = cc
-
 -- ---- ends
 
 ends_chain : (a b c d : Bool) (o : Option LeafMark)
     → is_end (cond a (cond b attribute.Coded attribute.Value)
     (cond c attribute.Named (cond d attribute.End (attribute_leaf o)))) ≡ true → d ≡ true
-ends_chain true true c d o e = absurd (false_true e)
-ends_chain true false c d o e = absurd (false_true e)
-ends_chain false b true d o e = absurd (false_true e)
+ends_chain true true c d o e = absurd (false≢true e)
+ends_chain true false c d o e = absurd (false≢true e)
+ends_chain false b true d o e = absurd (false≢true e)
 ends_chain false b false true o e = refl
-ends_chain false b false false (Some mark) e = absurd (false_true e)
-ends_chain false b false false None e = absurd (false_true e)
-
-pub not_true : (b : Bool) → not b ≡ true → b ≡ false
-not_true true e = absurd (false_true e)
-not_true false e = refl
+ends_chain false b false false (Some mark) e = absurd (false≢true e)
+ends_chain false b false false None e = absurd (false≢true e)
 
 attribute_end : (lead : Lead) → is_end (attribute_mark lead) ≡ true
     → (lead.byte ≡ END) × (lead.switched ≡ false)
@@ -120,7 +109,7 @@ attribute_end lead e =
     let over = ends_chain (ltb LITERAL (lead.byte % 64)) (ltb lead.byte 128) (eqb lead.byte LITERAL)
     (eqb lead.byte END && not lead.switched) (leaf_behind lead.switched (leaf_mark lead.byte)) e in
     let parts = and_parts (eqb lead.byte END) (not lead.switched) over in
-    (eqb-true lead.byte END parts.0, not_true lead.switched parts.1)
+    (eqb-true lead.byte END parts.0, not-true lead.switched parts.1)
 
 abbrev plain_end : ℕ → Lead
 plain_end page = record { switched = false; page = page; byte = END }
@@ -155,7 +144,7 @@ module _ (input : Input) where
   reads_piece lead attribute.Value e = reads_given (piece.Code lead.page lead.byte)
   reads_piece lead (attribute.Leaf mark) e =
       reads_told piece_of (reads_leaf input mark) (λ a rest u. u) (λ a rest u. u)
-  reads_piece lead _ e = absurd (false_true e)
+  reads_piece lead _ e = absurd (false≢true e)
 
   piece_begins : (lead : Lead) (m : AttributeMark) (bytes : List ℕ) (x : Piece)
       → IsPieceBehind input.strings lead m bytes x → begins_piece m ≡ true
@@ -242,7 +231,7 @@ module _ (input : Input) where
       by_takes s bytes lead.0 lead.1 test refl x t rest
       (sym (seen_by s bytes lead.0 lead.1 test refl) ∙ e) in (
         b.0 ++ c.0,
-        joined bytes b.0 c.0 lead.1 rest b.1 c.1,
+        joined bytes b.0 lead.1 c.0 rest b.1 c.1,
         record { front = b.0; rest = c.0; spelled = refl; a = lead.0; first = b.2; next = c.2 },
         tt,
       )

@@ -1,11 +1,17 @@
 -- Documents are read as they are spelled.
-use Rattle.std.proofs.Common.{◌≡◌, ◌≢◌, ℕ, ◌<◌, Bool, true, false, cond, eqb, List, [], ◌∷◌}
+use Rattle.std.proofs.Common.{◌≡◌, ℕ, ◌<◌, Bool, true, false, eqb, List, [], ◌∷◌}
 use Rattle.std.proofs.Common.{◌++◌, length, Option, Some, None, Ok, Err, refl, sym, ap}
 use Rattle.std.proofs.Common.{subst, ◌∙◌, append_assoc, inl, inr, arith}
-use Rattle.std.proofs.lemmas.Bool.{eqb-true}
+use Rattle.std.specs.Option.{option_map}
+use Rattle.std.proofs.lemmas.Bool.{eqb-true, eqb-false, ne_eqb}
 use Rattle.std.proofs.lemmas.List.{append-nil}
+use Rattle.wap_base.specs.Numbers.{IsMb}
 use Rattle.wap_base.specs.Outcome.{◌>>=◌}
-use Rattle.wap_base.proofs.Choices.{chosen, bind_ok, bind_err, ok_same, err_same}
+use Rattle.wap_base.specs.formats.ByteReading.{given, unless}
+use Rattle.wap_base.proofs.Choices.{bind_ok, bind_err, ok_same, err_same, some_same}
+use Rattle.wap_base.proofs.formats.Readers as formats
+use Rattle.wap_base.proofs.formats.Readers.{pair_same}
+use Rattle.wap_base.proofs.formats.Steps
 use Rattle.wap_tokens.specs.declared.markup.codes.TheConstants.{PI, SWITCH_PAGE}
 use Rattle.wap_tokens.specs.declared.markup.document.Attr.{Attr}
 use Rattle.wap_tokens.specs.declared.markup.document.TheConstants.{LEVEL_LIMIT}
@@ -31,12 +37,11 @@ use Rattle.wap_tokens.specs.markup.Documents.{out_of_root, IsBody, IsDocumentOf}
 use Rattle.wap_wbxml.specs.declared.fault.DocFault.{DocFault}
 use Rattle.wap_wbxml.specs.declared.fault.DocFault.TheVariants as doc
 use Rattle.wap_wbxml.specs.reading.ByteReading.{Reading, some, told}
-use Rattle.wap_wbxml.specs.Places.{Input, place}
+use Rattle.wap_wbxml.specs.Places.{Input, place, charset_from, input_of}
 use Rattle.wap_wbxml.specs.reading.Fronts.{opaque_at}
 use Rattle.wap_wbxml.specs.reading.BodyReading.{as_none, instruction_at}
-use Rattle.wap_wbxml.specs.Places.{input_of}
-use Rattle.wap_wbxml.specs.reading.Whole.{version_at, identifier_from, identifier_at, or_no_charset}
-use Rattle.wap_wbxml.specs.reading.Whole.{charset_at, or_not_public, public_of, outer_from}
+use Rattle.wap_wbxml.specs.reading.Whole.{version_at, identifier_from, identifier_at, charset_at}
+use Rattle.wap_wbxml.specs.reading.Whole.{or_not_public, public_of, outer_from}
 use Rattle.wap_wbxml.specs.reading.Whole.{next_outer, outers_at, root_from, root_at, body_at}
 use Rattle.wap_wbxml.specs.reading.Whole.{document_of, whole_at, all_of_it, typed_at}
 use Rattle.wap_wbxml.specs.Refusals.{Anything, RefusedThen}
@@ -44,8 +49,8 @@ use Rattle.wap_wbxml.specs.Refusal.{RefusedVersion, RefusedIdentifierBehind, Ref
 use Rattle.wap_wbxml.specs.Refusal.{RefusedCharset, RefusedPublic, RefusedOuter, InstructionsEnd}
 use Rattle.wap_wbxml.specs.Refusal.{OutersEnd, RefusedOuters, RefusedRootBehind, RefusedRoot}
 use Rattle.wap_wbxml.specs.Refusal.{RefusedBody, RefusedWhole, IsRefusedAs}
-use Rattle.wap_wbxml.proofs.Readings.{Reads, pair_same, no_fault, no_value, reads_behind}
-use Rattle.wap_wbxml.proofs.Readings.{reads_then, reads_told, reads_given, reads_as, reads_found}
+use Rattle.wap_wbxml.proofs.Readings.{Reads, at_end, no_fault, no_value, reads_behind, reads_then}
+use Rattle.wap_wbxml.proofs.Readings.{reads_told, reads_given, reads_as}
 use Rattle.wap_wbxml.proofs.Runs.{Items, StopsOpen, reads_open}
 use Rattle.wap_wbxml.proofs.FrontLaws.{reads_lead, reads_number, reads_opaque}
 use Rattle.wap_wbxml.proofs.LeadLaws.{some_pair, none_some, some_none, none_same}
@@ -54,150 +59,74 @@ use Rattle.wap_wbxml.proofs.ElementLaws.{reads_element}
 
 -- ---- the header
 
-version_takes : (total : ℕ) (bytes : List ℕ) (x : ℕ) (rest : List ℕ)
-    → version_at total bytes ≡ Ok (x, rest)
-    → (front : List ℕ) × (bytes ≡ front ++ rest) × IsVersion front x × Anything x rest
+-- the version
+reads_version : formats.Reads version_at IsVersion RefusedVersion
 unfolding version_at
-version_takes total [] x rest e = absurd (no_value e)
-version_takes total (byte ∷ bytes) x rest e =
-    elim (chosen (is_version byte) (Ok (byte, bytes)) (Err doc.Version) (Ok (x, rest)) e) [
-      | inl t ↦
-          let same = pair_same byte x bytes rest t.1 in (
-            byte ∷ [],
-            ap (λ (l : List ℕ). byte ∷ l) same.1,
-            (ap (λ (n : ℕ). n ∷ []) same.0, ap is_version (sym same.0) ∙ t.0),
-            tt,
-          )
-      | inr f ↦ absurd (no_value f.1)
-    ]
+reads_version =
+    formats.reads_passing is_version (λ at. doc.Version) (Steps.reads_byte doc.Short)
 
-version_stops : (total : ℕ) (bytes : List ℕ) (fault : DocFault) → version_at total bytes ≡ Err fault
-    → RefusedVersion total bytes fault
-unfolding version_at
-version_stops total [] fault e = sym (err_same (doc.Short total) fault e)
-version_stops total (byte ∷ bytes) fault e =
-    elim (chosen (is_version byte) (Ok (byte, bytes)) (Err doc.Version) (Err fault) e) [
-      | inl t ↦ absurd (no_fault t.1)
-      | inr f ↦ (f.0, sym (err_same doc.Version fault f.1))
-    ]
-
-version_fails : (total : ℕ) (bytes : List ℕ) (fault : DocFault) → RefusedVersion total bytes fault
-    → version_at total bytes ≡ Err fault
-unfolding version_at
-version_fails total [] fault refused = ap Err (sym refused)
-version_fails total (byte ∷ bytes) fault refused =
-    ap (λ (b : Bool). cond b (Ok (byte, bytes)) (Err doc.Version)) refused.0
-    ∙ ap Err (sym refused.1)
-
-reads_version : (total : ℕ) → Reads Anything (version_at total) IsVersion (RefusedVersion total)
-unfolding version_at
-reads_version total = record {
-  takes = version_takes total;
-  again = λ front x rest is ends.
-      ap (λ (l : List ℕ). version_at total (l ++ rest)) is.0
-      ∙ ap (λ (b : Bool). cond b (Ok (x, rest)) (Err doc.Version)) is.1;
-  stops = version_stops total;
-  fails = version_fails total;
-}
-
--- a number that isn't 0 has to be that of a document type
+-- a number that no name follows has to be that of a document type
 reads_numbered : (kind : DocumentType) (number : ℕ)
-    → Reads Anything
-    (λ rest. cond (is_numbered kind number) (Ok (Numbered number, rest)) (Err doc.PublicId))
+    → formats.Reads (unless (is_numbered kind number) doc.PublicId
+    (given (Numbered number)))
     (λ bytes identifier. Given (Numbered number) bytes identifier × (is_numbered kind number ≡ true))
-    (λ rest fault. (is_numbered kind number ≡ false) × (fault ≡ doc.PublicId))
-reads_numbered kind number = record {
-  takes =
-      λ bytes x rest e. elim
-      (chosen (is_numbered kind number) (Ok (Numbered number, bytes)) (Err doc.PublicId)
-      (Ok (x, rest)) e) [
-        | inl t ↦
-            let same = pair_same (Numbered number) x bytes rest t.1 in
-            ([], same.1, ((refl, sym same.0), t.0), tt)
-        | inr f ↦ absurd (no_value f.1)
-      ];
-  again = λ front x rest is ends.
-      ap (λ (b : Bool). cond b (Ok (Numbered number, front ++ rest)) (Err doc.PublicId)) is.1
-      ∙ ap (λ (l : List ℕ). Ok (Numbered number, l ++ rest)) is.0.0
-      ∙ ap (λ (i : Identifier). Ok (i, rest)) (sym is.0.1);
-  stops =
-      λ bytes fault e. elim (chosen (is_numbered kind number) (Ok (Numbered number, bytes))
-      (Err doc.PublicId) (Err fault) e) [
-        | inl t ↦ absurd (no_fault t.1)
-        | inr f ↦ (f.0, sym (err_same doc.PublicId fault f.1))
-      ];
-  fails =
-      λ bytes fault refused.
-      ap (λ (b : Bool). cond b (Ok (Numbered number, bytes)) (Err doc.PublicId)) refused.0
-      ∙ ap Err (sym refused.1);
-}
+    (λ end left found. (is_numbered kind number ≡ false) × (found ≡ doc.PublicId))
+reads_numbered kind number =
+    formats.reads_so
+    (formats.reads_unless (formats.reads_given (Numbered number)) (is_numbered kind number)
+    doc.PublicId)
+    (λ bytes x is. (is.1, is.0)) (λ bytes x is. (is.1, is.0))
+    (λ end left found is. elim is [ inl other ↦ other | inr none ↦ absurd none.1 ])
+    (λ end left found is. inl is)
 
 reads_identifier_behind : (kind : DocumentType) (total number : ℕ) (b : Bool)
     → Reads Anything (identifier_from kind total number b) (IsIdentifierBehind kind number b)
     (RefusedIdentifierBehind kind total number b)
 reads_identifier_behind kind total number true =
-    reads_told Named (reads_number total) (λ a rest u. u) (λ a rest u. u)
-reads_identifier_behind kind total number false = reads_numbered kind number
+    reads_told Named (at_end reads_number total) (λ a rest u. u) (λ a rest u. u)
+reads_identifier_behind kind total number false = at_end (reads_numbered kind number) total
 
 reads_identifier : (kind : DocumentType) (total : ℕ)
     → Reads Anything (identifier_at kind total) (IsIdentifier kind) (RefusedIdentifier kind total)
 unfolding identifier_at RefusedIdentifier
 reads_identifier kind total =
-    reads_then (λ number. identifier_from kind total number (is_by_name kind number)) (reads_number total)
+    reads_then (λ number. identifier_from kind total number (is_by_name kind number))
+    (at_end reads_number total)
     (λ number. reads_identifier_behind kind total number (is_by_name kind number))
 
-charset_found : (o : Option Charset) (charset : Charset) → or_no_charset o ≡ Ok charset
-    → o ≡ Some charset
-charset_found (Some other) charset e = ap Some (ok_same other charset e)
-charset_found None charset e = absurd (no_value e)
+-- a character set and its number
+numbered_charset : (number : ℕ) (o : Option Charset) (x : ℕ × Charset)
+    → option_map (λ charset. (number, charset)) o ≡ Some x → (number ≡ x.0) × (o ≡ Some x.1)
+numbered_charset number (Some charset) x e =
+    let same = some_same (number, charset) x e in
+    (ap (λ (y : ℕ × Charset). y.0) same, ap (λ (y : ℕ × Charset). Some y.1) same)
+numbered_charset number None x e = absurd cc
 
-charset_missed : (o : Option Charset) (fault : DocFault) → or_no_charset o ≡ Err fault
-    → (o ≡ None) × (fault ≡ doc.Charset)
-charset_missed (Some other) fault e = absurd (no_fault e)
-charset_missed None fault e = (refl, sym (err_same doc.Charset fault e))
+-- a character set
+reads_charset : formats.Reads charset_at IsCharset RefusedCharset
+unfolding charset_at
+reads_charset =
+    formats.reads_as (formats.reads_made_if charset_from (λ at. doc.Charset) reads_number)
+    (λ bytes x is.
+    let known = numbered_charset is.0 (charset_of is.0) x is.2 in (
+      subst (IsMb bytes) known.0 is.1,
+      ap charset_of (sym known.0) ∙ known.1,
+    ))
+    (λ bytes x is. (x.0, is.0, ap (option_map (λ charset. (x.0, charset))) is.1))
 
-reads_charset : (total : ℕ) → Reads Anything (charset_at total) IsCharset (RefusedCharset total)
-unfolding charset_at RefusedCharset
-reads_charset total =
-    reads_found (reads_number total) (λ number. or_no_charset (charset_of number))
-    (λ number charset. charset_of number ≡ Some charset)
-    (λ number fault. (charset_of number ≡ None) × (fault ≡ doc.Charset))
-    (λ number charset e. charset_found (charset_of number) charset e)
-    (λ number charset is. ap or_no_charset is)
-    (λ number fault e. charset_missed (charset_of number) fault e)
-    (λ number fault missed. ap or_no_charset missed.0 ∙ ap Err (sym missed.1))
-
-named_found : (o : Option ℕ) (public : ℕ) → or_not_public o ≡ Ok public → o ≡ Some public
-named_found (Some other) public e = ap Some (ok_same other public e)
-named_found None public e = absurd (no_value e)
-
-named_missed : (o : Option ℕ) (fault : DocFault) → or_not_public o ≡ Err fault
-    → (o ≡ None) × (fault ≡ doc.PublicId)
-named_missed (Some other) fault e = absurd (no_fault e)
-named_missed None fault e = (refl, sym (err_same doc.PublicId fault e))
-
+-- what a name of a public identifier stands for
 reads_named : (o : Option ℕ)
-    → Reads Anything (λ bytes. or_not_public o >>= λ public. Ok (public, bytes))
+    → formats.Reads (λ end bytes. or_not_public o >>= λ public. Ok (public, bytes))
     (λ bytes public. (bytes ≡ []) × (o ≡ Some public))
-    (λ rest fault. (o ≡ None) × (fault ≡ doc.PublicId))
-reads_named o = record {
-  takes = λ bytes x rest e.
-      let a = bind_ok (or_not_public o) (λ public. Ok (public, bytes)) (x, rest) e in
-      let same = pair_same a.0 x bytes rest a.2 in
-      ([], same.1, (refl, named_found o a.0 a.1 ∙ ap Some same.0), tt);
-  again = λ front x rest is ends.
-      ap (λ (p : Option ℕ). or_not_public p >>= λ public. Ok (public, front ++ rest)) is.1
-      ∙ ap (λ (l : List ℕ). Ok (x, l ++ rest)) is.0;
-  stops =
-      λ bytes fault e. elim (bind_err (or_not_public o) (λ public. Ok (public, bytes)) fault e) [
-        | inl missed ↦ named_missed o fault missed
-        | inr found ↦ absurd (no_fault found.2)
-      ];
-  fails =
-      λ bytes fault missed.
-      ap (λ (p : Option ℕ). or_not_public p >>= λ public. Ok (public, bytes)) missed.0
-      ∙ ap Err (sym missed.1);
-}
+    (λ end left found. (o ≡ None) × (found ≡ doc.PublicId))
+reads_named (Some number) =
+    formats.reads_so (formats.reads_given number) (λ bytes x is. (is.0, ap Some (sym is.1)))
+    (λ bytes x is. (is.0, sym (cc is.1))) (λ end left found is. absurd is)
+    (λ end left found is. absurd (cc is.0))
+reads_named None =
+    formats.reads_so (formats.reads_failing doc.PublicId) (λ bytes x is. absurd is)
+    (λ bytes x is. absurd (cc is.1)) (λ end left found is. (refl, is))
+    (λ end left found is. is.1)
 
 reads_public : (table : List ℕ) (identifier : Identifier)
     → Reads Anything (λ bytes. public_of table identifier >>= λ public. Ok (public, bytes))
@@ -205,7 +134,7 @@ reads_public : (table : List ℕ) (identifier : Identifier)
     (RefusedPublic table identifier)
 unfolding public_of
 reads_public table (Numbered number) = reads_given number
-reads_public table (Named index) = reads_named (public_named (string_from table index))
+reads_public table (Named index) = at_end (reads_named (public_named (string_from table index))) 0
 
 -- ---- the body
 
@@ -255,19 +184,6 @@ module _ (input : Input) where
       ∙ ap (λ (r : Reading (Attr × State)). told some r)
       ((reads_instruction input s).again is.0 (x, t) rest is.2 tt)
 
-  not_this : (byte : ℕ) → eqb byte PI ≡ false → byte ≢ PI
-  not_this byte test same = no (sym (ap (λ (n : ℕ). eqb n PI) same) ∙ test)
-    where
-      no : true ≡ false → ⊥
-      no e = cc
-
-  other_test : (byte : ℕ) → byte ≢ PI → eqb byte PI ≡ false
-  other_test byte other = by (eqb byte PI) refl
-    where
-      by : (t : Bool) → eqb byte PI ≡ t → t ≡ false
-      by true e = absurd (other (eqb-true byte PI e))
-      by false e = refl
-
   outer_ends : (s : State) (byte : ℕ) (bytes : List ℕ) (b : Bool) → eqb byte PI ≡ b
       → (t : State) (rest : List ℕ)
       → outer_by s (byte ∷ bytes) b bytes ≡ Ok ((None, t), rest)
@@ -278,7 +194,7 @@ module _ (input : Input) where
       absurd (some_none a.0.0.0 a.0.0.1 t (pair_same (some a.0.0) (None, t) a.0.1 rest a.2).0)
   outer_ends s byte bytes false b t rest e =
       let same = pair_same (None, s) (None, t) (byte ∷ bytes) rest e in
-      (none_same s t same.0, (same.1, subst InstructionsEnd same.1 (not_this byte b)))
+      (none_same s t same.0, (same.1, subst InstructionsEnd same.1 (eqb-false byte PI b)))
 
   next_ends : (s : State) (bytes : List ℕ) (t : State) (rest : List ℕ)
       → next_outer input s bytes ≡ Ok ((None, t), rest)
@@ -294,7 +210,7 @@ module _ (input : Input) where
   unfolding next_outer
   halts_here s [] ends = refl
   halts_here s (byte ∷ bytes) ends =
-      ap (λ (b : Bool). outer_by s (byte ∷ bytes) b bytes) (other_test byte ends)
+      ap (λ (b : Bool). outer_by s (byte ∷ bytes) b bytes) (ne_eqb byte PI ends)
 
   next_halts : (s : State) (bytes rest : List ℕ)
       → StopsOpen (λ (u : State). InstructionsEnd) s bytes rest
@@ -476,7 +392,7 @@ module _ (kind : DocumentType) (total : ℕ) where
       (λ version rest. identifier_at kind total rest >>= λ identifier. charset_at total identifier.1
       >>= λ charset. opaque_at total charset.1
       >>= λ table. public_then version identifier.0 charset.0 table.0 table.1)
-      (reads_version total)
+      (at_end reads_version total)
       (λ version. reads_then
       (λ identifier rest. charset_at total rest >>= λ charset. opaque_at total charset.1
       >>= λ table. public_then version identifier charset.0 table.0 table.1)
@@ -484,7 +400,7 @@ module _ (kind : DocumentType) (total : ℕ) where
       (λ identifier. reads_then
       (λ charset rest.
       opaque_at total rest >>= λ table. public_then version identifier charset table.0 table.1)
-      (reads_charset total)
+      (at_end reads_charset total)
       (λ charset. reads_then (public_then version identifier charset) (reads_opaque total)
       (reads_behind_table version identifier charset))))
 

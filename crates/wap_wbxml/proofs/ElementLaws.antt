@@ -1,8 +1,8 @@
 -- Elements are read as they are spelled.
 use Rattle.std.proofs.Common.{◌≡◌, ℕ, zero, suc, ◌%◌, Bool, true, false, cond, eqb, leb, List}
-use Rattle.std.proofs.Common.{[], Option, Some, None, Ok, Err, refl, sym, inl, inr}
+use Rattle.std.proofs.Common.{[], Option, Some, None, Ok, Err, refl, inl, inr}
 use Rattle.std.specs.Prelude.{not, ◌&&◌}
-use Rattle.std.proofs.lemmas.Bool.{eqb-true}
+use Rattle.std.proofs.lemmas.Bool.{eqb-true, false≢true, true≢false, not-true, and_parts}
 use Rattle.wap_base.specs.Outcome.{◌>>=◌}
 use Rattle.wap_tokens.specs.declared.markup.codes.TheConstants.{END, PI, LITERAL}
 use Rattle.wap_tokens.specs.declared.markup.document.Token.TheVariants.{Code}
@@ -21,7 +21,7 @@ use Rattle.wap_tokens.specs.markup.Grammar.{IsElementOf, IsElement}
 use Rattle.wap_wbxml.specs.declared.fault.DocFault.{DocFault}
 use Rattle.wap_wbxml.specs.declared.fault.DocFault.TheVariants as doc
 use Rattle.wap_wbxml.specs.reading.ByteReading.{Reading, some, told}
-use Rattle.wap_wbxml.specs.Places.{Input, place_before}
+use Rattle.wap_wbxml.specs.Places.{Input}
 use Rattle.wap_wbxml.specs.reading.Fronts.{lead_at}
 use Rattle.wap_wbxml.specs.reading.BodyReading.{no_token, as_short, leaf_at, instruction_at}
 use Rattle.wap_wbxml.specs.reading.BodyReading.{attributes_at, tag_at, when, ElementReader, kid_from}
@@ -30,13 +30,13 @@ use Rattle.wap_wbxml.specs.Refusals.{Refusal, Anything, RefusedThen}
 use Rattle.wap_wbxml.specs.Refusal.{RefusedLead, RefusedUnless, RefusedTag, RefusedWhen}
 use Rattle.wap_wbxml.specs.Refusal.{ElementRefusal, RefusedKidBehind, RefusedKid}
 use Rattle.wap_wbxml.specs.Refusal.{RefusedContent, RefusedElementOf, RefusedElement}
-use Rattle.wap_wbxml.proofs.Readings.{Reads, reads_then, reads_told, reads_given, reads_never}
+use Rattle.wap_wbxml.proofs.Readings.{Reads, at_end, reads_then, reads_told, reads_given}
+use Rattle.wap_wbxml.proofs.Readings.{reads_never}
 use Rattle.wap_wbxml.proofs.Runs.{Items, StopsAt, reads_ended}
-use Rattle.wap_wbxml.proofs.TextLaws.{and_parts}
 use Rattle.wap_wbxml.proofs.StringLaws.{reads_name}
 use Rattle.wap_wbxml.proofs.LeadLaws.{led_next, led_items, items_as, items_refusing}
-use Rattle.wap_wbxml.proofs.AttributeLaws.{reads_leaf, reads_no_token, told_told, false_true}
-use Rattle.wap_wbxml.proofs.AttributeLaws.{not_true, reads_attributes, reads_instruction}
+use Rattle.wap_wbxml.proofs.AttributeLaws.{reads_leaf, reads_no_token, told_told, reads_attributes}
+use Rattle.wap_wbxml.proofs.AttributeLaws.{reads_instruction}
 
 -- ---- tags
 
@@ -45,7 +45,8 @@ reads_tag : (input : Input) (before : State) (byte : ℕ) (b : Bool)
     (RefusedTag input before b)
 unfolding tag_at RefusedTag
 reads_tag input before byte true =
-    reads_told literal (reads_name input before) (λ a rest u. u) (λ a rest u. u)
+    reads_told literal (at_end (reads_name input.strings before) input.total) (λ a rest u. u)
+    (λ a rest u. u)
 reads_tag input before byte false = reads_given (Code (byte % 64), before)
 
 -- ---- ends of content
@@ -58,11 +59,11 @@ ends_chain : (a b c : Bool) (o : Option LeafMark)
     → content_ends (cond a content.Element
     (cond b content.End (cond c content.Pi (content_leaf o)))) ≡ true → b ≡ true
 unfolding content_ends
-ends_chain true b c o e = absurd (false_true e)
+ends_chain true b c o e = absurd (false≢true e)
 ends_chain false true c o e = refl
-ends_chain false false true o e = absurd (false_true e)
-ends_chain false false false (Some mark) e = absurd (false_true e)
-ends_chain false false false None e = absurd (false_true e)
+ends_chain false false true o e = absurd (false≢true e)
+ends_chain false false false (Some mark) e = absurd (false≢true e)
+ends_chain false false false None e = absurd (false≢true e)
 
 content_end : (lead : Lead) → content_ends (content_mark lead) ≡ true
     → (lead.byte ≡ END) × (lead.switched ≡ false)
@@ -71,7 +72,7 @@ content_end lead e =
     let over = ends_chain (leb LITERAL (lead.byte % 64)) (eqb lead.byte END && not lead.switched)
     (eqb lead.byte PI && not lead.switched) (leaf_behind lead.switched (leaf_mark lead.byte)) e in
     let parts = and_parts (eqb lead.byte END) (not lead.switched) over in
-    (eqb-true lead.byte END parts.0, not_true lead.switched parts.1)
+    (eqb-true lead.byte END parts.0, not-true lead.switched parts.1)
 
 end_is_end : (page : ℕ)
     → content_ends (content_mark (record { switched = false; page = page; byte = END })) ≡ true
@@ -112,7 +113,7 @@ module _ (input : Input) (inner : ElementReader) (Is : Elements) (Refused : Elem
       reads_told (λ leaf. (kid_of leaf, on_tag_page lead.page s))
       (reads_leaf input mark) (λ a rest u. u)
       (λ a rest u. u)
-  reads_kid s lead content.End e = absurd (false_true (sym e))
+  reads_kid s lead content.End e = absurd (true≢false e)
   reads_kid s lead content.Nothing e = reads_no_token input.total
 
   kid_no_end : (s : State) (lead : Lead) (m : ContentMark) (bytes : List ℕ) (x : Kid × State)
@@ -250,8 +251,7 @@ pub reads_element : (input : Input) (levels : ℕ) (before : State) (lead : Lead
     (IsElement input.strings levels before lead)
     (RefusedElement input levels before lead)
 unfolding element_at IsElement RefusedElement
-reads_element input zero before lead =
-    reads_never Anything (λ rest. doc.Depth (place_before input.total rest))
+reads_element input zero before lead = reads_never doc.Depth input.total
 reads_element input (suc levels) before lead =
     reads_element_of input (element_at input levels) (IsElement input.strings levels)
     (RefusedElement input levels)

@@ -1,49 +1,27 @@
--- What an item begins with, numbers, strings and names are read as they are spelled.
-use Rattle.std.proofs.Common.{◌≡◌, ◌≢◌, ℕ, ◌<◌, ◌≤◌, Bool, true, false, cond, eqb, leb, List}
-use Rattle.std.proofs.Common.{[], ◌∷◌, ◌++◌, length, take, drop, Some, Result, Ok, Err, refl}
-use Rattle.std.proofs.Common.{sym, ap, subst, ◌∙◌, inl, inr, arith}
-use Rattle.std.proofs.lemmas.Bool.{eqb-true, leb-true}
-use Rattle.std.proofs.lemmas.Bool.Decides.{nat_tests}
-use Rattle.std.proofs.lemmas.List.{take_at, drop_at, take-append-drop}
-use Rattle.std.proofs.lemmas.List.{length-take-le, length-append}
-use Rattle.wap_base.specs.declared.number.ReadFault.{ReadFault}
-use Rattle.wap_base.specs.declared.number.ReadFault.TheVariants as read
-use Rattle.wap_base.specs.Numbers.{IsMb, mb_at}
-use Rattle.wap_base.proofs.NumberLaws.{mb_takes, mb_again, mb_stops_short, mb_fails_short}
-use Rattle.wap_base.proofs.NumberLaws.{mb_stops_over, mb_fails_over}
-use Rattle.wap_base.proofs.Choices.{chosen, err_same}
+-- What an item begins with, numbers and characters are read as they are spelled.
+use Rattle.std.proofs.Common.{◌≡◌, ℕ, Bool, true, false, cond, eqb, List, [], ◌∷◌, ◌++◌}
+use Rattle.std.proofs.Common.{length, Some, Ok, Err, refl, sym, ap, subst, ◌∙◌}
+use Rattle.std.proofs.lemmas.Bool.{eqb-true, eqb-false, eq-eqb, ne_eqb}
+use Rattle.wap_base.specs.Numbers.{IsMb}
+use Rattle.wap_base.specs.formats.ByteReading.{taken_at}
+use Rattle.wap_base.proofs.Choices.{err_same}
+use Rattle.wap_base.proofs.formats.Readers as formats
+use Rattle.wap_base.proofs.formats.Readers.{pair_same}
+use Rattle.wap_base.proofs.formats.Steps
 use Rattle.wap_tokens.specs.declared.markup.codes.TheConstants.{SWITCH_PAGE}
 use Rattle.wap_tokens.specs.declared.markup.mark.Lead.{Lead}
 use Rattle.wap_tokens.specs.markup.Charsets.{is_character}
 use Rattle.wap_tokens.specs.markup.Grammar.{IsLead, IsOpaque, IsCharacter}
 use Rattle.wap_wbxml.specs.declared.fault.DocFault.{DocFault}
 use Rattle.wap_wbxml.specs.declared.fault.DocFault.TheVariants as doc
-use Rattle.wap_wbxml.specs.reading.ByteReading.{Reading}
-use Rattle.wap_wbxml.specs.Places.{place}
-use Rattle.wap_wbxml.specs.reading.Fronts.{switched_in, or_short, lead_at, number_from}
-use Rattle.wap_wbxml.specs.reading.Fronts.{number_at, opaque_at, character_from}
+use Rattle.wap_wbxml.specs.Places.{just_before}
+use Rattle.wap_wbxml.specs.reading.Fronts.{switched_in, or_short, lead_at, number_at, opaque_at}
+use Rattle.wap_wbxml.specs.reading.Fronts.{character_at}
 use Rattle.wap_wbxml.specs.Refusals.{Anything}
-use Rattle.wap_wbxml.specs.Refusal.{RefusedLead, RefusedNumber, TooFew}
-use Rattle.wap_wbxml.specs.Refusal.{RefusedOpaque, RefusedCharacter}
-use Rattle.wap_wbxml.proofs.Readings.{Reads, pair_same, no_fault, no_value, reads_then, reads_kept}
+use Rattle.wap_wbxml.specs.Refusal.{RefusedLead, RefusedNumber, RefusedOpaque, RefusedCharacter}
+use Rattle.wap_wbxml.proofs.Readings.{Reads, at_end, no_fault, no_value, reads_then}
 
 -- ---- the byte that an item begins with
-
-eqb-same : (a b : ℕ) → a ≡ b → eqb a b ≡ true
-eqb-same a b same = grind (arith, nat_tests)
-
-eqb-other : (a b : ℕ) → a ≢ b → eqb a b ≡ false
-eqb-other a b other = by (eqb a b) refl
-  where
-    by : (t : Bool) → eqb a b ≡ t → t ≡ false
-    by true e = absurd (other (eqb-true a b e))
-    by false e = refl
-
-not_same : (a b : ℕ) → eqb a b ≡ false → a ≢ b
-not_same a b test same = no (sym (eqb-same a b same) ∙ test)
-  where
-    no : true ≡ false → ⊥
-    no e = cc
 
 abbrev plain_lead : ℕ → ℕ → Lead
 plain_lead page byte = record { switched = false; page = page; byte = byte }
@@ -85,7 +63,7 @@ lead_takes total page (byte ∷ bytes) x rest e = by (eqb byte SWITCH_PAGE) refl
         let same = pair_same (plain_lead page byte) x bytes rest f in (
           byte ∷ [],
           ap (λ (l : List ℕ). byte ∷ l) same.1,
-          (not_same byte SWITCH_PAGE t, sym same.0),
+          (eqb-false byte SWITCH_PAGE t, sym same.0),
           tt,
         )
 
@@ -96,12 +74,12 @@ lead_again total page [] x rest is = absurd is
 lead_again total page (byte ∷ []) x rest is =
     ap (λ (t : Bool).
     or_short total (cond t (switched_in rest) (Some (plain_lead page byte, rest))))
-    (eqb-other byte SWITCH_PAGE is.0) ∙ ap (λ (y : Lead). Ok (y, rest)) (sym is.1)
+    (ne_eqb byte SWITCH_PAGE is.0) ∙ ap (λ (y : Lead). Ok (y, rest)) (sym is.1)
 lead_again total page (byte ∷ next ∷ []) x rest is = absurd is
 lead_again total page (switch ∷ next ∷ byte ∷ []) x rest is =
     ap (λ (t : Bool). or_short total
     (cond t (switched_in (next ∷ byte ∷ rest)) (Some (plain_lead page switch, next ∷ byte ∷ rest))))
-    (eqb-same switch SWITCH_PAGE is.0) ∙ ap (λ (y : Lead). Ok (y, rest)) (sym is.1)
+    (eq-eqb switch SWITCH_PAGE is.0) ∙ ap (λ (y : Lead). Ok (y, rest)) (sym is.1)
 lead_again total page (a ∷ b ∷ c ∷ d ∷ front) x rest is = absurd is
 
 switched_stops : (total : ℕ) (bytes : List ℕ) (fault : DocFault)
@@ -133,11 +111,11 @@ unfolding lead_at
 lead_fails total page [] fault refused = ap Err (sym refused.1)
 lead_fails total page (byte ∷ []) fault refused =
     ap (λ (t : Bool). or_short total (cond t (switched_in []) (Some (plain_lead page byte, []))))
-    (eqb-same byte SWITCH_PAGE refused.0) ∙ ap Err (sym refused.1)
+    (eq-eqb byte SWITCH_PAGE refused.0) ∙ ap Err (sym refused.1)
 lead_fails total page (byte ∷ next ∷ []) fault refused =
     ap (λ (t : Bool).
     or_short total (cond t (switched_in (next ∷ [])) (Some (plain_lead page byte, next ∷ []))))
-    (eqb-same byte SWITCH_PAGE refused.0) ∙ ap Err (sym refused.1)
+    (eq-eqb byte SWITCH_PAGE refused.0) ∙ ap Err (sym refused.1)
 lead_fails total page (byte ∷ next ∷ more ∷ rest) fault refused = absurd refused.0
 
 pub reads_lead : (total page : ℕ)
@@ -149,118 +127,23 @@ reads_lead total page = record {
   fails = lead_fails total page;
 }
 
--- ---- numbers
+-- ---- numbers, bytes and characters
 
-number_takes : (total : ℕ) (bytes : List ℕ) (r : Result (ℕ × ℕ) ReadFault) → mb_at bytes 0 ≡ r
-    → (x : ℕ) (rest : List ℕ)
-    → number_from total bytes r ≡ Ok (x, rest)
-    → (front : List ℕ) × (bytes ≡ front ++ rest) × IsMb front x × Anything x rest
-number_takes total bytes (Ok (number, next)) e x rest f =
-    let same = pair_same number x (drop next bytes) rest f in
-    let reads = mb_takes bytes 0 number next e in
-    let behind : drop next bytes ≡ reads.rest =
-    ap (λ (n : ℕ). drop n bytes) (reads.next_is ∙ omega arith)
-    ∙ ap (drop (length reads.bytes)) reads.split
-    ∙ drop_at reads.bytes reads.rest (length reads.bytes) refl in (
-      reads.bytes,
-      reads.split
-          ∙ ap (λ (l : List ℕ). reads.bytes ++ l) (sym behind ∙ same.1),
-      subst
-          (IsMb reads.bytes) same.0 reads.number_is,
-      tt,
-    )
-number_takes total bytes (Err (read.Short at)) e x rest f = absurd (no_value f)
-number_takes total bytes (Err (read.TooLong at)) e x rest f = absurd (no_value f)
+-- a number
+pub reads_number : formats.Reads number_at IsMb RefusedNumber
+reads_number = Steps.reads_number doc.Short doc.Number
 
-number_stops : (total : ℕ) (bytes : List ℕ) (r : Result (ℕ × ℕ) ReadFault) → mb_at bytes 0 ≡ r
-    → (fault : DocFault)
-    → number_from total bytes r ≡ Err fault → RefusedNumber total bytes fault
-number_stops total bytes (Ok (number, next)) e fault f = absurd (no_fault f)
-number_stops total bytes (Err (read.Short at)) e fault f =
-    inl ((mb_stops_short bytes 0 at e).0, sym (err_same (doc.Short total) fault f))
-number_stops total bytes (Err (read.TooLong at)) e fault f =
-    inr ((mb_stops_over bytes 0 at e).0, sym (err_same (doc.Number (place total bytes)) fault f))
-
-pub reads_number : (total : ℕ) → Reads Anything (number_at total) IsMb (RefusedNumber total)
-unfolding number_at
-reads_number total = record {
-  takes = λ bytes x rest e. number_takes total bytes (mb_at bytes 0) refl x rest e;
-  again = λ front x rest is ends.
-      ap (number_from total (front ++ rest))
-      (mb_again (front ++ rest) 0 x (length front)
-      (record { bytes = front; rest = rest; split = refl; number_is = is; next_is = omega arith }))
-      ∙ ap (λ (l : List ℕ). Ok (x, l)) (drop_at front rest (length front) refl);
-  stops = λ bytes fault e. number_stops total bytes (mb_at bytes 0) refl fault e;
-  fails = λ bytes fault refused. elim refused [
-    | inl short ↦
-        ap (number_from total bytes) (mb_fails_short bytes 0 short.0) ∙ ap Err (sym short.1)
-    | inr long ↦ ap (number_from total bytes) (mb_fails_over bytes 0 long.0) ∙ ap Err (sym long.1)
-  ];
-}
-
--- ---- so many bytes
-
-abbrev so_many : ℕ → ℕ → List ℕ → Reading (List ℕ)
-so_many total count rest =
-    cond (leb count (length rest)) (Ok (take count rest, drop count rest)) (Err (doc.Short total))
-
-leb-false : (a b : ℕ) → leb a b ≡ false → b < a
-leb-false a b e = grind (arith, nat_tests)
-
-leb-le : (a b : ℕ) → a ≤ b → leb a b ≡ true
-leb-le a b le = grind (arith, nat_tests)
-
-lt-leb : (a b : ℕ) → b < a → leb a b ≡ false
-lt-leb a b lt = grind (arith, nat_tests)
-
-reads_so_many : (total count : ℕ)
-    → Reads Anything (so_many total count) (λ bytes opaque.
-    (length bytes ≡ count) × (opaque ≡ bytes))
-    (TooFew total count)
-reads_so_many total count = record {
-  takes =
-      λ bytes x rest e. elim
-      (chosen (leb count (length bytes)) (Ok (take count bytes, drop count bytes))
-      (Err (doc.Short total))
-      (Ok (x, rest)) e) [
-        | inl t ↦
-            let same = pair_same (take count bytes) x (drop count bytes) rest t.1 in (
-              take count bytes,
-              sym (take-append-drop count bytes)
-                  ∙ ap (λ (l : List ℕ). take count bytes ++ l) same.1,
-              (length-take-le count bytes (leb-true count (length bytes) t.0), sym same.0),
-              tt,
-            )
-        | inr f ↦ absurd (no_value f.1)
-      ];
-  again = λ front x rest is ends.
-      let len = length-append front rest in
-      let long : count ≤ length (front ++ rest) = let same = is.0 in omega arith in
-      ap (λ (t : Bool).
-      cond t (Ok (take count (front ++ rest), drop count (front ++ rest))) (Err (doc.Short total)))
-      (leb-le count (length (front ++ rest)) long)
-      ∙ ap (λ (l : List ℕ). Ok (l, drop count (front ++ rest)))
-      (take_at front rest count is.0 ∙ sym is.1)
-      ∙ ap (λ (l : List ℕ). Ok (x, l)) (drop_at front rest count is.0);
-  stops =
-      λ bytes fault e. elim
-      (chosen (leb count (length bytes)) (Ok (take count bytes, drop count bytes))
-      (Err (doc.Short total))
-      (Err fault) e) [
-        | inl t ↦ absurd (no_fault t.1)
-        | inr f ↦ (leb-false count (length bytes) f.0, sym (err_same (doc.Short total) fault f.1))
-      ];
-  fails = λ bytes fault refused.
-      ap (λ (t : Bool). cond t (Ok (take count bytes, drop count bytes)) (Err (doc.Short total)))
-      (lt-leb count (length bytes) refused.0) ∙ ap Err (sym refused.1);
-}
-
+-- a number, and so many bytes
 pub reads_opaque : (total : ℕ) → Reads Anything (opaque_at total) IsOpaque (RefusedOpaque total)
 unfolding opaque_at RefusedOpaque
-reads_opaque total = reads_then (so_many total) (reads_number total) (reads_so_many total)
+reads_opaque total =
+    reads_then (λ count. taken_at doc.Short count total) (at_end reads_number total)
+    (λ count.
+    at_end (formats.reads_as (Steps.reads_taken doc.Short count)
+    (λ bytes opaque is. (ap (λ (l : List ℕ). length l) is.0 ∙ is.1, sym is.0))
+    (λ bytes opaque is. (sym is.1, ap (λ (l : List ℕ). length l) is.1 ∙ is.0))) total)
 
--- ---- characters
-
-pub reads_character : (total at : ℕ)
-    → Reads Anything (character_from total at) IsCharacter (RefusedCharacter total at)
-reads_character total at = reads_kept (reads_number total) is_character (doc.Text at)
+-- a character
+pub reads_character : formats.Reads character_at IsCharacter RefusedCharacter
+unfolding character_at
+reads_character = formats.reads_passing is_character (just_before doc.Text) reads_number

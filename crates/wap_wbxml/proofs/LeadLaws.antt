@@ -5,6 +5,7 @@ use Rattle.std.proofs.Common.{append_assoc, inl, inr, arith, true≢false}
 use Rattle.std.proofs.lemmas.List.{length-append}
 use Rattle.wap_base.specs.Outcome.{◌>>=◌}
 use Rattle.wap_base.proofs.Choices.{bind_ok, bind_err, ok_same, some_same}
+use Rattle.wap_base.proofs.formats.Readers.{pair_same, joined}
 use Rattle.wap_tokens.specs.declared.markup.codes.TheConstants.{END, SWITCH_PAGE}
 use Rattle.wap_tokens.specs.declared.markup.mark.Lead.{Lead}
 use Rattle.wap_tokens.specs.markup.Spellings.{Then}
@@ -15,7 +16,7 @@ use Rattle.wap_wbxml.specs.reading.Fronts.{lead_in, or_short, lead_at}
 use Rattle.wap_wbxml.specs.reading.BodyReading.{as_short}
 use Rattle.wap_wbxml.specs.Refusals.{Refusal, Anything, RefusedThen}
 use Rattle.wap_wbxml.specs.Refusal.{RefusedLead, RefusedUnless}
-use Rattle.wap_wbxml.proofs.Readings.{Reads, pair_same, joined, no_fault, no_value}
+use Rattle.wap_wbxml.proofs.Readings.{Reads, no_fault, no_value}
 use Rattle.wap_wbxml.proofs.Runs.{Items, StopsAt}
 use Rattle.wap_wbxml.proofs.FrontLaws.{reads_lead}
 
@@ -122,7 +123,7 @@ module _ {A S : Type 0} (total : ℕ) (page : S → ℕ) (ends : Lead → Bool)
         let b = (reads_lead total (page s)).takes bytes a.0.0 a.0.1 a.1 in
         let c = from_takes s a.0.0 (ends a.0.0) refl a.0.1 x t rest a.2 in (
           b.0 ++ c.0,
-          joined bytes b.0 c.0 a.0.1 rest b.1 c.1,
+          joined bytes b.0 a.0.1 c.0 rest b.1 c.1,
           record { front = b.0; rest = c.0; spelled = refl; a = a.0.0; first = b.2; next = c.2 },
           c.3,
         )

@@ -1,11 +1,16 @@
 -- What ties a reading to what bytes spell and to what is refused, and how such readings are put
 -- together.
-use Rattle.std.proofs.Common.{◌≡◌, ℕ, Bool, true, false, cond, List, [], ◌++◌, Result, Ok, Err}
-use Rattle.std.proofs.Common.{refl, sym, ap, subst, ◌∙◌, append_assoc, inl, inr}
+use Rattle.std.proofs.Common.{◌≡◌, ℕ, ◌-◌, List, ◌++◌, Result, Ok, Err, refl, sym, ap, subst, ◌∙◌}
+use Rattle.std.proofs.Common.{append_assoc, inl, inr}
 use Rattle.wap_base.specs.Outcome.{◌>>=◌}
-use Rattle.wap_base.proofs.Choices.{chosen, bind_ok, bind_err, ok_same, err_same}
+use Rattle.wap_base.specs.formats.ByteReading.{Reader}
+use Rattle.wap_base.specs.formats.Refusal as formats
+use Rattle.wap_base.proofs.Choices.{bind_ok, bind_err, ok_same}
+use Rattle.wap_base.proofs.formats.Readers
+use Rattle.wap_base.proofs.formats.Readers.{pair_same, joined}
 use Rattle.wap_tokens.specs.markup.Spellings.{Then, Told, Given, Never}
 use Rattle.wap_wbxml.specs.declared.fault.DocFault.{DocFault}
+use Rattle.wap_wbxml.specs.Places.{place_before}
 use Rattle.wap_wbxml.specs.Refusals.{Refusal, NotRefused, EitherRefused}
 use Rattle.wap_wbxml.specs.Refusals.{BehindWhole, RefusedThen, Anything}
 use Rattle.wap_wbxml.specs.reading.ByteReading.{Reading, told}
@@ -22,16 +27,16 @@ pub record Reads {A : Type 0} (Ends : A → List ℕ → Type 0) (read : List �
   pub stops : (bytes : List ℕ) (fault : DocFault) → read bytes ≡ Err fault → Refused bytes fault
   pub fails : (bytes : List ℕ) (fault : DocFault) → Refused bytes fault → read bytes ≡ Err fault
 
-pub pair_same : {A B : Type 0} (x y : A) (l m : B)
-    → ◌≡◌ {A = Result (A × B) DocFault} (Ok (x, l)) (Ok (y, m))
-    → (x ≡ y) × (l ≡ m)
-pair_same {A = A} {B = B} x y l m e =
-    let same = ok_same (x, l) (y, m) e in
-    (ap (λ (z : A × B). z.0) same, ap (λ (z : A × B). z.1) same)
-
-pub joined : (bytes a b l rest : List ℕ) → bytes ≡ a ++ l → l ≡ b ++ rest → bytes ≡ (a ++ b) ++ rest
-joined bytes a b l rest first second =
-    first ∙ ap (λ (x : List ℕ). a ++ x) second ∙ sym (append_assoc a b rest)
+-- a reading at its place in an input of this length
+pub at_end : {A : Type 0} {read : Reader DocFault A} {Is : List ℕ → A → Type 0}
+    {Refuses : formats.Refusal DocFault} → Readers.Reads read Is Refuses → (total : ℕ)
+    → Reads Anything (read total) Is (Refuses total)
+at_end reads total = record {
+  takes = λ bytes x rest e. let a = reads.takes total bytes x rest e in (a.0, a.1, a.2, tt);
+  again = λ front x rest is ends. reads.again total front x rest is;
+  stops = reads.stops total;
+  fails = reads.fails total;
+}
 
 pub no_fault : {A : Type 0} {x : A} {fault : DocFault}
     → ◌≡◌ {A = Result A DocFault} (Ok x) (Err fault) → ⊥
@@ -59,7 +64,7 @@ module _ {A B : Type 0} {Ends : A → List ℕ → Type 0} {End : B → List ℕ
         let b = first.takes bytes a.0.0 a.0.1 a.1 in
         let c = (second a.0.0).takes a.0.1 x rest a.2 in (
           b.0 ++ c.0,
-          joined bytes b.0 c.0 a.0.1 rest b.1 c.1,
+          joined bytes b.0 a.0.1 c.0 rest b.1 c.1,
           record { front = b.0; rest = c.0; spelled = refl; a = a.0.0; first = b.2; next = c.2 },
           c.3,
         );
@@ -140,29 +145,18 @@ module _ {A B : Type 0} {Ends : A → List ℕ → Type 0} {End : B → List ℕ
         ap (λ (r : Reading A). r >>= λ y. Ok (make y.0, y.1)) (reads.fails bytes fault refused);
   }
 
--- ---- readings that are simple
+-- ---- what reads no bytes
 
+-- a value of no bytes
 pub reads_given : {A : Type 0} (x : A)
     → Reads Anything (λ bytes. Ok (x, bytes)) (Given x) NotRefused
-reads_given {A = A} x = record {
-  takes = λ bytes y rest e.
-      let same = pair_same x y bytes rest e in
-      ([], same.1, (refl, sym same.0), tt);
-  again =
-      λ front y rest is ends.
-      ap (λ (l : List ℕ). Ok (x, l ++ rest)) is.0 ∙ ap (λ (z : A). Ok (z, rest)) (sym is.1);
-  stops = λ bytes fault e. absurd (no_fault e);
-  fails = λ bytes fault refused. absurd refused;
-}
+reads_given x = at_end (Readers.reads_given x) 0
 
-pub reads_never : {A : Type 0} (Ends : A → List ℕ → Type 0) (fault_of : List ℕ → DocFault)
-    → Reads Ends (λ bytes. Err (fault_of bytes)) Never (λ bytes fault. fault ≡ fault_of bytes)
-reads_never Ends fault_of = record {
-  takes = λ bytes x rest e. absurd (no_value e);
-  again = λ front x rest is ends. absurd is;
-  stops = λ bytes fault e. sym (err_same (fault_of bytes) fault e);
-  fails = λ bytes fault refused. ap Err (sym refused);
-}
+-- nothing, which is a fault at the byte before
+pub reads_never : {A : Type 0} (fault : ℕ → DocFault) (total : ℕ)
+    → Reads {A = A} Anything (λ bytes. Err (fault (place_before total bytes))) Never
+    (λ bytes found. found ≡ fault (place_before total bytes))
+reads_never fault = at_end (Readers.reads_here (λ at. Readers.reads_failing (fault (at - 1))))
 
 -- ---- the same by other words
 
@@ -186,128 +180,4 @@ module _ {A : Type 0} {Ends : A → List ℕ → Type 0} {read : List ℕ → Re
     again = λ front x rest is ends. reads.again front x rest (back front x is) ends;
     stops = reads.stops;
     fails = reads.fails;
-  }
-
--- a reading that is given the place where it stands
-pub reads_placed : {A : Type 0} {Ends : A → List ℕ → Type 0} {read : ℕ → List ℕ → Reading A}
-    {Is : List ℕ → A
-    → Type 0} {Refused : ℕ → Refusal}
-    → ((at : ℕ) → Reads Ends (read at) Is (Refused at)) → (place : List ℕ → ℕ)
-    → Reads Ends (λ bytes. read (place bytes) bytes) Is (λ bytes. Refused (place bytes) bytes)
-reads_placed reads place = record {
-  takes = λ bytes. (reads (place bytes)).takes bytes;
-  again = λ front x rest. (reads (place (front ++ rest))).again front x rest;
-  stops = λ bytes. (reads (place bytes)).stops bytes;
-  fails = λ bytes. (reads (place bytes)).fails bytes;
-}
-
--- ---- a value that passes a test, and one that another one is found for
-
-module _ {A : Type 0} {Ends : A → List ℕ → Type 0} {read : List ℕ → Reading A} {Is : List ℕ → A
-    → Type 0} {First : Refusal} (reads : Reads Ends read Is First) where
-  pub reads_kept : (test : A → Bool) (fault : DocFault)
-      → Reads Ends (λ bytes. read bytes >>= λ x. cond (test x.0) (Ok x) (Err fault))
-      (λ bytes x. Is bytes x × (test x ≡ true))
-      (EitherRefused First (BehindWhole Is Ends (λ a rest f. (test a ≡ false) × (f ≡ fault))))
-  reads_kept test fault = record {
-    takes = λ bytes x rest e.
-        let a = bind_ok (read bytes) (λ y. cond (test y.0) (Ok y) (Err fault)) (x, rest) e in
-        elim (chosen (test a.0.0) (Ok a.0) (Err fault) (Ok (x, rest)) a.2) [
-          | inl t ↦
-              let c = reads.takes bytes x rest (a.1 ∙ t.1) in
-              let same = pair_same a.0.0 x a.0.1 rest t.1 in
-              (c.0, c.1, (c.2, ap test (sym same.0) ∙ t.0), c.3)
-          | inr f ↦ absurd (no_value f.1)
-        ];
-    again = λ front x rest is ends.
-        ap (λ (r : Reading A). r >>= λ y. cond (test y.0) (Ok y) (Err fault))
-        (reads.again front x rest is.0 ends)
-        ∙ ap (λ (b : Bool). cond b (Ok (x, rest)) (Err fault)) is.1;
-    stops =
-        λ bytes f e. elim (bind_err (read bytes) (λ y. cond (test y.0) (Ok y) (Err fault)) f e) [
-          | inl here ↦ inl (reads.stops bytes f here)
-          | inr later ↦ elim (chosen (test later.0.0) (Ok later.0) (Err fault) (Err f) later.2) [
-            | inl t ↦ absurd (no_fault t.1)
-            | inr t ↦
-                let c = reads.takes bytes later.0.0 later.0.1 later.1 in
-                inr (record {
-                  front = c.0;
-                  rest = later.0.1;
-                  spelled = c.1;
-                  a = later.0.0;
-                  is = c.2;
-                  ends = c.3;
-                  refused = (t.0, sym (err_same fault f t.1));
-                })
-          ]
-        ];
-    fails = λ bytes f refused. elim refused [
-      | inl here ↦
-          ap (λ (r : Reading A). r >>= λ y. cond (test y.0) (Ok y) (Err fault))
-          (reads.fails bytes f here)
-      | inr later ↦
-          ap (λ (l : List ℕ). read l >>= λ y. cond (test y.0) (Ok y) (Err fault)) later.spelled
-          ∙ ap (λ (r : Reading A). r >>= λ y. cond (test y.0) (Ok y) (Err fault))
-          (reads.again later.front later.a later.rest later.is later.ends)
-          ∙ ap (λ (b : Bool). cond b (Ok (later.a, later.rest)) (Err fault)) later.refused.0
-          ∙ ap Err (sym later.refused.1)
-    ];
-  }
-
-module _ {A B : Type 0} {read : List ℕ → Reading A} {Is : List ℕ → A → Type 0} {First : Refusal}
-    (reads : Reads Anything read Is First)
-    (find : A → Result B DocFault) (Found : A → B → Type 0) (Missed : A → DocFault → Type 0) where
-  abbrev behind_find : A × List ℕ → Reading (A × B)
-  behind_find x = find x.0 >>= λ b. Ok ((x.0, b), x.1)
-
-  pub reads_found : ((a : A) (b : B) → find a ≡ Ok b → Found a b)
-      → ((a : A) (b : B) → Found a b → find a ≡ Ok b)
-      → ((a : A) (fault : DocFault) → find a ≡ Err fault → Missed a fault)
-      → ((a : A) (fault : DocFault) → Missed a fault → find a ≡ Err fault)
-      → Reads {A = A × B} Anything (λ bytes.
-      read bytes >>= λ x. find x.0 >>= λ b. Ok ((x.0, b), x.1))
-      (λ bytes x. Is bytes x.0 × Found x.0 x.1)
-      (RefusedThen Is First (λ a rest fault. Missed a fault))
-  reads_found found is_found missed is_missed = record {
-    takes = λ bytes x rest e.
-        let a = bind_ok (read bytes) behind_find (x, rest) e in
-        let b = bind_ok (find a.0.0) (λ b. Ok ((a.0.0, b), a.0.1)) (x, rest) a.2 in
-        let same = pair_same (a.0.0, b.0) x a.0.1 rest b.2 in
-        let c = reads.takes bytes a.0.0 a.0.1 a.1 in (
-          c.0,
-          c.1 ∙ ap (λ (l : List ℕ). c.0 ++ l) same.1,
-          subst (λ (y : A × B). Is c.0 y.0 × Found y.0 y.1) same.0
-              (c.2, found a.0.0 b.0 b.1),
-          tt,
-        );
-    again = λ front x rest is ends.
-        ap (λ (r : Reading A). r >>= behind_find) (reads.again front x.0 rest is.0 tt)
-        ∙ ap (λ (r : Result B DocFault). r >>= λ b. Ok ((x.0, b), rest)) (is_found x.0 x.1 is.1);
-    stops = λ bytes fault e. elim (bind_err (read bytes) behind_find fault e) [
-      | inl here ↦ inl (reads.stops bytes fault here)
-      | inr later ↦
-          elim (bind_err (find later.0.0) (λ b. Ok ((later.0.0, b), later.0.1)) fault later.2) [
-            | inl none ↦
-                let c = reads.takes bytes later.0.0 later.0.1 later.1 in
-                inr (record {
-                  front = c.0;
-                  rest = later.0.1;
-                  spelled = c.1;
-                  a = later.0.0;
-                  is = c.2;
-                  ends = tt;
-                  refused = missed later.0.0 fault none;
-                })
-            | inr some ↦ absurd (no_fault some.2)
-          ]
-    ];
-    fails = λ bytes fault refused. elim refused [
-      | inl here ↦ ap (λ (r : Reading A). r >>= behind_find) (reads.fails bytes fault here)
-      | inr later ↦
-          ap (λ (l : List ℕ). read l >>= behind_find) later.spelled
-          ∙ ap (λ (r : Reading A). r >>= behind_find)
-          (reads.again later.front later.a later.rest later.is tt)
-          ∙ ap (λ (r : Result B DocFault). r >>= λ b. Ok ((later.a, b), later.rest))
-          (is_missed later.a fault later.refused)
-    ];
   }

@@ -5,11 +5,12 @@ use Rattle.std.proofs.Common.{subst, ◌∙◌, append_assoc, inl, inr, arith}
 use Rattle.std.proofs.lemmas.List.{length-append}
 use Rattle.wap_base.specs.Outcome.{◌>>=◌}
 use Rattle.wap_base.proofs.Choices.{bind_ok, bind_err}
+use Rattle.wap_base.proofs.formats.Readers.{pair_same, joined}
 use Rattle.wap_tokens.specs.markup.Spellings.{Many, none, more, ManyOf, Ended}
 use Rattle.wap_wbxml.specs.declared.fault.DocFault.{DocFault}
 use Rattle.wap_wbxml.specs.Refusals.{Refusal, RefusedAmong, here, later, Anything}
 use Rattle.wap_wbxml.specs.reading.ByteReading.{Reading, Next, told, chained, run_at, all_by}
-use Rattle.wap_wbxml.proofs.Readings.{Reads, pair_same, joined, no_fault}
+use Rattle.wap_wbxml.proofs.Readings.{Reads, no_fault}
 
 -- the laws of a reading of the next item, or of none at a stop
 pub record Items {A S : Type 0} (next : Next A S) (spent : S → List ℕ → Reading (List A × S))
@@ -100,7 +101,7 @@ module _ {A S : Type 0} {next : Next A S} {spent : S → List ℕ → Reading (L
       let stopped : Stopped Is Stop s bytes (x ∷ a.0.0.0) a.0.0.1 a.0.1 = record {
         front = b.0 ++ c.front;
         tail = c.tail;
-        split = joined bytes b.0 c.front behind c.tail b.1 c.split;
+        split = joined bytes b.0 behind c.front c.tail b.1 c.split;
         are = more s b.0 x between c.front a.0.0.0 a.0.0.1 b.2 c.are;
         stop = c.stop;
       } in
@@ -264,8 +265,7 @@ module _ {A S : Type 0} {next : Next A S} {spent : S → List ℕ → Reading (L
     takes = λ bytes x rest e.
         let c = all_takes items s bytes x.0 x.1 rest e in (
           c.front ++ (byte ∷ []),
-          joined bytes c.front
-              (byte ∷ []) c.tail rest c.split c.stop,
+          joined bytes c.front c.tail (byte ∷ []) rest c.split c.stop,
           record { front = c.front; spelled = refl; items = c.are },
           tt,
         );

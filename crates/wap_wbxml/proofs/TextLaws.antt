@@ -1,6 +1,7 @@
 -- Texts by their bytes.
-use Rattle.std.proofs.Common.{◌≡◌, ℕ, ◌<◌, Bool, true, false, cond, List, [], ◌∷◌, Option, Some}
+use Rattle.std.proofs.Common.{◌≡◌, ℕ, ◌<◌, Bool, true, cond, List, [], ◌∷◌, Some}
 use Rattle.std.proofs.Common.{None, refl, sym, ap, ◌∙◌, ltb-true, lt-ltb, ◌&&◌, inl, inr}
+use Rattle.std.proofs.lemmas.Bool.{and_parts}
 use Rattle.std.specs.List.{list_all, AllByRecursion}
 use Rattle.std.specs.Str.{is_utf8, chars, IsUtf8, all_scalars}
 use Rattle.std.specs.Prelude.{encode_utf8_all}
@@ -11,10 +12,6 @@ use Rattle.wap_base.specs.declared.charset.Charset.{Charset}
 use Rattle.wap_base.specs.declared.charset.Charset.TheVariants.{Ascii, Latin1, Utf8}
 use Rattle.wap_tokens.specs.markup.Charsets.{IsText}
 use Rattle.wap_base.specs.Charsets.{is_ascii, text_in}
-
-pub and_parts : (a b : Bool) → (a && b) ≡ true → (a ≡ true) × (b ≡ true)
-and_parts true b e = (refl, e)
-and_parts false b e = absurd cc
 
 all_ascii : (bytes : List ℕ) → list_all is_ascii bytes ≡ true
     → AllByRecursion (λ byte. byte < 128) bytes
@@ -57,22 +54,3 @@ text_again Utf8 bytes text is =
     let utf8 : IsUtf8 bytes = (text, (is.0, is.1)) in
     ap (λ (b : Bool). cond b (Some (chars bytes)) None) (is_utf8-from_IsUtf8 bytes utf8)
     ∙ ap Some (sym (chars_from_encodes text bytes utf8 is.1))
-
--- no text has these bytes
-pub text_stops : (charset : Charset) (bytes : List ℕ) → text_in charset bytes ≡ None
-    → (text : List ℕ)
-    → IsText charset bytes text → ⊥
-text_stops charset bytes none text is =
-    absurd (none_some (sym (text_again charset bytes text is) ∙ none))
-  where
-    none_some : Some text ≡ None → ⊥
-    none_some e = cc
-
-pub text_fails : (charset : Charset) (bytes : List ℕ)
-    → ((text : List ℕ) → IsText charset bytes text → ⊥)
-    → text_in charset bytes ≡ None
-text_fails charset bytes not = by (text_in charset bytes) refl
-  where
-    by : (o : Option (List ℕ)) → text_in charset bytes ≡ o → o ≡ None
-    by (Some text) e = absurd (not text (text_takes charset bytes text e))
-    by None e = refl

@@ -1,13 +1,17 @@
 -- What is refused: a prefix of whole parts, and after it what can't stand there. Places are counted
 -- from the beginning of the input, of which these bytes are the last. This project's own.
-use Rattle.std.specs.Prelude.{◌≡◌, ◌≢◌, ℕ, zero, suc, ◌<◌, ◌≤◌, ◌^◌, Bool, true, false}
-use Rattle.std.specs.Prelude.{◌⊎◌, List, [], ◌∷◌, ◌++◌, length, None}
+use Rattle.std.specs.Prelude.{◌≡◌, ◌≢◌, ℕ, zero, suc, ◌<◌, Bool, true, false}
+use Rattle.std.specs.Prelude.{List, [], ◌∷◌, ◌++◌, length, None}
 use Rattle.std.specs.List.{list_all}
-use Rattle.wap_base.specs.Numbers.{IsMb, EndsInside, IsTooLong}
+use Rattle.wap_base.specs.Numbers.{IsMb}
+use Rattle.wap_base.specs.formats.Sequences.{IsByte, Passing}
+use Rattle.wap_base.specs.formats.Refusal as formats
+use Rattle.wap_base.specs.formats.Refusal.{LacksByte, LacksBytes, RefusesNumber, RefusesPassing}
+use Rattle.wap_base.specs.formats.Refusal.{RefusesMadeIf}
+use Rattle.wap_base.specs.Charsets.{text_in}
 use Rattle.wap_tokens.specs.declared.markup.codes.TheConstants.{SWITCH_PAGE, PI}
 use Rattle.wap_tokens.specs.declared.markup.document.Attr.{Attr}
 use Rattle.wap_tokens.specs.declared.markup.document.TheConstants.{LEVEL_LIMIT}
-use Rattle.wap_base.specs.declared.charset.Charset.{Charset}
 use Rattle.wap_tokens.specs.declared.markup.mark.DocumentType.{DocumentType}
 use Rattle.wap_tokens.specs.declared.markup.mark.DocumentType.TheVariants.{Wml}
 use Rattle.wap_tokens.specs.declared.markup.mark.Identifier.{Identifier}
@@ -19,23 +23,23 @@ use Rattle.wap_tokens.specs.declared.markup.mark.ContentMark.{ContentMark}
 use Rattle.wap_tokens.specs.declared.markup.mark.ContentMark.TheVariants as content
 use Rattle.wap_tokens.specs.declared.markup.mark.AttributeMark.{AttributeMark}
 use Rattle.wap_tokens.specs.declared.markup.mark.AttributeMark.TheVariants as attribute
-use Rattle.wap_base.specs.Charsets.{charset_of}
-use Rattle.wap_tokens.specs.markup.Charsets.{IsText, is_character}
+use Rattle.wap_tokens.specs.markup.Charsets.{is_character}
 use Rattle.wap_tokens.specs.markup.Codes.{content_mark, attribute_mark, is_end, begins_piece}
 use Rattle.wap_tokens.specs.markup.Codes.{is_named, has_attributes, has_content}
 use Rattle.wap_tokens.specs.markup.Spellings.{When, ManyOf}
 use Rattle.wap_tokens.specs.markup.Strings.{Strings, IsIndexed, is_not_zero, string_from}
 use Rattle.wap_tokens.specs.markup.Grammar as grammar
 use Rattle.wap_tokens.specs.markup.Grammar.{State, IsLead, IsPiece, IsAttribute, IsAttributes}
-use Rattle.wap_tokens.specs.markup.Grammar.{IsKid, IsElement, Elements, counted, table_size}
-use Rattle.wap_tokens.specs.markup.Grammar.{on_attribute_page, on_tag_page}
+use Rattle.wap_tokens.specs.markup.Grammar.{IsKid, IsElement, Elements, on_attribute_page}
+use Rattle.wap_tokens.specs.markup.Grammar.{on_tag_page}
 use Rattle.wap_tokens.specs.markup.Documents as documents
 use Rattle.wap_tokens.specs.markup.Documents.{is_version, is_numbered, is_by_name, public_named}
 use Rattle.wap_tokens.specs.markup.Documents.{IsVersion, IsIdentifier, IsCharset, IsPublic, IsOuter}
 use Rattle.wap_tokens.specs.markup.Documents.{IsRoot, first_state, into_root, out_of_root}
 use Rattle.wap_wbxml.specs.declared.fault.DocFault.{DocFault}
 use Rattle.wap_wbxml.specs.declared.fault.DocFault.TheVariants as doc
-use Rattle.wap_wbxml.specs.Places.{Input, place, place_before, input_of}
+use Rattle.wap_wbxml.specs.Places.{Input, place, place_before, just_before, is_index, text_at}
+use Rattle.wap_wbxml.specs.Places.{still_fit, charset_from, input_of}
 use Rattle.wap_wbxml.specs.Refusals.{Refusal, NotRefused, EitherRefused, BehindWhole}
 use Rattle.wap_wbxml.specs.Refusals.{Behind, RefusedThen, RefusedAmong, Anything}
 
@@ -53,68 +57,43 @@ abbrev pub RefusedLead : ℕ → Refusal
 RefusedLead total bytes fault = IsCut bytes × (fault ≡ doc.Short total)
 
 -- the input ends inside a number, or the number is too long (WAP-192, section 5.1)
-abbrev pub RefusedNumber : ℕ → Refusal
-RefusedNumber total bytes fault =
-    (EndsInside bytes × (fault ≡ doc.Short total))
-    ⊎ (IsTooLong bytes × (fault ≡ doc.Number (place total bytes)))
-
--- fewer bytes than the number says
-abbrev pub TooFew : ℕ → ℕ → Refusal
-TooFew total count bytes fault = (length bytes < count) × (fault ≡ doc.Short total)
+abbrev pub RefusedNumber : formats.Refusal DocFault
+RefusedNumber = RefusesNumber doc.Short doc.Number
 
 -- the number of some bytes is refused, or fewer follow it
 unfoldable pub RefusedOpaque : ℕ → Refusal
-RefusedOpaque total = RefusedThen IsMb (RefusedNumber total) (TooFew total)
-
--- at is the place of the byte before them, which calls for the string
-abbrev pub IsNoText : Charset → ℕ → List ℕ → DocFault → Type 0
-IsNoText charset at string fault =
-    ((text : List ℕ) → IsText charset string text → ⊥) × (fault ≡ doc.Text at)
-
--- a string with its 0 that is no text
-pub record RefusedString (charset : Charset) (at : ℕ) (bytes : List ℕ)
-    (fault : DocFault) : Type 0 where
-  pub string : List ℕ
-  pub rest : List ℕ
-  pub spelled : bytes ≡ string ++ (0 ∷ rest)
-  pub no_zero : list_all is_not_zero string ≡ true
-  pub no_text : IsNoText charset at string fault
-
--- a string in place without its 0, or of no text in the character set
-abbrev pub RefusedInline : Input → ℕ → Refusal
-RefusedInline input at bytes fault =
-    ((list_all is_not_zero bytes ≡ true) × (fault ≡ doc.Short input.total))
-    ⊎ RefusedString input.strings.charset at bytes fault
-
--- an index past the table, or of no text
-abbrev pub RefusedIndex : Strings → ℕ → ℕ → Refusal
-RefusedIndex strings at index rest fault =
-    ((length strings.table ≤ index) × (fault ≡ doc.Index at)) ⊎
-    ((index < length strings.table)
-    × IsNoText strings.charset at (string_from strings.table index) fault)
-
--- an index of the string table: a number that is refused, or an index that is
-abbrev pub RefusedIndexed : Input → ℕ → Refusal
-RefusedIndexed input at =
-    RefusedThen IsMb (RefusedNumber input.total) (RefusedIndex input.strings at)
-
--- the number is none of a character
-abbrev pub IsNoCharacter : ℕ → ℕ → Refusal
-IsNoCharacter at number rest fault = (is_character number ≡ false) × (fault ≡ doc.Text at)
+RefusedOpaque total =
+    RefusedThen IsMb (RefusedNumber total) (λ count. LacksBytes doc.Short count total)
 
 -- a character: its number is refused, or is none of a character
-abbrev pub RefusedCharacter : ℕ → ℕ → Refusal
-RefusedCharacter total at = RefusedThen IsMb (RefusedNumber total) (IsNoCharacter at)
+abbrev pub RefusedCharacter : formats.Refusal DocFault
+RefusedCharacter = RefusesPassing is_character (just_before doc.Text) IsMb RefusedNumber
 
--- a name with which the names of the root are too many
-abbrev pub TooMany : State → ℕ → List ℕ → Refusal
-TooMany before at name rest fault =
-    (2 ^ 32 ≤ table_size (counted name before).names) × (fault ≡ doc.Table at)
+-- a string, and the 0 that ends it
+abbrev pub IsZeroEnded : List ℕ → List ℕ → Type 0
+IsZeroEnded bytes string =
+    (bytes ≡ string ++ (0 ∷ [])) × (list_all is_not_zero string ≡ true)
 
--- a name of the string table: its index is refused, or it is one name too many
-unfoldable pub RefusedName : Input → State → ℕ → Refusal
-RefusedName input before at =
-    RefusedThen (IsIndexed input.strings) (RefusedIndexed input at) (TooMany before at)
+-- no byte is 0
+abbrev pub RefusedString : formats.Refusal DocFault
+RefusedString total bytes fault = (list_all is_not_zero bytes ≡ true) × (fault ≡ doc.Short total)
+
+-- a string in place without its 0, or of no text in the character set
+abbrev pub RefusedInline : Strings → formats.Refusal DocFault
+RefusedInline strings =
+    RefusesMadeIf (text_in strings.charset) (just_before doc.Text) IsZeroEnded RefusedString
+
+-- an index of the string table: a number that is refused, one past the table, or of no text
+abbrev pub RefusedIndexed : Strings → formats.Refusal DocFault
+RefusedIndexed strings =
+    RefusesMadeIf (text_at strings) (just_before doc.Text) (Passing (is_index strings) IsMb)
+    (RefusesPassing (is_index strings) (just_before doc.Index) IsMb RefusedNumber)
+
+-- a name of the string table: its index is refused, or the names of the root are too many with it
+unfoldable pub RefusedName : Strings → State → formats.Refusal DocFault
+RefusedName strings state =
+    RefusesPassing (still_fit state) (just_before doc.Table) (IsIndexed strings)
+    (RefusedIndexed strings)
 
 -- after a byte that can't stand there
 abbrev pub NoToken : ℕ → Refusal
@@ -122,23 +101,19 @@ NoToken total rest fault = fault ≡ doc.Token (place_before total rest)
 
 -- a string, a character, a reference or opaque data, after the byte that says which it is
 unfoldable pub RefusedLeaf : Input → LeafMark → Refusal
-RefusedLeaf input (mark.Inline role) bytes =
-    RefusedInline input (place_before input.total bytes) bytes
-RefusedLeaf input (mark.Indexed role) bytes =
-    RefusedIndexed input (place_before input.total bytes) bytes
-RefusedLeaf input mark.Entity bytes =
-    RefusedCharacter input.total (place_before input.total bytes) bytes
-RefusedLeaf input mark.Opaque bytes = RefusedOpaque input.total bytes
-RefusedLeaf input (mark.Extension number) bytes = NotRefused bytes
+RefusedLeaf input (mark.Inline role) = RefusedInline input.strings input.total
+RefusedLeaf input (mark.Indexed role) = RefusedIndexed input.strings input.total
+RefusedLeaf input mark.Entity = RefusedCharacter input.total
+RefusedLeaf input mark.Opaque = RefusedOpaque input.total
+RefusedLeaf input (mark.Extension number) = NotRefused
 
 -- ---- attributes
 
 -- the start of an attribute, after its byte: a name that is refused, or a byte that starts none
 unfoldable pub RefusedStart : Input → State → AttributeMark → Refusal
-RefusedStart input before attribute.Coded bytes = NotRefused bytes
-RefusedStart input before attribute.Named bytes =
-    RefusedName input before (place_before input.total bytes) bytes
-RefusedStart input before _ bytes = NoToken input.total bytes
+RefusedStart input before attribute.Coded = NotRefused
+RefusedStart input before attribute.Named = RefusedName input.strings before input.total
+RefusedStart input before _ = NoToken input.total
 
 -- a part of a value after its byte; a byte that begins none is not refused here
 abbrev pub RefusedPieceBehind : Input → AttributeMark → Refusal
@@ -205,8 +180,8 @@ RefusedInstruction input before =
 
 -- a tag after its byte: a name of the string table may be refused, a code is not
 unfoldable pub RefusedTag : Input → State → Bool → Refusal
-RefusedTag input before true bytes = RefusedName input before (place_before input.total bytes) bytes
-RefusedTag input before false bytes = NotRefused bytes
+RefusedTag input before true = RefusedName input.strings before input.total
+RefusedTag input before false = NotRefused
 
 -- a part that may be absent, and is not refused then
 abbrev pub RefusedWhen : Bool → Refusal → Refusal
@@ -257,9 +232,8 @@ RefusedElement input (suc levels) before lead bytes fault =
 -- ---- the header
 
 -- the version byte is missing, or is none of WBXML 1.1 to 1.3 (WAP-192, section 5.4)
-abbrev pub RefusedVersion : ℕ → Refusal
-RefusedVersion total [] fault = fault ≡ doc.Short total
-RefusedVersion total (byte ∷ rest) fault = (is_version byte ≡ false) × (fault ≡ doc.Version)
+abbrev pub RefusedVersion : formats.Refusal DocFault
+RefusedVersion = RefusesPassing is_version (λ at. doc.Version) IsByte (LacksByte doc.Short)
 
 -- a public identifier after its number: 0 stands before an index, and another number has to be one
 -- of the document type (WAP-192, section 5.5)
@@ -274,13 +248,9 @@ RefusedIdentifier kind total =
     RefusedThen IsMb (RefusedNumber total) (λ number.
     RefusedIdentifierBehind kind total number (is_by_name kind number))
 
--- the number is none of a character set that is known
-abbrev pub NoCharset : ℕ → Refusal
-NoCharset number rest fault = (charset_of number ≡ None) × (fault ≡ doc.Charset)
-
 -- a character set: its number is refused, or is not known (WAP-192, section 5.6)
-unfoldable pub RefusedCharset : ℕ → Refusal
-RefusedCharset total = RefusedThen IsMb (RefusedNumber total) NoCharset
+abbrev pub RefusedCharset : formats.Refusal DocFault
+RefusedCharset = RefusesMadeIf charset_from (λ at. doc.Charset) IsMb RefusedNumber
 
 -- a name of no document type
 abbrev pub RefusedPublic : List ℕ → Identifier → Refusal

@@ -1,19 +1,18 @@
 //! What an item begins with: a byte and its page, numbers, strings and names.
 ghost use Rattle.std.specs.Prelude.{◌≡◌, ◌≤◌, ◌<◌, length, None, Some, MatchOption};
-ghost use Rattle.wap_base.specs.Charsets.{text_in};
 ghost use Rattle.wap_base.specs.Outcome.{Meets};
 ghost use Rattle.wap_tokens.specs.markup.Charsets.{is_character};
 ghost use Rattle.wap_tokens.specs.markup.Strings.{string_from};
 ghost use Rattle.wap_wbxml.specs.declared.fault.DocFault.TheVariants.{NoMemory};
 ghost use Rattle.wap_wbxml.specs.reading.Fronts.{lead_in, lead_at, number_at, opaque_at};
-ghost use Rattle.wap_wbxml.specs.reading.Fronts.{or_no_text, zero_place, inline_at};
-ghost use Rattle.wap_wbxml.specs.reading.Fronts.{indexed_at, character_at, name_at};
+ghost use Rattle.wap_wbxml.specs.reading.Fronts.{character_at, zero_place, inline_at, indexed_at};
+ghost use Rattle.wap_wbxml.specs.reading.Fronts.{name_at};
 
 use crate::DocFault;
 use crate::input::Input;
 use crate::state::State;
 use std::alloc::Global;
-use wap_base::{Bytes, Charset, ReadFault, Text, read_mb};
+use wap_base::{ReadFault, Text, place, read_mb};
 use wap_tokens::markup::{Lead, SWITCH_PAGE};
 
 /// The byte that an item begins with, if there is one, with its page: this one, or the one after a
@@ -53,7 +52,7 @@ pub(crate) fn read_lead(total: usize, page: u8, bytes: &[u8]) -> Result<(Lead, &
 }
 
 /// A number.
-#[tactic(auto, unfolding(crate::specs::reading::Fronts::number_at))]
+#[tactic(auto, unfolding(wap_base::specs::formats::ByteReading::number_at))]
 pub(crate) fn read_number(total: usize, bytes: &[u8]) -> Result<(u32, &[u8]), DocFault>
     ensures { Meets NoMemory (λ read. (read.0, read.1.now)) result (number_at total bytes.now) }
 {
@@ -61,7 +60,7 @@ pub(crate) fn read_number(total: usize, bytes: &[u8]) -> Result<(u32, &[u8]), Do
         Ok((number, next)) => Ok((number, &bytes[next..])),
         Err(ReadFault::Short { .. }) => Err(DocFault::Short { at: total }),
         Err(ReadFault::TooLong { .. }) => Err(DocFault::Number {
-            at: total.saturating_sub(bytes.len()),
+            at: place(total, bytes),
         }),
     }
 }
@@ -73,10 +72,10 @@ pub(crate) fn read_opaque(total: usize, bytes: &[u8]) -> Result<(&[u8], &[u8]), 
 {
     let (count, rest) = read_number(total, bytes)?;
     let count = count as usize;
-    if count > rest.len() {
+    if rest.len() < count {
         return Err(DocFault::Short { at: total });
     }
-    Ok((&rest[..count], &rest[count..]))
+    Ok(rest.split_at(count))
 }
 
 /// The number of a character.
@@ -110,14 +109,19 @@ pub(crate) fn read_inline<'a>(
     input: &Input<'_>,
     bytes: &'a [u8],
 ) -> Result<(Text, &'a [u8]), DocFault>
-    ensures { Meets NoMemory (λ read. (read.0, read.1.now)) result (inline_at input.now bytes.now) }
+    ensures { Meets NoMemory (λ read. (read.0, read.1.now)) result
+        (inline_at input.now.strings input.now.total bytes.now) }
 {
     let (string, end) = bytes.split_at(zero_place(bytes));
     let Some((_, rest)) = end.split_first() else {
         return Err(DocFault::Short { at: input.total() });
     };
-    let text = text(alloc, input.charset(), input.place_before(bytes), string)?;
-    Ok((text, rest))
+    match input.charset().text(alloc, string)? {
+        Some(text) => Ok((text, rest)),
+        None => Err(DocFault::Text {
+            at: input.place_before(bytes),
+        }),
+    }
 }
 
 /// A string of the string table, by its index.
@@ -128,7 +132,7 @@ pub(crate) fn read_indexed<'a>(
     bytes: &'a [u8],
 ) -> Result<(Text, &'a [u8]), DocFault>
     ensures { Meets NoMemory (λ read. (read.0, read.1.now)) result
-        (indexed_at input.now bytes.now) }
+        (indexed_at input.now.strings input.now.total bytes.now) }
 {
     let (index, rest) = read_number(input.total(), bytes)?;
     let at = input.place_before(bytes);
@@ -137,8 +141,10 @@ pub(crate) fn read_indexed<'a>(
     if index >= table.len() {
         return Err(DocFault::Index { at });
     }
-    let text = text(alloc, input.charset(), at, string_from(table, index))?;
-    Ok((text, rest))
+    match input.charset().text(alloc, string_from(table, index))? {
+        Some(text) => Ok((text, rest)),
+        None => Err(DocFault::Text { at }),
+    }
 }
 
 /// A name of the string table, by its index, which counts.
@@ -150,7 +156,7 @@ pub(crate) fn read_name<'a>(
     bytes: &'a [u8],
 ) -> Result<(Text, &'a [u8]), DocFault>
     ensures { Meets NoMemory (λ read. ((read.0, state.new), read.1.now)) result
-        (name_at input.now state.old bytes.now) }
+        (name_at input.now.strings state.old input.now.total bytes.now) }
 {
     let (name, rest) = read_indexed(alloc, input, bytes)?;
     state.count(alloc, &name, input.place_before(bytes))?;
@@ -178,14 +184,4 @@ fn zero_place(bytes: &[u8]) -> usize
         }
     }
     bytes.len()
-}
-
-/// The text that a string spells; `at` is where a fault of it stands.
-fn text(alloc: Global, charset: Charset, at: usize, string: &[u8]) -> Result<Text, DocFault>
-    ensures { Meets NoMemory (λ text. text) result (or_no_text at (text_in charset string.now)) }
-{
-    match charset.text(alloc, string)? {
-        Some(text) => Ok(text),
-        None => Err(DocFault::Text { at }),
-    }
 }

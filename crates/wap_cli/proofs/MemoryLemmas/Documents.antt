@@ -1,7 +1,9 @@
 -- Bytes are no document for a fault that isn't want of memory.
-use Rattle.std.proofs.Common.{◌≡◌, ◌≢◌, ℕ, zero, suc, ◌<◌, Bool, true, false, List, [], ◌∷◌}
+use Rattle.std.proofs.Common.{◌≡◌, ◌≢◌, ℕ, zero, suc, ◌-◌, ◌<◌, Bool, true, false, List, [], ◌∷◌}
 use Rattle.std.proofs.Common.{length, inl, inr}
+use Rattle.wap_base.specs.Numbers.{IsMb}
 use Rattle.wap_base.specs.declared.charset.Charset.{Charset}
+use Rattle.wap_base.specs.formats.Refusal.{LacksBytes, RefusesPassing}
 use Rattle.wap_tokens.specs.declared.markup.document.TheConstants.{LEVEL_LIMIT}
 use Rattle.wap_tokens.specs.declared.markup.mark.DocumentType.{DocumentType}
 use Rattle.wap_tokens.specs.declared.markup.mark.DocumentType.TheVariants.{Wml}
@@ -18,7 +20,7 @@ use Rattle.wap_tokens.specs.declared.markup.document.Token.{Token}
 use Rattle.wap_tokens.specs.markup.Codes.{content_mark, attribute_mark, is_end, is_named}
 use Rattle.wap_tokens.specs.markup.Codes.{has_attributes, has_content}
 use Rattle.wap_tokens.specs.markup.Spellings.{When}
-use Rattle.wap_tokens.specs.markup.Strings.{Strings, string_from}
+use Rattle.wap_tokens.specs.markup.Strings.{Strings}
 use Rattle.wap_tokens.specs.markup.Grammar.{State, IsPiece, IsAttribute, IsAttributes, IsKid}
 use Rattle.wap_tokens.specs.markup.Grammar.{IsElement, Elements, IsOpaque, on_attribute_page}
 use Rattle.wap_tokens.specs.markup.Grammar.{on_tag_page}
@@ -26,18 +28,18 @@ use Rattle.wap_tokens.specs.markup.Documents.{is_by_name, IsIdentifier, IsCharse
 use Rattle.wap_tokens.specs.markup.Documents.{IsOuter, IsRoot, first_state, into_root, out_of_root}
 use Rattle.wap_wbxml.specs.declared.fault.DocFault.{DocFault}
 use Rattle.wap_wbxml.specs.declared.fault.DocFault.TheVariants as doc
-use Rattle.wap_wbxml.specs.Places.{Input, place, place_before, input_of}
+use Rattle.wap_wbxml.specs.Places.{Input, place, just_before, is_index, input_of}
 use Rattle.wap_wbxml.specs.Refusals.{Refusal, RefusedThen, RefusedAmong, Anything}
-use Rattle.wap_wbxml.specs.Refusal.{RefusedLead, RefusedNumber, TooFew, RefusedOpaque, IsNoText}
-use Rattle.wap_wbxml.specs.Refusal.{RefusedInline, RefusedIndex, RefusedIndexed, IsNoCharacter}
-use Rattle.wap_wbxml.specs.Refusal.{RefusedCharacter, TooMany, RefusedName, NoToken, RefusedLeaf}
+use Rattle.wap_wbxml.specs.Refusal.{RefusedLead, RefusedNumber, RefusedOpaque, RefusedInline}
+use Rattle.wap_wbxml.specs.Refusal.{RefusedIndexed, RefusedCharacter, RefusedName, NoToken}
+use Rattle.wap_wbxml.specs.Refusal.{RefusedLeaf}
 use Rattle.wap_wbxml.specs.Refusal.{RefusedStart, RefusedPieceBehind, RefusedPiece, AttributeEnds}
 use Rattle.wap_wbxml.specs.Refusal.{RefusedValue, RefusedAttribute, RefusedUnless, RefusedNext}
 use Rattle.wap_wbxml.specs.Refusal.{RefusedAttributes, RefusedEnd, RefusedInstruction, RefusedTag}
 use Rattle.wap_wbxml.specs.Refusal.{RefusedWhen, ElementRefusal, RefusedKidBehind, RefusedKid}
 use Rattle.wap_wbxml.specs.Refusal.{RefusedContent, RefusedElementOf, RefusedElement}
 use Rattle.wap_wbxml.specs.Refusal.{RefusedVersion, RefusedIdentifierBehind, RefusedIdentifier}
-use Rattle.wap_wbxml.specs.Refusal.{NoCharset, RefusedCharset, RefusedPublic, RefusedOuter}
+use Rattle.wap_wbxml.specs.Refusal.{RefusedCharset, RefusedPublic, RefusedOuter}
 use Rattle.wap_wbxml.specs.Refusal.{RefusedOuters, RefusedRootBehind, RefusedRoot, RefusedBody}
 use Rattle.wap_wbxml.specs.Refusal.{RefusedWhole, RefusedRest, IsRefusedAs, IsRefused}
 
@@ -72,7 +74,7 @@ number : (total : ℕ) → Remembers (RefusedNumber total)
 number total bytes fault (inl (inside, so)) e = cc
 number total bytes fault (inr (long, so)) e = cc
 
-too_few : (total count : ℕ) → Remembers (TooFew total count)
+too_few : (total count : ℕ) → Remembers (LacksBytes doc.Short count total)
 too_few total count bytes fault (few, so) e = cc
 
 sized : (total : ℕ) → Remembers (RefusedOpaque total)
@@ -80,50 +82,42 @@ unfolding RefusedOpaque
 sized total bytes fault (inl so) e = number total bytes fault so e
 sized total bytes fault (inr so) e = too_few total so.a so.rest fault so.refused e
 
-no_text : (charset : Charset) (at : ℕ) → Remembers (IsNoText charset at)
-no_text charset at string fault (none, so) e = cc
+in_place : (strings : Strings) (total : ℕ) → Remembers (RefusedInline strings total)
+in_place strings total bytes fault (inl (unended, so)) e = cc
+in_place strings total bytes fault (inr so) e =
+    let is : fault ≡ doc.Text (total - length bytes - 1) = so.refused.1 in cc
 
-in_place : (input : Input) (at : ℕ) → Remembers (RefusedInline input at)
-in_place input at bytes fault (inl (unended, so)) e = cc
-in_place input at bytes fault (inr so) e =
-    no_text input.strings.charset at so.string fault so.no_text e
+index_of : (strings : Strings) (total : ℕ)
+    → Remembers (RefusesPassing (is_index strings) (just_before doc.Index) IsMb RefusedNumber total)
+index_of strings total bytes fault (inl so) e = number total bytes fault so e
+index_of strings total bytes fault (inr so) e =
+    let is : fault ≡ doc.Index (total - length bytes - 1) = so.refused.1 in cc
 
-index_of : (strings : Strings) (at index : ℕ) → Remembers (RefusedIndex strings at index)
-index_of strings at index rest fault (inl (past, so)) e = cc
-index_of strings at index rest fault (inr (within, so)) e =
-    no_text strings.charset at (string_from strings.table index) fault so e
+indexed : (strings : Strings) (total : ℕ) → Remembers (RefusedIndexed strings total)
+indexed strings total bytes fault (inl so) e = index_of strings total bytes fault so e
+indexed strings total bytes fault (inr so) e =
+    let is : fault ≡ doc.Text (total - length bytes - 1) = so.refused.1 in cc
 
-indexed : (input : Input) (at : ℕ) → Remembers (RefusedIndexed input at)
-indexed input at bytes fault (inl so) e = number input.total bytes fault so e
-indexed input at bytes fault (inr so) e =
-    index_of input.strings at so.a so.rest fault so.refused e
+character : (total : ℕ) → Remembers (RefusedCharacter total)
+character total bytes fault (inl so) e = number total bytes fault so e
+character total bytes fault (inr so) e =
+    let is : fault ≡ doc.Text (total - length bytes - 1) = so.refused.1 in cc
 
-no_character : (at many : ℕ) → Remembers (IsNoCharacter at many)
-no_character at many rest fault (none, so) e = cc
-
-character : (total at : ℕ) → Remembers (RefusedCharacter total at)
-character total at bytes fault (inl so) e = number total bytes fault so e
-character total at bytes fault (inr so) e = no_character at so.a so.rest fault so.refused e
-
-too_many : (before : State) (at : ℕ) (name : List ℕ) → Remembers (TooMany before at name)
-too_many before at name rest fault (past, so) e = cc
-
-name_at : (input : Input) (before : State) (at : ℕ) → Remembers (RefusedName input before at)
+name_at : (strings : Strings) (before : State) (total : ℕ)
+    → Remembers (RefusedName strings before total)
 unfolding RefusedName
-name_at input before at bytes fault (inl so) e = indexed input at bytes fault so e
-name_at input before at bytes fault (inr so) e = too_many before at so.a so.rest fault so.refused e
+name_at strings before total bytes fault (inl so) e = indexed strings total bytes fault so e
+name_at strings before total bytes fault (inr so) e =
+    let is : fault ≡ doc.Table (total - length bytes - 1) = so.refused.1 in cc
 
 no_token : (total : ℕ) → Remembers (NoToken total)
 no_token total rest fault so e = cc
 
 leaf : (input : Input) (one : LeafMark) → Remembers (RefusedLeaf input one)
 unfolding RefusedLeaf
-leaf input (mark.Inline role) bytes fault so e =
-    in_place input (place_before input.total bytes) bytes fault so e
-leaf input (mark.Indexed role) bytes fault so e =
-    indexed input (place_before input.total bytes) bytes fault so e
-leaf input mark.Entity bytes fault so e =
-    character input.total (place_before input.total bytes) bytes fault so e
+leaf input (mark.Inline role) bytes fault so e = in_place input.strings input.total bytes fault so e
+leaf input (mark.Indexed role) bytes fault so e = indexed input.strings input.total bytes fault so e
+leaf input mark.Entity bytes fault so e = character input.total bytes fault so e
 leaf input mark.Opaque bytes fault so e = sized input.total bytes fault so e
 leaf input (mark.Extension many) bytes fault so e = so
 
@@ -134,7 +128,7 @@ start : (input : Input) (before : State) (one : AttributeMark)
 unfolding RefusedStart
 start input before attribute.Coded bytes fault so e = so
 start input before attribute.Named bytes fault so e =
-    name_at input before (place_before input.total bytes) bytes fault so e
+    name_at input.strings before input.total bytes fault so e
 start input before _ bytes fault so e = no_token input.total bytes fault so e
 
 piece_behind : (input : Input) (one : AttributeMark) → Remembers (RefusedPieceBehind input one)
@@ -187,7 +181,7 @@ instruction input before bytes fault (inr so) e =
 tag : (input : Input) (before : State) (named : Bool) → Remembers (RefusedTag input before named)
 unfolding RefusedTag
 tag input before true bytes fault so e =
-    name_at input before (place_before input.total bytes) bytes fault so e
+    name_at input.strings before input.total bytes fault so e
 tag input before false bytes fault so e = so
 
 module _ (input : Input) (Inner : ElementRefusal)
@@ -242,8 +236,9 @@ element input (suc levels) before lead bytes fault so e =
 -- ---- the header
 
 version : (total : ℕ) → Remembers (RefusedVersion total)
-version total [] fault so e = cc
-version total (byte ∷ rest) fault (other, so) e = cc
+version total bytes fault (inl (none, so)) e = cc
+version total bytes fault (inr so) e =
+    let is : fault ≡ doc.Version = so.refused.1 in cc
 
 identifier_behind : (kind : DocumentType) (total many : ℕ) (by_name : Bool)
     → Remembers (RefusedIdentifierBehind kind total many by_name)
@@ -256,13 +251,10 @@ identifier kind total bytes fault (inl so) e = number total bytes fault so e
 identifier kind total bytes fault (inr so) e =
     identifier_behind kind total so.a (is_by_name kind so.a) so.rest fault so.refused e
 
-no_charset : (many : ℕ) → Remembers (NoCharset many)
-no_charset many rest fault (none, so) e = cc
-
 charset_at : (total : ℕ) → Remembers (RefusedCharset total)
-unfolding RefusedCharset
 charset_at total bytes fault (inl so) e = number total bytes fault so e
-charset_at total bytes fault (inr so) e = no_charset so.a so.rest fault so.refused e
+charset_at total bytes fault (inr so) e =
+    let is : fault ≡ doc.Charset = so.refused.1 in cc
 
 public : (table : List ℕ) (one : Identifier) → Remembers (RefusedPublic table one)
 public table (Numbered many) rest fault so e = so

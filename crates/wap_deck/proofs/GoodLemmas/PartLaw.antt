@@ -5,6 +5,7 @@ use Rattle.std.proofs.Common.{refl, sym, ap, subst, ◌∙◌, append_assoc, ari
 use Rattle.std.specs.Prelude.{encode_utf8_all, if◌then◌else◌, ◌&&◌}
 use Rattle.std.specs.List.{flat_map, filter_map, cons_option, list_all, prefix_len, AllByRecursion}
 use Rattle.std.specs.Str.{chars, is_utf8, all_scalars}
+use Rattle.std.proofs.lemmas.Bool.{and_parts}
 use Rattle.std.proofs.lemmas.List.{take_at, drop_at}
 use Rattle.std.proofs.lemmas.Str.{chars-encodes, is_utf8-from_IsUtf8}
 use Rattle.wap_base.specs.Names.{is_name}
@@ -23,7 +24,7 @@ use Rattle.wap_tokens.specs.markup.Writing.{run_before, runs_of, run_piece, part
 use Rattle.wap_wbxml.specs.spelling.Names.{string}
 use Rattle.wap_wbxml.specs.spelling.Spellable.{IsString}
 use Rattle.wap_wbxml.specs.spelling.Spelling.{variable, piece_spelling, first_pages}
-use Rattle.wap_wbxml.proofs.SpellingLemmas.Strings.{and_parts, text_bytes}
+use Rattle.wap_wbxml.proofs.SpellingLemmas.Strings.{text_bytes}
 use Rattle.wap_wbxml.proofs.SpellingLemmas.Kinds.{of_characters, name_string, RunFits, runs_fit}
 use Rattle.wap_deck.specs.good.Readers.{◌>>=◌, after, zero_place, ended_at, all_of}
 use Rattle.wap_deck.specs.good.Texts.{string_part, name_part, string_at, reference_at}

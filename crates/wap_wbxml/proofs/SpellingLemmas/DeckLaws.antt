@@ -54,7 +54,7 @@ names_small : nat_lt (table_size known_names) (2 ^ 32) ≡ true
 unfolding table_size name_rows
 names_small = refl
 
-tag_fits : (tag : Tag) → tag ≢ tags.Other
+pub tag_fits : (tag : Tag) → tag ≢ tags.Other
     → (nat_lt LITERAL (code_of tag) && nat_lt (code_of tag) 64) ≡ true
 unfolding code_of tag_rows
 tag_fits tags.Other known = absurd (known refl)
@@ -93,8 +93,8 @@ whole_fits : (attr : AttrName) (text : Option (List ℕ)) (code : ℕ)
 whole_fits attr None code found = absurd cc
 whole_fits attr (Some text) code found = start_fits (attr, text) code found
 
-all_append : {A : Type 0} (P : A → Type 0) (a b : List A) → AllByRecursion P a → AllByRecursion P b
-    → AllByRecursion P (a ++ b)
+pub all_append : {A : Type 0} (P : A → Type 0) (a b : List A) → AllByRecursion P a
+    → AllByRecursion P b → AllByRecursion P (a ++ b)
 all_append P [] b one two = two
 all_append P (x ∷ a) b one two = (one.0, all_append P a b one.1 two)
 

@@ -2,13 +2,15 @@
 use Rattle.std.proofs.Common.{◌≡◌, ℕ, zero, suc, ◌+◌, ◌^◌, ◌<◌, Bool, true, false, cond}
 use Rattle.std.proofs.Common.{ltb, ◌%◌, ◌/◌, List, [], ◌∷◌, ◌++◌, length, take, drop}
 use Rattle.std.proofs.Common.{refl, sym, ap, ◌∙◌, append_assoc, arith}
-use Rattle.std.specs.Prelude.{encode_utf8_all, not, ◌&&◌, ◌||◌}
+use Rattle.std.specs.Prelude.{encode_utf8_all, not, ◌||◌}
 use Rattle.std.specs.List.{list_all, list_any, take_while, prefix_len}
 use Rattle.std.specs.List.{position_or_len, before_first}
 use Rattle.std.specs.Cmp.Lexicographic.{same_text}
 use Rattle.std.proofs.Math.Dec.{eqb-suc-zero}
 use Rattle.std.proofs.Math.Seq.{drop-append-add}
+use Rattle.std.proofs.lemmas.Bool.{and_from, and_parts}
 use Rattle.std.proofs.lemmas.List.{length-append}
+use Rattle.std.proofs.lemmas.List.Folds.{list_all-append}
 use lib.Utf8.{encode}
 use Rattle.wap_base.specs.Numbers.{IsMb, mb_spelling}
 use Rattle.wap_base.specs.Texts.{is_same_text}
@@ -22,23 +24,15 @@ use Rattle.wap_wbxml.proofs.SpellingLemmas.Tables.{length-table, length-string}
 
 -- ---- bytes without a 0
 
-pub and_true : (a b : Bool) → a ≡ true → b ≡ true → (a && b) ≡ true
-and_true a b one two = ap (λ (x : Bool). x && b) one ∙ two
-
-pub and_parts : (a b : Bool) → (a && b) ≡ true → (a ≡ true) × (b ≡ true)
-and_parts true b e = (refl, e)
-and_parts false b e = absurd cc
-
 above_zero : (byte : ℕ) → 0 < byte → is_not_zero byte ≡ true
 above_zero zero some = absurd (omega arith)
 above_zero (suc byte) some = ap not (eqb-suc-zero byte)
 
 all_append : (a b : List ℕ) → list_all is_not_zero a ≡ true → list_all is_not_zero b ≡ true
     → list_all is_not_zero (a ++ b) ≡ true
-all_append [] b one two = two
-all_append (x ∷ a) b one two =
-    let parts = and_parts (is_not_zero x) (list_all is_not_zero a) one in
-    and_true (is_not_zero x) (list_all is_not_zero (a ++ b)) parts.0 (all_append a b parts.1 two)
+all_append a b one two =
+    list_all-append is_not_zero a b
+    ∙ and_from (list_all is_not_zero a) (list_all is_not_zero b) one two
 
 one_of : (b : Bool) (x y : List ℕ) → list_all is_not_zero x ≡ true → list_all is_not_zero y ≡ true
     → list_all is_not_zero (cond b x y) ≡ true
@@ -48,7 +42,7 @@ one_of false x y one two = two
 and_more : (byte : ℕ) (bytes : List ℕ) → 0 < byte → list_all is_not_zero bytes ≡ true
     → list_all is_not_zero (byte ∷ bytes) ≡ true
 and_more byte bytes some all =
-    and_true (is_not_zero byte) (list_all is_not_zero bytes) (above_zero byte some) all
+    and_from (is_not_zero byte) (list_all is_not_zero bytes) (above_zero byte some) all
 
 character_bytes : (c : ℕ) → is_not_zero c ≡ true → list_all is_not_zero (encode c) ≡ true
 unfolding encode
@@ -65,7 +59,7 @@ character_bytes c some =
     let three_more : list_all is_not_zero (second ∷ third ∷ last ∷ []) ≡ true =
     and_more second (third ∷ last ∷ []) (omega arith) two_more in
     one_of (ltb c 128) (c ∷ []) (cond (ltb c 2048) two (cond (ltb c 65536) three four))
-    (and_true (is_not_zero c) true some refl)
+    (and_from (is_not_zero c) true some refl)
     (one_of (ltb c 2048) two (cond (ltb c 65536) three four)
     (and_more (192 + c / 64) (last ∷ []) (omega arith) one_more)
     (one_of (ltb c 65536) three four

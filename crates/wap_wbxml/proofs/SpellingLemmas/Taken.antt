@@ -3,7 +3,7 @@ use Rattle.std.proofs.Common.{◌≡◌, ℕ, zero, suc, ◌+◌, ◌%◌, ◌^�
 use Rattle.std.proofs.Common.{eqb, ltb, List, [], ◌∷◌, ◌++◌, length, take, drop, Option, Some}
 use Rattle.std.proofs.Common.{None, refl, sym, ap, subst, ◌∙◌, arith, ltb-true}
 use Rattle.std.specs.Prelude.{not, ◌&&◌}
-use Rattle.std.specs.List.{fold, AllByRecursion, list_all, take_while, prefix_len}
+use Rattle.std.specs.List.{fold, AllByRecursion, list_all, prefix_len}
 use Rattle.std.proofs.lemmas.Bool.{ltb-false}
 use Rattle.wap_tokens.specs.declared.markup.codes.TheConstants.{END, ENTITY, STR_I, LITERAL}
 use Rattle.wap_tokens.specs.declared.markup.codes.TheConstants.{EXT_I_0, EXT_I_1, EXT_I_2, EXT_T_0}
@@ -32,7 +32,7 @@ use Rattle.wap_tokens.specs.markup.Grammar.{IsName, IsStartBehind, IsPieceBehind
 use Rattle.wap_tokens.specs.markup.Grammar.{IsAttribute}
 use Rattle.wap_wbxml.specs.spelling.Names.{with_token, with_attr}
 use Rattle.wap_wbxml.specs.spelling.Spellable.{FitsStart, FitsPiece, FitsAttr}
-use Rattle.wap_wbxml.proofs.SpellingLemmas.Strings.{and_true}
+use Rattle.wap_wbxml.proofs.StringLaws.{front_not_zero}
 
 -- ---- how names grow from state to state
 
@@ -250,22 +250,6 @@ coded_code lead e =
 
 -- ---- strings
 
-no_zero_step : (byte : ℕ) (bytes : List ℕ) (b : Bool) → is_not_zero byte ≡ b
-    → list_all is_not_zero (take_while is_not_zero bytes) ≡ true
-    → list_all is_not_zero (take (cond b (1 + prefix_len is_not_zero bytes) 0) (byte ∷ bytes))
-    ≡ true
-no_zero_step byte bytes true e rest =
-    let one_more : 1 + prefix_len is_not_zero bytes ≡ suc (prefix_len is_not_zero bytes) =
-    omega arith in
-    ap (λ (n : ℕ). list_all is_not_zero (take n (byte ∷ bytes))) one_more
-    ∙ and_true (is_not_zero byte) (list_all is_not_zero (take_while is_not_zero bytes)) e rest
-no_zero_step byte bytes false e rest = refl
-
-no_zero_before : (bytes : List ℕ) → list_all is_not_zero (take_while is_not_zero bytes) ≡ true
-no_zero_before [] = refl
-no_zero_before (byte ∷ bytes) =
-    no_zero_step byte bytes (is_not_zero byte) refl (no_zero_before bytes)
-
 module _ (Byte : ℕ → Type 0) (Is : List ℕ → Type 0) (strings : Strings)
     (in_table : AllByRecursion Byte strings.table)
     (right : (string text : List ℕ) → AllByRecursion Byte string
@@ -283,7 +267,7 @@ module _ (Byte : ℕ → Type 0) (Is : List ℕ → Type 0) (strings : Strings)
       right (string_from strings.table is.index) text
       (take_all_of Byte (prefix_len is_not_zero there) there
       (drop_all Byte is.index strings.table in_table))
-      (no_zero_before there) is.text_is
+      (front_not_zero there) is.text_is
 
   -- what a leaf that is written needs
   abbrev pub FitsLeaf : Leaf → Type 0

@@ -2,10 +2,11 @@
 use Rattle.std.proofs.Common.{◌≡◌, ℕ, suc, ◌^◌, ◌<◌, Bool, true, false, cond, eqb}
 use Rattle.std.proofs.Common.{leb, ltb, List, [], ◌∷◌, ◌++◌, get_or, Some, None}
 use Rattle.std.proofs.Common.{refl, sym, ap, subst, ◌∙◌, arith, lt-ltb}
-use Rattle.std.specs.Prelude.{not, ◌&&◌, encode_utf8_all}
+use Rattle.std.specs.Prelude.{◌&&◌, encode_utf8_all}
 use Rattle.std.specs.List.{AllByRecursion, list_all}
 use Rattle.std.specs.Str.{all_scalars}
-use Rattle.std.proofs.lemmas.Bool.{eqb-true}
+use Rattle.std.proofs.lemmas.Bool.{eqb-true, not-false, and_from, and_parts}
+use Rattle.std.proofs.lemmas.List.Folds.{list_all-append}
 use lib.Utf8.{encode, scalar}
 use Rattle.wap_base.proofs.Choices.{some_same}
 use Rattle.wap_base.specs.declared.charset.Charset.{Charset}
@@ -30,7 +31,6 @@ use Rattle.wap_tokens.specs.markup.Documents.{IsBody, IsDocument, IsDocumentOf}
 use Rattle.wap_wbxml.specs.spelling.Names.{with_attr, with_element, names_of}
 use Rattle.wap_wbxml.specs.spelling.Spellable.{HasNoZero, IsString, FitsElement, IsSpellable}
 use Rattle.wap_wbxml.specs.spelling.Spellable.{HasTexts}
-use Rattle.wap_wbxml.proofs.SpellingLemmas.Strings.{and_true, and_parts}
 use Rattle.wap_wbxml.proofs.SpellingLemmas.Taken.{Went, split_of, many_taken, attribute_taken}
 use Rattle.wap_wbxml.proofs.SpellingLemmas.TakenElements.{Taken, element_taken}
 
@@ -38,13 +38,9 @@ use Rattle.wap_wbxml.proofs.SpellingLemmas.TakenElements.{Taken, element_taken}
 
 all_behind : (front rest : List ℕ) → list_all is_not_zero (front ++ rest) ≡ true
     → list_all is_not_zero rest ≡ true
-all_behind [] rest all = all
-all_behind (c ∷ front) rest all =
-    all_behind front rest (and_parts (is_not_zero c) (list_all is_not_zero (front ++ rest)) all).1
-
-was_zero : (b : Bool) → not b ≡ false → b ≡ true
-was_zero true e = refl
-was_zero false e = absurd cc
+all_behind front rest all =
+    (and_parts (list_all is_not_zero front) (list_all is_not_zero rest)
+    (sym (list_all-append is_not_zero front rest) ∙ all)).1
 
 not_zero_by : (c : ℕ) (b : Bool) → is_not_zero c ≡ b → (rest : List ℕ)
     → list_all is_not_zero (encode c ++ rest) ≡ true
@@ -52,17 +48,17 @@ not_zero_by : (c : ℕ) (b : Bool) → is_not_zero c ≡ b → (rest : List ℕ)
 unfolding encode
 not_zero_by c true e rest all = (e, all_behind (encode c) rest all)
 not_zero_by c false e rest all =
-    let zero_is : c ≡ 0 = eqb-true c 0 (was_zero (eqb c 0) e) in
+    let zero_is : c ≡ 0 = eqb-true c 0 (not-false (eqb c 0) e) in
     let never : false ≡ true =
     sym (ap (λ (n : ℕ). list_all is_not_zero (encode n ++ rest)) zero_is) ∙ all in
     absurd cc
 
-text_not_zero : (text : List ℕ) → list_all is_not_zero (encode_utf8_all text) ≡ true
+pub text_not_zero : (text : List ℕ) → list_all is_not_zero (encode_utf8_all text) ≡ true
     → HasNoZero text
 text_not_zero [] all = refl
 text_not_zero (c ∷ text) all =
     let parts = not_zero_by c (is_not_zero c) refl (encode_utf8_all text) all in
-    and_true (is_not_zero c) (list_all is_not_zero text) parts.0 (text_not_zero text parts.1)
+    and_from (is_not_zero c) (list_all is_not_zero text) parts.0 (text_not_zero text parts.1)
 
 pub no_zero_right : (charset : Charset) (string text : List ℕ)
     → AllByRecursion (λ byte. Unit {0}) string
@@ -83,7 +79,7 @@ byte_scalar byte small =
 bytes_scalar : (bytes : List ℕ) → AllByRecursion IsByte bytes → all_scalars bytes ≡ true
 bytes_scalar [] all = refl
 bytes_scalar (byte ∷ bytes) all =
-    and_true (scalar byte) (all_scalars bytes) (byte_scalar byte all.0) (bytes_scalar bytes all.1)
+    and_from (scalar byte) (all_scalars bytes) (byte_scalar byte all.0) (bytes_scalar bytes all.1)
 
 pub string_right : (charset : Charset) (string text : List ℕ) → AllByRecursion IsByte string
     → list_all is_not_zero string ≡ true → IsText charset string text → IsString text

@@ -45,8 +45,10 @@ as_short total state bytes = Err (fault.Short total)
 -- a string, a character, a reference, an extension or opaque data, after the byte that says which
 -- it is
 unfoldable pub leaf_at : Input → LeafMark → List ℕ → Reading Leaf
-leaf_at input (mark.Inline role) bytes = told (leaf_of role) (inline_at input bytes)
-leaf_at input (mark.Indexed role) bytes = told (leaf_of role) (indexed_at input bytes)
+leaf_at input (mark.Inline role) bytes =
+    told (leaf_of role) (inline_at input.strings input.total bytes)
+leaf_at input (mark.Indexed role) bytes =
+    told (leaf_of role) (indexed_at input.strings input.total bytes)
 leaf_at input mark.Entity bytes = told leaf.Entity (character_at input.total bytes)
 leaf_at input mark.Opaque bytes = told leaf.Opaque (opaque_at input.total bytes)
 leaf_at input (mark.Extension number) bytes = Ok (leaf.Ext number, bytes)
@@ -56,7 +58,8 @@ leaf_at input (mark.Extension number) bytes = Ok (leaf.Ext number, bytes)
 -- the start of an attribute after its byte: a code, or a name of the string table
 unfoldable pub start_at : Input → State → Lead → AttributeMark → List ℕ → Reading (Token × State)
 start_at input before lead attribute.Coded bytes = Ok ((Code lead.byte, before), bytes)
-start_at input before lead attribute.Named bytes = told literal (name_at input before bytes)
+start_at input before lead attribute.Named bytes =
+    told literal (name_at input.strings before input.total bytes)
 start_at input before lead _ bytes = no_token input.total bytes
 
 -- the next part of a value, or none
@@ -133,7 +136,7 @@ instruction_at input before bytes =
 
 -- a tag after its byte: a name of the string table, or the code in its low six bits
 unfoldable pub tag_at : Input → State → ℕ → Bool → List ℕ → Reading (Token × State)
-tag_at input before byte true bytes = told literal (name_at input before bytes)
+tag_at input before byte true bytes = told literal (name_at input.strings before input.total bytes)
 tag_at input before byte false bytes = Ok ((Code (byte % 64), before), bytes)
 
 -- a list where there is one

@@ -15,7 +15,7 @@ use Rattle.wap_tokens.specs.declared.markup.mark.Identifier.{Identifier}
 use Rattle.wap_tokens.specs.declared.markup.mark.Identifier.TheVariants.{Numbered, Named}
 use Rattle.wap_tokens.specs.declared.markup.mark.ContentMark.{ContentMark}
 use Rattle.wap_tokens.specs.declared.markup.mark.ContentMark.TheVariants as content
-use Rattle.wap_base.specs.Charsets.{charset_of}
+use Rattle.wap_base.specs.formats.ByteReading.{Reader, byte_at, passing, made_if}
 use Rattle.wap_tokens.specs.markup.Codes.{content_mark}
 use Rattle.wap_tokens.specs.markup.Strings.{string_from}
 use Rattle.wap_tokens.specs.markup.Grammar.{State}
@@ -23,7 +23,7 @@ use Rattle.wap_tokens.specs.markup.Documents.{is_version, is_numbered, is_by_nam
 use Rattle.wap_tokens.specs.markup.Documents.{first_state, into_root, out_of_root}
 use Rattle.wap_wbxml.specs.declared.fault.DocFault.{DocFault}
 use Rattle.wap_wbxml.specs.declared.fault.DocFault.TheVariants as fault
-use Rattle.wap_wbxml.specs.Places.{Input, place, input_of}
+use Rattle.wap_wbxml.specs.Places.{Input, place, charset_from, input_of}
 use Rattle.wap_wbxml.specs.reading.ByteReading.{Reading, Next, some, told, all_by}
 use Rattle.wap_wbxml.specs.reading.Fronts.{lead_at, number_at, opaque_at}
 use Rattle.wap_wbxml.specs.reading.BodyReading.{no_token, as_none, instruction_at, element_at}
@@ -31,9 +31,8 @@ use Rattle.wap_wbxml.specs.reading.BodyReading.{no_token, as_none, instruction_a
 -- ---- the header
 
 -- the version byte
-unfoldable pub version_at : ℕ → List ℕ → Reading ℕ
-version_at total [] = Err (fault.Short total)
-version_at total (byte ∷ rest) = if is_version byte then Ok (byte, rest) else Err fault.Version
+unfoldable pub version_at : Reader DocFault ℕ
+version_at = passing is_version (λ at. fault.Version) (byte_at fault.Short)
 
 -- a public identifier after its number: 0 stands before the index of its name
 abbrev pub identifier_from : DocumentType → ℕ → ℕ → Bool → List ℕ → Reading Identifier
@@ -47,17 +46,9 @@ identifier_at kind total bytes =
     number_at total bytes >>= λ number.
     identifier_from kind total number.0 (is_by_name kind number.0) number.1
 
--- a character set, or the fault that there is none
-abbrev pub or_no_charset : Option Charset → Result Charset DocFault
-or_no_charset (Some charset) = Ok charset
-or_no_charset None = Err fault.Charset
-
 -- a character set, by its number and as it is
-unfoldable pub charset_at : ℕ → List ℕ → Reading (ℕ × Charset)
-charset_at total bytes =
-    number_at total bytes >>= λ number.
-    or_no_charset (charset_of number.0) >>= λ charset.
-    Ok ((number.0, charset), number.1)
+unfoldable pub charset_at : Reader DocFault (ℕ × Charset)
+charset_at = made_if charset_from (λ at. fault.Charset) number_at
 
 -- a public identifier of WML, or the fault that it is none
 abbrev pub or_not_public : Option ℕ → Result ℕ DocFault
