@@ -33,7 +33,7 @@ before-part_added (Var name conv) more [] = refl
 before-part_added (Var name conv) more (last ∷ []) = refl
 before-part_added (Var name conv) more (first ∷ next ∷ parts) = refl
 
-before-nil : (only : Part) → before only [] ≡ only ∷ []
+pub before-nil : (only : Part) → before only [] ≡ only ∷ []
 before-nil (Lit text) = refl
 before-nil (Var name conv) = refl
 

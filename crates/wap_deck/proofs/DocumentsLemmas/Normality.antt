@@ -40,6 +40,7 @@ use Rattle.wap_tokens.proofs.TagTable.{tag_of-known, tag_named-known}
 use Rattle.wap_wbxml.specs.spelling.Characters.{OfPart, OfAttr, OfItem, OfOpened, OfNode}
 use Rattle.wap_wbxml.specs.spelling.Spellable.{IsString, FitsPiece, FitsAttr, FitsOpened, FitsKid}
 use Rattle.wap_wbxml.specs.spelling.Spellable.{FitsElementOf, FitsElement, HasTexts}
+use Rattle.wap_wbxml.proofs.SpellingLemmas.DeckLaws.{all_append}
 use Rattle.wap_deck.proofs.DocumentsLemmas.Characters.{OfCharacters, text_append, value_text}
 use Rattle.wap_deck.proofs.DocumentsLemmas.Characters.{start_text}
 use Rattle.wap_deck.proofs.DocumentsLemmas.Together.{joined-joined, items_together}
@@ -50,11 +51,6 @@ all_map : {A : Type 0} (P R : A → Type 0) → ((x : A) → P x → R x) → (x
     → AllByRecursion P xs → AllByRecursion R xs
 all_map P R gives [] each = tt
 all_map P R gives (x ∷ xs) each = (gives x each.0, all_map P R gives xs each.1)
-
-each_append : {A : Type 0} (P : A → Type 0) (xs more : List A) → AllByRecursion P xs
-    → AllByRecursion P more → AllByRecursion P (xs ++ more)
-each_append P [] more each others = others
-each_append P (x ∷ xs) more each others = (each.0, each_append P xs more each.1 others)
 
 -- ---- nodes of characters at all levels
 
@@ -315,7 +311,7 @@ module _ (Q : Type 0) where
         → AllByRecursion (IsMark levels) (kids_marks inner kids)
     kids_marks_are [] fit = tt
     kids_marks_are (kid ∷ kids) fit =
-        each_append (IsMark levels) (kid_marks inner kid) (kids_marks inner kids)
+        all_append (IsMark levels) (kid_marks inner kid) (kids_marks inner kids)
         (kid_marks_are (out-Kid kid) (λ q. (fit q).0)) (kids_marks_are kids (λ q. (fit q).1))
 
   element_are : (levels : ℕ) (attrs : List Attr) → (Q → AllByRecursion (FitsAttr IsString) attrs)

@@ -1,8 +1,8 @@
 -- Attributes are read as they are spelled.
-use Rattle.std.proofs.Common.{◌≡◌, ◌≢◌, ℕ, ◌^◌, ◌<◌, Bool, true, false, eqb, List}
+use Rattle.std.proofs.Common.{◌≡◌, ◌≢◌, ℕ, ◌^◌, ◌<◌, true, false, eqb, List}
 use Rattle.std.proofs.Common.{[], ◌∷◌, ◌++◌, length, Option, Some, None, refl, sym}
 use Rattle.std.proofs.Common.{ap, subst, ◌∙◌, append_assoc, arith}
-use Rattle.std.specs.Prelude.{encode_utf8_all, if◌then◌else◌}
+use Rattle.std.specs.Prelude.{encode_utf8_all}
 use Rattle.std.specs.List.{flat_map, list_any, AllByRecursion}
 use Rattle.std.specs.Option.{option_map}
 use Rattle.std.proofs.lemmas.List.{drop_at}
@@ -43,6 +43,7 @@ use Rattle.wap_wbxml.specs.spelling.Characters.{OfAttr}
 use Rattle.wap_deck.proofs.GoodLemmas.Runs.{all_on, all_end}
 use Rattle.wap_deck.proofs.GoodLemmas.Taking.{attr_takes}
 use Rattle.wap_deck.proofs.GoodLemmas.Flat.{Flat, flat_on, flat_each}
+use Rattle.wap_deck.proofs.GoodLemmas.HeadLaw.{coded_start}
 use Rattle.wap_deck.proofs.GoodLemmas.PartLaw.{IsPlain, piece_bytes, piece_flat}
 use Rattle.wap_deck.proofs.GoodLemmas.PartLaw.{value_read, behind_read, parts_plain}
 
@@ -155,17 +156,6 @@ module _ (all : List (List ℕ)) (size : table_size all < 2 ^ 32) where
     pub read : start_at table (start_spelling all token ++ rest) ≡ Some (start, rest)
     pub none : part_at (start_spelling all token ++ rest) ≡ None
 
-  coded_start : (code : ℕ) (start : Start) (rest : List ℕ) → attr_start 0 code ≡ Some start
-      → start_at table (code ∷ rest) ≡ Some (start, rest)
-  unfolding start_at
-  coded_start code start rest found =
-      let other = apart code LITERAL start found literal_none in
-      let e : eqb code LITERAL ≡ false = grind (arith, nat_tests) in
-      ap (λ (b : Bool). if b then named_at table rest else
-      (attr_start 0 code >>= λ start. let w : Start × List ℕ = (start, rest) in Some w)) e
-      ∙ ap
-      (λ (o : Option Start). o >>= λ start. let w : Start × List ℕ = (start, rest) in Some w) found
-
   literal_start : (attr : AttrName) (rest : List ℕ) → attr_named (name_of_attr attr) ≡ Some attr
       → list_any (is_same_text (name_of_attr attr)) all ≡ true
       → start_at table (LITERAL ∷ (mb_spelling (place_of all (name_of_attr attr)) ++ rest))
@@ -192,7 +182,9 @@ module _ (all : List (List ℕ)) (size : table_size all < 2 ^ 32) where
   start_read : (token : Token) (start : Start) (rest : List ℕ) → IsNamed all token
       → start_of 0 token ≡ Some start → StartRead token start rest
   start_read (Code code) start rest named found = record {
-    read = coded_start code start rest found;
+    read =
+        coded_start table (code ∷ rest) code rest start refl
+        (apart code LITERAL start found literal_none) found;
     none =
         no_part code rest (apart code STR_I start found string_none)
         (apart code ENTITY start found entity_none)

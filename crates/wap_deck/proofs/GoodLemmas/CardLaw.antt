@@ -6,6 +6,7 @@ use Rattle.std.specs.Prelude.{if◌then◌else◌, is_some, slice_get, find, IfO
 use Rattle.std.specs.List.{filter_map, cons_option, position_from}
 use Rattle.std.specs.Option.{option_and_then}
 use Rattle.std.proofs.lemmas.Iterator.Adapters.{position_from-zero}
+use Rattle.wap_base.proofs.Choices.{some_same}
 use Rattle.wap_base.specs.declared.name.Part.{Part}
 use Rattle.wap_tokens.specs.declared.markup.document.TheConstants.{LEVEL_LIMIT}
 use Rattle.wap_tokens.specs.declared.markup.deck.Deck.{Deck}
@@ -27,7 +28,7 @@ use Rattle.wap_deck.proofs.GoodLemmas.Runs.{fewer}
 use Rattle.wap_deck.proofs.GoodLemmas.Taking.{item_takes}
 use Rattle.wap_deck.proofs.GoodLemmas.Seen.{kids_seen, kids_end}
 use Rattle.wap_deck.proofs.GoodLemmas.Layers.{out_node, out_text}
-use Rattle.wap_deck.proofs.GoodLemmas.Opening.{same_value, seen}
+use Rattle.wap_deck.proofs.GoodLemmas.Opening.{seen}
 use Rattle.wap_deck.proofs.GoodLemmas.Ending.{behind_place}
 use Rattle.wap_deck.proofs.GoodLemmas.ChildLaw.{child_on, child_end}
 
@@ -43,7 +44,7 @@ tagged_text tag parts = ap (λ level. if_tagged tag (node_from level)) (out_text
 -- a child that is a card is read as that node
 tagged_is : (b : Bool) (node card : Node) → (if b then Some node else None) ≡ Some card
     → node ≡ card
-tagged_is true node card e = same_value node card e
+tagged_is true node card e = some_same node card e
 tagged_is false node card e = absurd cc
 
 abbrev as_child : Node × List ℕ → Option (Item × List ℕ)
@@ -59,7 +60,7 @@ module _ (tag : Tag) (table : List ℕ) (levels : ℕ) (bytes : List ℕ) (card 
   as_node : (o : Option (Node × List ℕ)) (one : Item) → (o >>= as_child) ≡ Some (one, rest)
       → node_with tag one ≡ Some card → o ≡ Some (card, rest)
   as_node (Some x) one e is =
-      let same = same_value (item.Node x.0, x.1) (one, rest) e in
+      let same = some_same (item.Node x.0, x.1) (one, rest) e in
       let first : item.Node x.0 ≡ one = ap (λ (y : Item × List ℕ). y.0) same in
       let tagged = sym (tagged_node tag x.0) ∙ ap (node_with tag) first ∙ is in
       let here : x.0 ≡ card = tagged_is (is_same_tag x.0.tag tag) x.0 card tagged in
@@ -79,7 +80,7 @@ module _ (tag : Tag) (table : List ℕ) (levels : ℕ) (bytes : List ℕ) (card 
           → node_at table levels bytes ≡ Some (card, rest)
       either true text =
           absurd (as_text one (ap (λ (y : Item × List ℕ). y.0) (sym
-          (same_value (item.Text (value_at [] bytes), behind_value bytes) (one, rest) text))) is)
+          (some_same (item.Text (value_at [] bytes), behind_value bytes) (one, rest) text))) is)
       either false node = as_node (node_at table levels bytes) one node is
 
 -- ---- places of the nodes of a tag among the children that are left
@@ -197,7 +198,7 @@ card_at table bytes (first ∷ places) [] stand number place e = absurd stand
 card_at table bytes (first ∷ places) (card ∷ cards) stand zero place e = (
   card,
   refl,
-  subst (λ (p : Place). StandsAt table bytes p.begin card) (same_value first place e) stand.0,
+  subst (λ (p : Place). StandsAt table bytes p.begin card) (some_same first place e) stand.0,
 )
 card_at table bytes (first ∷ places) (card ∷ cards) stand (suc number) place e =
     card_at table bytes places cards stand.1 number place e
@@ -242,7 +243,7 @@ first_node (node ∷ nodes) = refl
 drop_get : {A : Type 0} (xs : List A) (number : ℕ) (x : A) → slice_get xs number ≡ Some x
     → drop number xs ≡ x ∷ drop (suc number) xs
 drop_get [] number x e = absurd cc
-drop_get (first ∷ xs) zero x e = ap (λ one. one ∷ xs) (same_value first x e)
+drop_get (first ∷ xs) zero x e = ap (λ one. one ∷ xs) (some_same first x e)
 drop_get (first ∷ xs) (suc number) x e = drop_get xs number x e
 
 drop_past : {A : Type 0} (xs : List A) (number : ℕ) → length xs ≤ number → drop number xs ≡ []

@@ -3,7 +3,6 @@
 use Rattle.std.proofs.Common.{◌≡◌, ◌+◌, ◌<◌, ◌≤◌, List, [], ◌∷◌, ◌++◌, length, map}
 use Rattle.std.proofs.Common.{Option, Some, None, refl, sym, ap, ◌∙◌, arith}
 use Rattle.wap_base.specs.declared.name.Part.{Part}
-use Rattle.wap_base.specs.declared.name.Part.TheVariants.{Lit, Var}
 use Rattle.wap_tokens.specs.declared.markup.deck.Item.{Item, out-Item}
 use Rattle.wap_tokens.specs.declared.markup.deck.Item.TheOpen.{Item-F}
 use Rattle.wap_tokens.specs.declared.markup.deck.Item.TheVariants.{outs-Text}
@@ -12,6 +11,7 @@ use Rattle.wap_tokens.specs.markup.Trees.{ItemLevel, words_of, words_from}
 use Rattle.wap_tokens.specs.markup.Decks.{before, joined, Mark, part, text_before, part_before}
 use Rattle.wap_tokens.specs.markup.Decks.{items_of}
 use Rattle.wap_tokens.specs.markup.Normal.{marks_in, marks_of}
+use Rattle.wap_deck.proofs.DocumentsLemmas.Joining.{before-nil}
 
 -- ---- a part before items joins the text that they begin with
 
@@ -32,20 +32,16 @@ abbrev behind : List Item → List Item
 behind [] = []
 behind (first ∷ items) = behind_by (words_of first) first items
 
-before-none : (one : Part) → before one [] ≡ one ∷ []
-before-none (Lit text) = refl
-before-none (Var name conv) = refl
-
 text_before-joins : (one : Part) (found : Option (List Part)) (first : Item) (items : List Item)
     → text_before one first found items
     ≡ item.Text (before one (words_by found)) ∷ behind_by found first items
 text_before-joins one None first items =
-    ap (λ parts. item.Text parts ∷ first ∷ items) (sym (before-none one))
+    ap (λ parts. item.Text parts ∷ first ∷ items) (sym (before-nil one))
 text_before-joins one (Some parts) first items = refl
 
 part_before-joins : (one : Part) (items : List Item)
     → part_before one items ≡ item.Text (before one (words items)) ∷ behind items
-part_before-joins one [] = ap (λ parts. item.Text parts ∷ []) (sym (before-none one))
+part_before-joins one [] = ap (λ parts. item.Text parts ∷ []) (sym (before-nil one))
 part_before-joins one (first ∷ items) = text_before-joins one (words_of first) first items
 
 -- ---- so do several

@@ -9,6 +9,7 @@ use Rattle.wap_tokens.specs.markup.Strings.{string_from}
 use Rattle.std.specs.Prelude.{is_some, if◌then◌else◌, ◌==◌, ◌%◌}
 use Rattle.std.proofs.lemmas.Bool.{eqb-true}
 use Rattle.std.proofs.lemmas.List.{append-nil, length-append, drop_at}
+use Rattle.wap_base.proofs.Choices.{some_same}
 use Rattle.wap_base.specs.declared.name.Conv.{Conv}
 use Rattle.wap_base.specs.declared.name.Conv.TheVariants.{Escape, Unescape, Plain}
 use Rattle.wap_base.specs.declared.name.Part.{Part}
@@ -33,7 +34,7 @@ use Rattle.wap_deck.specs.good.inside.Nodes.{named_at, start_at, attr_at, node, 
 use Rattle.wap_deck.specs.good.inside.Nodes.{node_at, item_at, kids_begin, IsContent}
 use Rattle.wap_deck.proofs.GoodLemmas.Runs.{Takes, fewer, all_on, all_end, turn, closed_rest}
 use Rattle.wap_deck.proofs.GoodLemmas.Runs.{rest_some}
-use Rattle.wap_deck.proofs.GoodLemmas.Opening.{bind_some, same_value, all_nothing}
+use Rattle.wap_deck.proofs.GoodLemmas.Opening.{bind_some, all_nothing}
 use Rattle.wap_deck.proofs.GoodLemmas.Skipping.{item_by_rest}
 use Rattle.wap_deck.proofs.GoodLemmas.Taking.{part_takes, attr_takes, item_takes}
 
@@ -69,7 +70,7 @@ pub first_is : (bytes : List ℕ) (mark : ℕ) (rest : List ℕ) → first_at by
     → bytes ≡ mark ∷ rest
 first_is [] mark rest e = absurd cc
 first_is (byte ∷ bytes) mark rest e =
-    ap (λ (x : ℕ × List ℕ). x.0 ∷ x.1) (same_value (byte, bytes) (mark, rest) e)
+    ap (λ (x : ℕ × List ℕ). x.0 ∷ x.1) (some_same (byte, bytes) (mark, rest) e)
 
 -- those after the first are behind all
 pub behind_first : (bytes : List ℕ) (mark : ℕ) (rest : List ℕ) → first_at bytes ≡ Some (mark, rest)
@@ -112,7 +113,7 @@ after_is byte [] rest e = absurd cc
 after_is byte (first ∷ bytes) rest e = chosen (first == byte) e
   where
     chosen : (b : Bool) → (if b then Some bytes else None) ≡ Some rest → rest ≡ bytes
-    chosen true e = sym (same_value bytes rest e)
+    chosen true e = sym (some_same bytes rest e)
     chosen false e = absurd cc
 
 -- after a string stand the bytes behind its 0
@@ -121,7 +122,7 @@ ended_is : (bytes : List ℕ) (x : List ℕ × List ℕ) → ended_at bytes ≡ 
 unfolding ended_at
 ended_is bytes x e =
     let a = bind_some (after 0 (drop (zero_place bytes) bytes)) _ x e in
-    sym (ap (λ (y : List ℕ × List ℕ). y.1) (same_value (take (zero_place bytes) bytes, a.0) x a.2))
+    sym (ap (λ (y : List ℕ × List ℕ). y.1) (some_same (take (zero_place bytes) bytes, a.0) x a.2))
     ∙ after_is 0 (drop (zero_place bytes) bytes) a.0 a.1
 
 -- a reading is told where all that it reads leaves these bytes
@@ -136,7 +137,7 @@ unfolding string_at
 string_told rest = told (string_at rest) (behind_zero rest) (λ x e.
     let a = bind_some (ended_at rest) _ x e in
     let b = bind_some (string_part a.0.0) _ x a.2 in
-    sym (ended_is rest a.0 a.1) ∙ ap (λ (y : Part × List ℕ). y.1) (same_value (b.0, a.0.1) x b.2))
+    sym (ended_is rest a.0 a.1) ∙ ap (λ (y : Part × List ℕ). y.1) (some_same (b.0, a.0.1) x b.2))
 
 -- and so they do after a reference
 reference_told : (conv : Conv) (rest : List ℕ)
@@ -145,7 +146,7 @@ unfolding reference_at
 reference_told conv rest = told (reference_at conv rest) (behind_zero rest) (λ x e.
     let a = bind_some (ended_at rest) _ x e in
     let b = bind_some (name_part conv a.0.0) _ x a.2 in
-    sym (ended_is rest a.0 a.1) ∙ ap (λ (y : Part × List ℕ). y.1) (same_value (b.0, a.0.1) x b.2))
+    sym (ended_is rest a.0 a.1) ∙ ap (λ (y : Part × List ℕ). y.1) (some_same (b.0, a.0.1) x b.2))
 
 -- after a character stands what follows its number, of one byte
 character_told : (rest : List ℕ) → Tells (character_at rest) (Some (drop 1 rest))
@@ -170,7 +171,7 @@ from_told mark rest =
 -- what is told of a reading that succeeds is what follows
 told_some : (o : Option (Part × List ℕ)) (end : Option (List ℕ)) (x : Part × List ℕ) → Tells o end
     → o ≡ Some x → end ≡ Some x.1
-told_some (Some y) end x tells e = tells ∙ ap (λ (z : Part × List ℕ). Some z.1) (same_value y x e)
+told_some (Some y) end x tells e = tells ∙ ap (λ (z : Part × List ℕ). Some z.1) (some_same y x e)
 told_some None end x tells e = absurd cc
 
 -- what follows a part is told by its bytes
@@ -288,7 +289,7 @@ value_on rest behind end e none so = turned (part_at rest) refl
   where
     turned : (o : Option (Part × List ℕ)) → part_at rest ≡ o → behind_value behind ≡ end
     turned (Some x) is =
-        let same : behind ≡ x.1 = same_value behind x.1 (sym e ∙ part_followed rest x is) in
+        let same : behind ≡ x.1 = some_same behind x.1 (sym e ∙ part_followed rest x is) in
         ap behind_value same ∙ turn part_at part_takes rest x.0 x.1 end is so
     turned None is =
         let here : behind_value rest ≡ rest =
@@ -509,7 +510,7 @@ module _ (table : List ℕ) (levels : ℕ) (bytes : List ℕ) (a : Item) (rest :
           let text : item_at table levels bytes
           ≡ Some (item.Text (value_at [] bytes), behind_value bytes) = rw some refl in
           ap (λ (x : Item × List ℕ). x.1)
-          (same_value (a, rest) (item.Text (value_at [] bytes), behind_value bytes) (sym e ∙ text))
+          (some_same (a, rest) (item.Text (value_at [] bytes), behind_value bytes) (sym e ∙ text))
 
       told_marks : (o : Option (List ℕ)) → part_end (behind_value bytes) ≡ o → o ≡ None
       told_marks None is = refl
@@ -572,7 +573,7 @@ parts_by table levels bytes found rest some e =
       kids_read = d.1;
       is =
           ap (λ (x : Node × List ℕ). x.1)
-          (sym (same_value (node b.0 c.0.0 d.0.0, d.0.1) (found, rest) d.2));
+          (sym (some_same (node b.0 c.0.0 d.0.0, d.0.1) (found, rest) d.2));
     }
 
 -- and so does a node of any levels
@@ -637,7 +638,7 @@ pub node_leaves : (table : List ℕ) (levels : ℕ) (bytes : List ℕ) (mark : �
     → Leaves (node_at table levels) bytes rest
 node_leaves table levels bytes mark behind head rest e attrs kids = λ a after_node read.
     let parts = node_parts table levels bytes a after_node read in
-    let same = same_value (parts.mark, parts.behind) (mark, behind) (sym parts.first ∙ e) in
+    let same = some_same (parts.mark, parts.behind) (mark, behind) (sym parts.first ∙ e) in
     let marks : parts.mark ≡ mark = ap (λ (x : ℕ × List ℕ). x.0) same in
     let behinds : parts.behind ≡ behind = ap (λ (x : ℕ × List ℕ). x.1) same in
     let attrs_read : closed_if (has_attributes mark) (attr_at table) behind ≡ Some parts.attrs =
@@ -671,7 +672,7 @@ pub no_list_leaves : {A : Type 0} (has : Bool) (next : Reader A) (bytes : List �
     → Leaves (closed_if has next) bytes bytes
 unfolding closed_if
 no_list_leaves {A = A} false next bytes is =
-    λ a behind read. ap (λ (x : List A × List ℕ). x.1) (same_value ([], bytes) (a, behind) read)
+    λ a behind read. ap (λ (x : List A × List ℕ). x.1) (some_same ([], bytes) (a, behind) read)
 no_list_leaves true next bytes is = absurd cc
 
 -- an attribute is read by its start and its value
@@ -693,7 +694,7 @@ number_by : (bytes : List ℕ) (n : ℕ) (rest : List ℕ) (read : Result (ℕ �
     → number_from bytes read ≡ Some (n, rest) → IsBehind rest bytes
 number_by bytes n rest (Ok read) e =
     subst (λ (l : List ℕ). IsBehind l bytes) (ap (λ (x : ℕ × List ℕ). x.1)
-    (same_value (read.0, drop read.1 bytes) (n, rest) e)) (behind_drop read.1 bytes)
+    (some_same (read.0, drop read.1 bytes) (n, rest) e)) (behind_drop read.1 bytes)
 number_by bytes n rest (Err fault) e = absurd cc
 
 -- what follows a number is behind it
@@ -713,7 +714,7 @@ unfolding named_at
 named_number table bytes x e =
     let a = bind_some (number_at bytes) _ x e in
     let b = bind_some (attr_named (string_from table a.0.0)) _ x a.2 in
-    (a.0, a.1, ap (λ (y : Start × List ℕ). y.1) (same_value ((b.0, []), a.0.1) x b.2))
+    (a.0, a.1, ap (λ (y : Start × List ℕ). y.1) (some_same ((b.0, []), a.0.1) x b.2))
 
 -- where a name starts an attribute, its value follows the number
 pub value_behind_number : (table : List ℕ) (mark : ℕ) (bytes value : List ℕ) → mark ≡ LITERAL
@@ -743,7 +744,7 @@ value_behind_mark table mark bytes isnt = λ x e. by_mark x (mark == LITERAL) re
     by_mark x true at e = absurd (isnt (eqb-true mark LITERAL at))
     by_mark x false at e =
         let a = bind_some (attr_start 0 mark) _ x e in
-        ap (λ (y : Start × List ℕ). y.1) (same_value (a.0, bytes) x a.2)
+        ap (λ (y : Start × List ℕ). y.1) (some_same (a.0, bytes) x a.2)
 
 -- an attribute that is read has a start, and ends where its value does
 attr_start_of : (table bytes : List ℕ) (a : AttrName × List Part) (behind : List ℕ)
@@ -755,7 +756,7 @@ attr_start_of table bytes a behind e =
       x.0,
       x.1,
       ap (λ (y : (AttrName × List Part) × List ℕ). y.1)
-          (same_value ((x.0.0.0, value_at x.0.0.1 x.0.1), behind_value x.0.1) (a, behind) x.2),
+          (some_same ((x.0.0.0, value_at x.0.0.1 x.0.1), behind_value x.0.1) (a, behind) x.2),
     )
 
 -- what follows its value follows an attribute
@@ -806,7 +807,7 @@ content_there bytes mark rest begin first has leaves = λ table there e.
     let r = content_by table bytes mark rest there first e in
     let read = rest_some (closed_if (has_attributes mark) (attr_at table) rest) r.0 r.1 in
     let same : r.0 ≡ there =
-    same_value r.0 there (ap (λ (b : Bool). Some (if b then r.0 else [])) (sym has) ∙ r.2) in
+    some_same r.0 there (ap (λ (b : Bool). Some (if b then r.0 else [])) (sym has) ∙ r.2) in
     leaves table read.0 r.0 read.1 ∙ same
 
 -- where there is none, nothing does
@@ -814,7 +815,7 @@ pub no_content_there : (bytes : List ℕ) (mark : ℕ) (rest : List ℕ)
     → first_at bytes ≡ Some (mark, rest) → has_content mark ≡ false → IsContent bytes []
 no_content_there bytes mark rest first has = λ table there e.
     let r = content_by table bytes mark rest there first e in
-    same_value [] there (ap (λ (b : Bool). Some (if b then r.0 else [])) (sym has) ∙ r.2)
+    some_same [] there (ap (λ (b : Bool). Some (if b then r.0 else [])) (sym has) ∙ r.2)
 
 -- where no byte is left, there is no node whose content begins
 pub nothing_there : (bytes begin : List ℕ) → first_at bytes ≡ None → IsContent bytes begin

@@ -28,6 +28,7 @@ use Rattle.wap_wbxml.specs.spelling.Names.{KidLevel}
 use Rattle.wap_wbxml.specs.spelling.Spelling.{bit, bits, tag_spelling, attr_spelling}
 use Rattle.wap_wbxml.specs.spelling.Spelling.{opened_spelling, kid_spelling, element_by}
 use Rattle.wap_wbxml.specs.spelling.Spelling.{element_spelling, first_pages}
+use Rattle.wap_deck.proofs.WritingLemmas.Content.{bit_map}
 use Rattle.wap_deck.proofs.GoodLemmas.Flat.{Flat, flat_on, flat_both, flat_one, Filled, flat_ended}
 use Rattle.wap_deck.proofs.GoodLemmas.PartLaw.{piece_bytes, runs_filled}
 use Rattle.wap_deck.proofs.GoodLemmas.AttrLaw.{IsGoodAttr, attr_bytes, attr_flat}
@@ -51,10 +52,6 @@ filled_map f xs filled =
 
 bit_of : {A : Type 0} (value : ℕ) (xs : List A) → Filled xs → bit value xs ≡ value
 bit_of value xs filled = ap (bit value) filled.are
-
-bit_map : {A B : Type 0} (value : ℕ) (f : A → B) (xs : List A) → bit value (map f xs) ≡ bit value xs
-bit_map value f [] = refl
-bit_map value f (x ∷ xs) = refl
 
 module _ (all : List (List ℕ)) (size : table_size all < 2 ^ 32) where
   -- ---- texts
@@ -212,7 +209,7 @@ module _ (all : List (List ℕ)) (size : table_size all < 2 ^ 32) where
       let write_attrs = ended (attr_spelling all) element.attrs in
       let write_kids = ended (kid_spelling all (element_spelling all levels)) kids in
       let tag = tag_spelling all (bits element) (Code (code_of one.tag)) in
-      let a_bit = bit_map 128 attr_of one.attrs in
+      let a_bit = sym (bit_map 128 attr_of one.attrs) in
       let k_bit = content_bit levels spells one.kids is.kids in
       let same : code_of one.tag + bits element ≡ mark_of all size one = omega arith in
       flat_on (on_tag_page 0) (plain tag ⨾ write_attrs ⨾ write_kids) []

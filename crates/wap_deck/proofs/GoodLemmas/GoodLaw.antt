@@ -1,7 +1,8 @@
 -- Normal nodes whose texts are of characters, and whose names are among those of the table.
-use Rattle.std.proofs.Common.{◌≡◌, ◌≢◌, ℕ, zero, suc, ◌^◌, ◌<◌, List, []}
-use Rattle.std.proofs.Common.{◌∷◌, ◌++◌, map, refl, subst}
+use Rattle.std.proofs.Common.{◌≢◌, ℕ, zero, suc, ◌^◌, ◌<◌, List, []}
+use Rattle.std.proofs.Common.{◌∷◌, map, subst}
 use Rattle.std.specs.List.{fold, AllByRecursion}
+use Rattle.std.proofs.lemmas.Grind.{fold-append}
 use Rattle.wap_base.specs.declared.name.Part.{Part}
 use Rattle.wap_tokens.specs.declared.markup.document.Kid.{Kid}
 use Rattle.wap_tokens.specs.declared.markup.document.Kid.TheVariants as kid
@@ -26,11 +27,6 @@ use Rattle.wap_wbxml.proofs.SpellingLemmas.Growing.{grows-with_element}
 use Rattle.wap_deck.proofs.GoodLemmas.Contents.{Shape, Shapes, shapes}
 use Rattle.wap_deck.proofs.GoodLemmas.AttrLaw.{IsNamed, IsGoodAttr}
 use Rattle.wap_deck.proofs.GoodLemmas.NodeLaw.{IsBefore, AreItems, IsGoodElement, IsGoodNode}
-
-fold_append : {A S : Type 0} (step : S → A → S) (state : S) (xs ys : List A)
-    → fold step state (xs ++ ys) ≡ fold step (fold step state xs) ys
-fold_append step state [] ys = refl
-fold_append step state (x ∷ xs) ys = fold_append step (step state x) xs ys
 
 module _ (all : List (List ℕ)) (size : table_size all < 2 ^ 32) where
   token_named : (token : Token) (names : List (List ℕ)) → Grows (with_token names token) all
@@ -88,7 +84,7 @@ module _ (all : List (List ℕ)) (size : table_size all < 2 ^ 32) where
         let after = fold (with_kid (with_element levels)) names here in
         let more : Grows (fold (with_kid (with_element levels)) after others) all =
         subst (λ (n : List (List ℕ)). Grows n all)
-        (fold_append (with_kid (with_element levels)) names here others) grown in (
+        (fold-append (with_kid (with_element levels)) names here others) grown in (
           level_good (out-Item first) items names is.0 of.0 shaped.0 (grows_on
               (grows-fold (with_kid (with_element levels)) (step_grows levels) after others) more),
           items_good items after is.1 of.1 shaped.1 more,

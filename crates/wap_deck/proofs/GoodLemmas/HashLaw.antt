@@ -5,12 +5,12 @@ use Rattle.std.specs.Prelude.{slice_get}
 use Rattle.std.specs.Option.{option_and_then}
 use Rattle.std.specs.Cmp.Lexicographic.{bytes_decides}
 use Rattle.std.proofs.lemmas.Bool.{cases_Bool}
+use Rattle.wap_base.proofs.Choices.{some_same}
 use Rattle.wap_base.specs.Texts.{is_same_text}
 use Rattle.wap_tokens.specs.declared.markup.deck.Node.{Node}
 use Rattle.wap_tokens.specs.markup.Cards.{id_of}
 use Rattle.wap_tokens.specs.markup.Trees.{is_text}
 use Rattle.wap_deck.specs.good.inside.Hashes.{hash_of, hash_if, id_hash}
-use Rattle.wap_deck.proofs.GoodLemmas.Opening.{same_value}
 
 module _ (id : List ℕ) where
   -- an id of another hash is another
@@ -27,5 +27,5 @@ module _ (id : List ℕ) where
       → is_text id (option_and_then id_of (slice_get cards number)) ≡ false
   other_card [] number hash is other = refl
   other_card (card ∷ cards) zero hash is other =
-      other_id (id_of card) (λ same. other (same_value hash (id_hash card) is ∙ same))
+      other_id (id_of card) (λ same. other (some_same hash (id_hash card) is ∙ same))
   other_card (card ∷ cards) (suc number) hash is other = other_card cards number hash is other

@@ -7,6 +7,7 @@ use Rattle.std.proofs.lemmas.Bool.{eqb-true}
 use Rattle.std.proofs.Math.Nat.{eq_of_mul-eq-mul_right, zero-mul}
 use Rattle.std.proofs.lemmas.Nat.{pow_pos}
 use Rattle.std.proofs.lemmas.Nat.Bits.{bit_at_or, bit_at-pow_same, bit_at_ones, and_pow}
+use Rattle.wap_base.proofs.Choices.{some_same}
 use Rattle.wap_base.specs.declared.name.Part.{Part}
 use Rattle.wap_tokens.specs.declared.markup.codes.TheConstants.{LITERAL}
 use Rattle.wap_tokens.specs.declared.markup.name.AttrName.{AttrName}
@@ -16,7 +17,7 @@ use Rattle.wap_deck.specs.good.Readers.{◌>>=◌, first_at, is_end, all_of, End
 use Rattle.wap_deck.specs.good.inside.Nodes.{named_at, start_at, attr_at, attrs_begin}
 use Rattle.wap_deck.specs.good.inside.Starts.{value_in}
 use Rattle.wap_deck.specs.good.inside.Notes.{mark_place, lacks, HaveNames, LacksName, IsHead}
-use Rattle.wap_deck.proofs.GoodLemmas.Opening.{same_value, all_nothing}
+use Rattle.wap_deck.proofs.GoodLemmas.Opening.{all_nothing}
 use Rattle.wap_deck.proofs.GoodLemmas.Ending.{attr_lists, ends_on, nothing_read}
 use Rattle.wap_deck.proofs.GoodLemmas.Ending.{content_there, no_list_leaves}
 use Rattle.wap_deck.proofs.GoodLemmas.Seen.{value_behind, value_end}
@@ -136,7 +137,7 @@ attrs_are : (bytes : List ℕ) (mark : ℕ) (behind rest : List ℕ)
     → rest ≡ (if has_attributes mark then behind else [])
 unfolding attrs_begin
 attrs_are bytes mark behind rest e begin =
-    same_value rest (if has_attributes mark then behind else []) (sym begin
+    some_same rest (if has_attributes mark then behind else []) (sym begin
     ∙ ap (λ (o : Option (ℕ × List ℕ)). o >>= λ x. Some (if has_attributes x.0 then x.1 else [])) e)
 
 pub head_lacks : (bytes : List ℕ) (mark : ℕ) (behind : List ℕ) (names : ℕ)

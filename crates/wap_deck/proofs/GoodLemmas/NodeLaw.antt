@@ -2,7 +2,7 @@
 use Rattle.std.proofs.Common.{◌≡◌, ◌≢◌, ℕ, zero, suc, ◌+◌, ◌%◌, ◌^◌, ◌<◌, Bool, true}
 use Rattle.std.proofs.Common.{false, List, [], ◌∷◌, ◌++◌, length, Option, Some, None}
 use Rattle.std.proofs.Common.{refl, sym, ap, ◌∙◌, append_assoc, arith}
-use Rattle.std.specs.Prelude.{is_some, if◌then◌else◌, nat_lt, ◌&&◌}
+use Rattle.std.specs.Prelude.{is_some, if◌then◌else◌, nat_lt}
 use Rattle.std.specs.List.{flat_map, AllByRecursion}
 use Rattle.std.proofs.lemmas.Bool.{and_parts}
 use Rattle.std.proofs.lemmas.Bool.Decides.{nat_tests, Decides-ltb}
@@ -31,6 +31,7 @@ use Rattle.wap_deck.specs.good.Readers.{Reader, ◌>>=◌, after, all_of, closed
 use Rattle.wap_deck.specs.good.Texts.{part_at, value_at, behind_value}
 use Rattle.wap_deck.specs.good.inside.Nodes.{attr_at, node, node_by, item_by, node_at, item_at}
 use Rattle.wap_wbxml.specs.spelling.Characters.{OfPart}
+use Rattle.wap_wbxml.proofs.SpellingLemmas.DeckLaws.{tag_fits}
 use Rattle.wap_deck.proofs.GoodLemmas.Runs.{Takes, all_on, all_end}
 use Rattle.wap_deck.proofs.GoodLemmas.Taking.{item_takes}
 use Rattle.wap_deck.proofs.GoodLemmas.Contents.{IsNoText, BeginNoText}
@@ -204,12 +205,6 @@ list_read {A = A} has next spell (x ∷ xs) rest e read =
 
 -- ---- tags
 
-pub code_fits : (tag : Tag) → tag ≢ tags.Other
-    → (nat_lt LITERAL (code_of tag) && nat_lt (code_of tag) 64) ≡ true
-unfolding code_of tag_rows
-code_fits tags.Other known = absurd (known refl)
-code_fits tag known = refl
-
 record Marks (code mark : ℕ) (attrs kids : Bool) : Type 0 where
   low : LITERAL < mark % 64
   with_attrs : has_attributes mark ≡ attrs
@@ -286,7 +281,7 @@ module _ (all : List (List ℕ)) (size : table_size all < 2 ^ 32) where
   marked one known =
       let fits =
       and_parts (nat_lt LITERAL (code_of one.tag)) (nat_lt (code_of one.tag) 64)
-      (code_fits one.tag known) in
+      (tag_fits one.tag known) in
       marks (code_of one.tag) one.attrs one.kids ((Decides-ltb LITERAL (code_of one.tag)).0 fits.0)
       ((Decides-ltb (code_of one.tag) 64).0 fits.1)
 

@@ -2,6 +2,7 @@
 use Rattle.std.proofs.Common.{◌≡◌, ℕ, zero, suc, ◌-◌, Bool, true, false, List, []}
 use Rattle.std.proofs.Common.{Option, Some, None, refl, sym, ap, subst, ◌∙◌, arith}
 use Rattle.std.specs.Prelude.{if◌then◌else◌, ◌%◌}
+use Rattle.wap_base.proofs.Choices.{some_same}
 use Rattle.wap_base.specs.declared.name.Part.{Part}
 use Rattle.wap_tokens.specs.declared.markup.codes.TheConstants.{END}
 use Rattle.wap_tokens.specs.declared.markup.deck.Node.{Node}
@@ -19,9 +20,6 @@ pub bind_some : {A B : Type 0} (o : Option A) (next : A → Option B) (y : B) �
     → (x : A) × (o ≡ Some x) × (next x ≡ Some y)
 bind_some (Some x) next y e = (x, refl, e)
 bind_some None next y e = absurd cc
-
-pub same_value : {A : Type 0} (x y : A) → Some x ≡ Some y → x ≡ y
-same_value x y e = cc
 
 -- ---- the parts of a node
 
@@ -61,7 +59,7 @@ opened_by table levels bytes found rest e =
       kids_read = d.1;
       is =
           ap (λ (x : Node × List ℕ). x.0)
-          (sym (same_value (node b.0 c.0.0 d.0.0, d.0.1) (found, rest) d.2));
+          (sym (some_same (node b.0 c.0.0 d.0.0, d.0.1) (found, rest) d.2));
     }
 
 pub opened : (table : List ℕ) (levels : ℕ) (bytes : List ℕ) (found : Node) (rest : List ℕ)
@@ -96,9 +94,9 @@ pub closed_all : {A : Type 0} (has : Bool) (next : Reader A) (bytes : List ℕ) 
 unfolding closed_if closed all_of
 closed_all {A = A} true next bytes x e =
     let a = bind_some (after END (all_of next bytes).1) _ x e in
-    ap (λ (r : List A × List ℕ). r.0) (sym (same_value ((all_of next bytes).0, a.0) x a.2))
+    ap (λ (r : List A × List ℕ). r.0) (sym (some_same ((all_of next bytes).0, a.0) x a.2))
 closed_all {A = A} false next bytes x e =
-    ap (λ (r : List A × List ℕ). r.0) (sym (same_value ([], bytes) x e))
+    ap (λ (r : List A × List ℕ). r.0) (sym (some_same ([], bytes) x e))
 
 -- where the attributes and the content of a node begin, and what they are
 module _ (table : List ℕ) (levels : ℕ) (bytes : List ℕ) (found : Node)

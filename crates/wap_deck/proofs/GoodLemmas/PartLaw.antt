@@ -5,7 +5,6 @@ use Rattle.std.proofs.Common.{refl, sym, ap, subst, ◌∙◌, append_assoc, ari
 use Rattle.std.specs.Prelude.{encode_utf8_all, if◌then◌else◌, ◌&&◌}
 use Rattle.std.specs.List.{flat_map, filter_map, cons_option, list_all, prefix_len, AllByRecursion}
 use Rattle.std.specs.Str.{chars, is_utf8, all_scalars}
-use Rattle.std.proofs.lemmas.Bool.{and_parts}
 use Rattle.std.proofs.lemmas.List.{take_at, drop_at}
 use Rattle.std.proofs.lemmas.Str.{chars-encodes, is_utf8-from_IsUtf8}
 use Rattle.wap_base.specs.Names.{is_name}
@@ -21,9 +20,11 @@ use Rattle.wap_tokens.specs.markup.Strings.{is_not_zero}
 use Rattle.wap_tokens.specs.markup.Decks.{literal, joined, piece_part, value_after}
 use Rattle.wap_tokens.specs.markup.Normal.{IsPart}
 use Rattle.wap_tokens.specs.markup.Writing.{run_before, runs_of, run_piece, part_pieces}
+use Rattle.std.proofs.lemmas.Bool.{and_parts}
 use Rattle.wap_wbxml.specs.spelling.Names.{string}
 use Rattle.wap_wbxml.specs.spelling.Spellable.{IsString}
 use Rattle.wap_wbxml.specs.spelling.Spelling.{variable, piece_spelling, first_pages}
+use Rattle.wap_wbxml.proofs.SpellingLemmas.DeckLaws.{all_append}
 use Rattle.wap_wbxml.proofs.SpellingLemmas.Strings.{text_bytes}
 use Rattle.wap_wbxml.proofs.SpellingLemmas.Kinds.{of_characters, name_string, RunFits, runs_fit}
 use Rattle.wap_deck.specs.good.Readers.{◌>>=◌, after, zero_place, ended_at, all_of}
@@ -199,11 +200,6 @@ runs_plain : (runs : List (Option (List ℕ))) → AllByRecursion (RunFits IsStr
 runs_plain [] fit some = tt
 runs_plain (None ∷ runs) fit some = (refl, runs_plain runs fit.1 some.1)
 runs_plain (Some text ∷ runs) fit some = ((fit.0, some.0), runs_plain runs fit.1 some.1)
-
-pub all_append : {A : Type 0} (P : A → Type 0) (a b : List A) → AllByRecursion P a
-    → AllByRecursion P b → AllByRecursion P (a ++ b)
-all_append P [] b one two = two
-all_append P (x ∷ a) b one two = (one.0, all_append P a b one.1 two)
 
 part_plain : (one : Part) → IsPart one → OfPart one → AllByRecursion IsPlain (part_pieces one)
 part_plain (Lit text) is of =

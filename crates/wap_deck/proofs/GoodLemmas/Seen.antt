@@ -3,6 +3,7 @@ use Rattle.std.proofs.Common.{◌≡◌, ℕ, ◌-◌, ◌≤◌, Bool, true, fa
 use Rattle.std.proofs.Common.{length, Some, None, sym, ap, subst, ◌∙◌, arith}
 use Rattle.std.specs.Prelude.{if◌then◌else◌, ◌%◌, find}
 use Rattle.std.specs.Option.{option_map}
+use Rattle.wap_base.proofs.Choices.{some_same}
 use Rattle.wap_base.specs.declared.name.Part.{Part}
 use Rattle.wap_tokens.specs.declared.markup.deck.Node.{Node}
 use Rattle.wap_tokens.specs.declared.markup.name.AttrName.{AttrName}
@@ -17,7 +18,7 @@ use Rattle.wap_deck.specs.good.inside.Notes.{LacksName}
 use Rattle.wap_deck.proofs.GoodLemmas.Runs.{all_on, all_end, all_few}
 use Rattle.wap_deck.proofs.GoodLemmas.Taking.{attr_takes, item_takes}
 use Rattle.wap_deck.proofs.GoodLemmas.Ending.{attr_lists, item_lists, closed_ends}
-use Rattle.wap_deck.proofs.GoodLemmas.Opening.{same_value, Opened, opened_front, seen, attrs_from}
+use Rattle.wap_deck.proofs.GoodLemmas.Opening.{Opened, opened_front, seen, attrs_from}
 use Rattle.wap_deck.proofs.GoodLemmas.Opening.{attrs_there, attrs_are, kids_from, kids_there}
 use Rattle.wap_deck.proofs.GoodLemmas.Opening.{kids_are}
 
@@ -33,7 +34,7 @@ module _ (table : List ℕ) (levels : ℕ) (bytes : List ℕ) (is : IsRead table
   attrs_is : (begin : List ℕ) → attrs_begin bytes ≡ Some begin
       → begin ≡ attrs_from table levels bytes (front_node table levels bytes) front
   attrs_is begin e =
-      same_value begin _
+      some_same begin _
       (sym e ∙ attrs_there table levels bytes (front_node table levels bytes) front)
 
   pub attrs_end : (begin : List ℕ) → attrs_begin bytes ≡ Some begin → Ends (attr_at table) begin
@@ -56,7 +57,7 @@ module _ (table : List ℕ) (levels : ℕ) (bytes : List ℕ) (is : IsRead table
     pub tag_seen : (mark : ℕ) (behind : List ℕ) → first_at bytes ≡ Some (mark, behind)
         → tag_of 0 (mark % 64) ≡ Some now.tag
     tag_seen mark behind e =
-        let same = same_value (mark, behind) (front.mark, front.behind) (sym e ∙ front.first) in
+        let same = some_same (mark, behind) (front.mark, front.behind) (sym e ∙ front.first) in
         ap (λ (x : ℕ × List ℕ). tag_of 0 (x.0 % 64)) same ∙ front.tagged
         ∙ ap (λ (n : Node). Some n.tag) (sym front.is ∙ view_is)
 

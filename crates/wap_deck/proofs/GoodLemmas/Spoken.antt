@@ -5,6 +5,7 @@ use Rattle.std.specs.Prelude.{if◌then◌else◌, ◌&&◌, ◌==◌, is_some}
 use Rattle.std.specs.List.{list_all}
 use Rattle.std.specs.Str.{chars, is_utf8}
 use Rattle.std.proofs.lemmas.Str.{IsUtf8-from_is_utf8}
+use Rattle.wap_base.proofs.Choices.{some_same}
 use Rattle.wap_base.specs.Names.{is_name}
 use Rattle.wap_base.specs.declared.name.Conv.{Conv}
 use Rattle.wap_base.specs.declared.name.Conv.TheVariants.{Escape, Unescape, Plain}
@@ -20,8 +21,9 @@ use Rattle.wap_deck.specs.good.Texts.{string_part, name_part, string_at, referen
 use Rattle.wap_deck.specs.good.Texts.{part_at, part_end, behind_value, AreParts}
 use Rattle.wap_deck.proofs.GoodLemmas.Runs.{all_end, turn}
 use Rattle.wap_deck.proofs.GoodLemmas.Taking.{part_takes}
-use Rattle.wap_deck.proofs.GoodLemmas.Zeros.{before_zero, chars_no_zero}
-use Rattle.wap_deck.proofs.GoodLemmas.Opening.{bind_some, same_value}
+use Rattle.wap_wbxml.proofs.StringLaws.{front_not_zero}
+use Rattle.wap_deck.proofs.GoodLemmas.Zeros.{chars_no_zero}
+use Rattle.wap_deck.proofs.GoodLemmas.Opening.{bind_some}
 use Rattle.wap_deck.proofs.GoodLemmas.Ending.{first_is}
 
 pub filled : (text : List ℕ) → (length text == 0) ≡ false → text ≢ []
@@ -37,14 +39,14 @@ ended_none bytes x e =
     let a = bind_some (after 0 (drop (zero_place bytes) bytes)) _ x e in
     let front = take (zero_place bytes) bytes in
     ap (list_all is_not_zero)
-    (sym (ap (λ (y : List ℕ × List ℕ). y.0) (same_value (front, a.0) x a.2)))
-    ∙ before_zero bytes
+    (sym (ap (λ (y : List ℕ × List ℕ). y.0) (some_same (front, a.0) x a.2)))
+    ∙ front_not_zero bytes
 
 -- ---- a string that gives a part is of UTF-8
 
 literal_is : (text : List ℕ) (part : Part) → literal text ≡ Some part → part ≡ Lit text
 literal_is [] part e = absurd cc
-literal_is (c ∷ cs) part e = sym (same_value (Lit (c ∷ cs)) part e)
+literal_is (c ∷ cs) part e = sym (some_same (Lit (c ∷ cs)) part e)
 
 string_by : (b : Bool) (bytes : List ℕ) (part : Part)
     → (if b then literal (chars bytes) else None) ≡ Some part
@@ -55,7 +57,7 @@ string_by false bytes part e = absurd cc
 name_by : (b c : Bool) (bytes : List ℕ) (conv : Conv) (part : Part)
     → (if b && c then Some (Var (chars bytes) conv) else None) ≡ Some part
     → (b ≡ true) × (part ≡ Var (chars bytes) conv)
-name_by true true bytes conv part e = (refl, sym (same_value (Var (chars bytes) conv) part e))
+name_by true true bytes conv part e = (refl, sym (some_same (Var (chars bytes) conv) part e))
 name_by true false bytes conv part e = absurd cc
 name_by false c bytes conv part e = absurd cc
 

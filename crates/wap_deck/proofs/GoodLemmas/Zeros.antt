@@ -1,28 +1,23 @@
 -- The first 0, as a search finds it.
-use Rattle.std.proofs.Common.{◌≡◌, ℕ, zero, suc, ◌+◌, ◌-◌, ◌<◌, Bool, true, false, cond}
-use Rattle.std.proofs.Common.{List, [], ◌∷◌, ◌++◌, length, take, drop, Some, None, refl, sym, ap}
+use Rattle.std.proofs.Common.{◌≡◌, ℕ, zero, suc, ◌+◌, ◌-◌, ◌<◌, Bool, true, cond}
+use Rattle.std.proofs.Common.{List, [], ◌∷◌, length, take, drop, Some, None, refl, sym, ap}
 use Rattle.std.proofs.Common.{subst, ◌∙◌, arith}
-use Rattle.std.specs.Prelude.{not, slice_index, ◌==◌, encode_utf8_all}
+use Rattle.std.specs.Prelude.{not, slice_index, ◌==◌}
 use Rattle.std.specs.List.{list_all}
 use Rattle.std.specs.Str.{chars, IsUtf8}
-use Rattle.std.proofs.Math.Dec.{eqb-suc-zero}
-use Rattle.std.proofs.lemmas.Bool.{eqb-true, and_from, and_parts}
+use Rattle.std.proofs.lemmas.Bool.{eqb-true, false_from_ne_true}
 use Rattle.std.proofs.lemmas.Str.{chars-encodes}
-use lib.Utf8.{encode}
 use Rattle.wap_tokens.specs.markup.Strings.{is_not_zero}
 use Rattle.wap_wbxml.specs.spelling.Spellable.{HasNoZero}
+use Rattle.wap_wbxml.proofs.SpellingLemmas.TakenDocuments.{text_not_zero}
 use Rattle.std.proofs.lemmas.List.{take_rest, drop-drop, drop_more, drop_all}
 use Rattle.memchr.specs.Find.{Nowhere, Passes, IsFirstByte, is_byte}
 use Rattle.wap_deck.specs.good.Readers.{◌>>=◌, after, zero_place, ended_at, behind_zero}
 
-isnt : (b : Bool) → (b ≡ true → ⊥) → b ≡ false
-isnt true is = absurd (is refl)
-isnt false is = refl
-
 more : (byte : ℕ) (bytes : List ℕ) (n : ℕ) → (is_byte 0 byte ≡ true → ⊥) → zero_place bytes ≡ n
     → zero_place (byte ∷ bytes) ≡ suc n
 more byte bytes n other e =
-    ap (λ (b : Bool). cond (not b) (1 + zero_place bytes) 0) (isnt (byte == 0) other)
+    ap (λ (b : Bool). cond (not b) (1 + zero_place bytes) 0) (false_from_ne_true (byte == 0) other)
     ∙ (omega arith)
 
 pub zero_at : (bytes : List ℕ) (place : ℕ) → place < length bytes
@@ -44,40 +39,11 @@ no_zero (byte ∷ bytes) nowhere =
 
 -- ---- what stands before the first 0
 
-before_step : (b : Bool) (byte : ℕ) (bytes : List ℕ) → is_not_zero byte ≡ b
-    → list_all is_not_zero (take (zero_place bytes) bytes) ≡ true
-    → list_all is_not_zero (take (cond b (1 + zero_place bytes) 0) (byte ∷ bytes)) ≡ true
-before_step true byte bytes is more =
-    let one_more : 1 + zero_place bytes ≡ suc (zero_place bytes) = omega arith in
-    ap (λ (n : ℕ). list_all is_not_zero (take n (byte ∷ bytes))) one_more
-    ∙ and_from (is_not_zero byte) (list_all is_not_zero (take (zero_place bytes) bytes)) is more
-before_step false byte bytes is more = refl
-
-pub before_zero : (bytes : List ℕ) → list_all is_not_zero (take (zero_place bytes) bytes) ≡ true
-before_zero [] = refl
-before_zero (byte ∷ bytes) =
-    before_step (is_not_zero byte) byte bytes refl (before_zero bytes)
-
-all_behind : (a b : List ℕ) → list_all is_not_zero (a ++ b) ≡ true → list_all is_not_zero b ≡ true
-all_behind [] b all = all
-all_behind (x ∷ a) b all =
-    all_behind a b (and_parts (is_not_zero x) (list_all is_not_zero (a ++ b)) all).1
-
--- UTF-8 without a 0 is that of a text without U+0000
-text_no_zero : (text : List ℕ) → list_all is_not_zero (encode_utf8_all text) ≡ true
-    → HasNoZero text
-unfolding encode
-text_no_zero [] all = refl
-text_no_zero (zero ∷ text) all = absurd (cc all)
-text_no_zero (suc c ∷ text) all =
-    and_from (is_not_zero (suc c)) (list_all is_not_zero text) (ap not (eqb-suc-zero c))
-    (text_no_zero text (all_behind (encode (suc c)) (encode_utf8_all text) all))
-
 pub chars_no_zero : (bytes : List ℕ) → IsUtf8 bytes → list_all is_not_zero bytes ≡ true
     → HasNoZero (chars bytes)
 chars_no_zero bytes of all =
     subst HasNoZero (sym (chars-encodes of.0 of.1.0) ∙ ap chars of.1.1)
-    (text_no_zero of.0 (ap (list_all is_not_zero) of.1.1 ∙ all))
+    (text_not_zero of.0 (ap (list_all is_not_zero) of.1.1 ∙ all))
 
 -- ---- what follows the first 0
 

@@ -49,7 +49,8 @@ small tag = refl
 pub code_small : (tag : Tag) → code_of tag < 64
 code_small tag = ltb-true (code_of tag) 64 (small tag)
 
-bit_map : {A B : Type 0} (value : ℕ) (f : A → B) (xs : List A) → bit value xs ≡ bit value (map f xs)
+pub bit_map : {A B : Type 0} (value : ℕ) (f : A → B) (xs : List A)
+    → bit value xs ≡ bit value (map f xs)
 bit_map value f [] = refl
 bit_map value f (x ∷ xs) = refl
 

@@ -1,5 +1,5 @@
 //! Attributes, as their bytes stand in a deck.
-ghost use Rattle.std.specs.Prelude.{◌≡◌, ℕ, List, Some, IfSome};
+ghost use Rattle.std.specs.Prelude.{◌≡◌, IfSome};
 ghost use Rattle.std.specs.Map.{lookup};
 ghost use Rattle.std.specs.Str.{chars, bytes_eq};
 ghost use Rattle.wap_tokens.specs.markup.Tables.{attr_named};
@@ -52,6 +52,7 @@ fn named_start<'a>(table: &Bytes, bytes: &'a [u8]) -> Option<Start<'a>>
 
 /// The start of the next attribute.
 #[tactic(auto, unfolding(crate::specs::good::inside::Nodes::start_at))]
+#[inline(always)]
 fn next_start<'a>(table: &Bytes, bytes: &'a [u8]) -> Option<Start<'a>>
     ensures exact { Reads start_seen result (start_at table.now bytes.now) }
     ensures text { IfSome result (λ start. HasNoZero (chars start.1.now)) }
@@ -64,21 +65,6 @@ fn next_start<'a>(table: &Bytes, bytes: &'a [u8]) -> Option<Start<'a>>
     Some((attr, text, rest))
 }
 
-/// The start of the next attribute, if it has a code.
-#[inline(always)]
-fn coded_start(bytes: &[u8]) -> Option<Start<'_>>
-    ensures exact { IfSome result (λ start.
-        (table : List ℕ) → start_at table bytes.now ≡ Some (start_seen start)) }
-    ensures text { IfSome result (λ start. HasNoZero (chars start.1.now)) }
-{
-    let (mark, rest) = first(bytes)?;
-    if mark == LITERAL {
-        return None;
-    }
-    let (attr, text) = attr_start(0, mark)?;
-    Some((attr, text, rest))
-}
-
 /// The value of the first attribute of that name.
 // The first of all is looked at here, apart from the loop: mostly it is that one.
 #[inline(never)]
@@ -86,7 +72,7 @@ pub(crate) fn find_attr<'a>(table: &Bytes, name: AttrName, bytes: &'a [u8]) -> O
     requires { Ends (attr_at table.now) bytes.now }
     ensures { result ≡ value_in name (all_of (attr_at table.now) bytes.now).0 }
 {
-    match coded_start(bytes) {
+    match next_start(table, bytes) {
         Some((found, begun, value)) if found == name => Some(Run::value(begun, value)),
         _ => find_among(table, name, bytes),
     }

@@ -9,7 +9,7 @@ pub value-requires-clause-parts : goal.value-requires-clause-parts
 value-requires-clause-parts c =
     let read =
     attr_read c.args.table.now c.args.bytes.now c.in-Some.found (chars c.in-Some.begun.now)
-    c.in-Some.value.now (c.in-Some.ensures.exact c.args.table.now) in
+    c.in-Some.value.now c.in-Some.ensures.exact in
     attr_followed c.args.table.now c.args.bytes.now _ (behind_value c.in-Some.value.now) read
     c.requires
 
@@ -17,7 +17,7 @@ pub returns-in-Some : goal.returns-in-Some
 returns-in-Some c =
     let read =
     attr_read c.args.table.now c.args.bytes.now c.in-Some.found (chars c.in-Some.begun.now)
-    c.in-Some.value.now (c.in-Some.ensures.exact c.args.table.now) in
+    c.in-Some.value.now c.in-Some.ensures.exact in
     ap Some c.value.ensures
     ∙ sym (value_here c.args.table.now c.args.name c.args.bytes.now c.in-Some.found
     (value_at (chars c.in-Some.begun.now) c.in-Some.value.now)
