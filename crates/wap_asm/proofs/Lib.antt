@@ -4,6 +4,7 @@ pub mod RowLaws
 pub mod Spelled
 pub mod Gifts
 pub mod Numbering
+pub mod Near
 pub mod SpellingLaws
 pub mod Sums
 pub mod Settling

@@ -1,9 +1,9 @@
 //! How operations are spelled, by the table of instructions.
-ghost use Rattle.std.specs.Prelude.{◌≡◌, ◌≤◌, find, filter};
+ghost use Rattle.std.specs.Prelude.{◌≡◌, ◌+◌, ◌-◌, ◌<◌, ◌≤◌, min, length, find, filter};
+ghost use Rattle.std.specs.Prelude.{slice_get, slice_range, IfSome};
 ghost use Rattle.std.specs.List.{last_or};
 ghost use Rattle.wap_asm.specs.Spelling.{limit, is_spelling, shortest};
-ghost use Rattle.wap_asm.specs.Spellings.{has_name, operation_of, is_of, longest, spelling_of};
-ghost use Rattle.wap_asm.specs.Spellings.{row_size};
+ghost use Rattle.wap_asm.specs.Spellings.{operation_of, is_of, longest, spelling_of, row_size};
 
 use crate::instruction::size;
 use wap_unit::{OpName, ROWS, Row, Slot};
@@ -30,21 +30,28 @@ fn is_spelling(operation: OpName, a: u32, b: u32, c: u32, row: Row) -> bool
         && c < limit(row.count, row.c)
 }
 
-fn named_in(rows: &[Row], name: OpName) -> Option<Row>
-    ensures { result ≡ find (has_name name) rows.now }
+fn operation_in(rows: &[Row], number: usize) -> OpName
+    requires { number < length rows.now }
+    ensures { IfSome (slice_get rows.now number) (λ row. result ≡ row.operation) }
 {
-    rows.iter().copied().find(|row| row.name == name)
+    rows[number].operation
 }
 
-/// The operation that a name spells.
-#[tactic(auto, unfolding(crate::specs::Spellings::operation_of))]
+/// The operation that a name spells: rows stand in the order of their names.
 pub(crate) fn operation_of(name: OpName) -> OpName
     ensures { result ≡ operation_of name }
 {
-    match named_in(&ROWS, name) {
-        Some(row) => row.operation,
-        None => name,
-    }
+    operation_in(&ROWS, name as usize)
+}
+
+/// The row of an operation's own name, with that before it and that after it: no operation is
+/// spelled by others.
+fn rows_near(rows: &[Row], number: usize) -> &[Row]
+    requires { number < length rows.now }
+    ensures { result.now
+        ≡ slice_range rows.now (number - 1) (min (length rows.now) (number + 2)) }
+{
+    &rows[number.saturating_sub(1)..rows.len().min(number + 2)]
 }
 
 fn shortest_in(rows: &[Row], operation: OpName, a: u32, b: u32, c: u32) -> Option<Row>
@@ -59,7 +66,7 @@ fn shortest_in(rows: &[Row], operation: OpName, a: u32, b: u32, c: u32) -> Optio
 fn shortest(operation: OpName, a: u32, b: u32, c: u32) -> Option<Row>
     ensures { result ≡ shortest operation a b c }
 {
-    shortest_in(&ROWS, operation, a, b, c)
+    shortest_in(rows_near(&ROWS, operation as usize), operation, a, b, c)
 }
 
 fn longest_in(rows: &[Row], operation: OpName) -> Option<Row>
@@ -80,7 +87,7 @@ fn longest_in(rows: &[Row], operation: OpName) -> Option<Row>
 pub(crate) fn longest(operation: OpName) -> Option<Row>
     ensures { result ≡ longest operation }
 {
-    longest_in(&ROWS, operation)
+    longest_in(rows_near(&ROWS, operation as usize), operation)
 }
 
 /// The spelling that an operation with these operands takes.
