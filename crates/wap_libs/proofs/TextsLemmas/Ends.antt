@@ -1,13 +1,15 @@
 -- Walks over the characters of a text, by its bytes.
 use Rattle.std.proofs.Common.{◌≡◌, ℕ, ◌+◌, ◌-◌, ◌<◌, ◌≤◌, List, [], ◌∷◌, ◌++◌, length, take, drop}
-use Rattle.std.proofs.Common.{ap, ap₂, sym, ◌∙◌, subst, arith}
+use Rattle.std.proofs.Common.{ap, ap₂, sym, ◌∙◌, subst, arith, inl, inr, min, nat_lt}
 use Rattle.std.specs.Char.{encode_utf8}
-use Rattle.std.specs.Str.{IsUtf8, IsCharBoundary, chars}
+use Rattle.std.specs.Str.{IsUtf8, IsAscii, IsCharBoundary, chars}
 use Rattle.std.proofs.lemmas.List.{append_cancel_right, take-append-drop, drop_at, drop-drop}
-use Rattle.std.proofs.lemmas.List.{length-append}
+use Rattle.std.proofs.lemmas.List.{length-append, length-take-le, length-drop, drop_all}
+use Rattle.std.proofs.lemmas.Bool.{cases_Bool, ltb-true, ltb-false}
 use Rattle.std.proofs.lemmas.Str.{chars_past_char, IsUtf8-past_char, length-encode, len_utf8_bounds}
 use Rattle.std.proofs.lemmas.Str.{chars_from_encodes, encodes-chars, encodes-append, chars-append}
 use Rattle.std.proofs.lemmas.Str.{IsUtf8-take, IsCharBoundary-from_drop, chars-nil}
+use Rattle.std.proofs.lemmas.Str.{IsCharBoundary-from_take, IsUtf8-from_ascii, chars-IsAscii}
 
 -- no bytes are no characters
 pub no_characters : (s : List ℕ) → length s ≡ 0 → chars s ≡ []
@@ -109,3 +111,38 @@ taken before s rest count whole same =
 pub record Skips (s : List ℕ) (count left : ℕ) (rest : List ℕ) : Type 0 where
   pub is_end : IsEnd s rest
   pub parts : drop left (chars rest) ≡ drop count (chars s)
+
+-- where the first bytes are ASCII, they are as many characters
+pub skip_ascii : (s rest : List ℕ) (count most : ℕ) → IsUtf8 s → most ≡ min count (length s)
+    → IsAscii (take most s) → rest ≡ drop most s → chars rest ≡ drop count (chars s)
+skip_ascii s rest count most us is ascii same =
+    let before = take most s in
+    let size : length before ≡ most = length-take-le most s (omega arith) in
+    let whole : chars s ≡ before ++ chars rest =
+    ap chars (sym (take-append-drop most s))
+    ∙ chars-append before (drop most s) (IsUtf8-from_ascii before ascii)
+    ∙ ap₂ (λ a b. a ++ chars b) (chars-IsAscii before ascii) (sym same) in
+    elim (cases_Bool (nat_lt count (length s))) [
+      | inl more ↦
+          let all : length before ≡ count =
+          omega (arith, size, ltb-true count (length s) more) in
+          sym (ap (drop count) whole ∙ drop_at before (chars rest) count all)
+      | inr fewer ↦
+          let all : length s ≤ count = ltb-false count (length s) fewer in
+          let none : chars rest ≡ [] =
+          no_characters rest (omega (arith, ap length same, length-drop most s)) in
+          let few : length (chars s) ≤ count =
+          omega (
+            arith,
+            ap length whole,
+            length-append before (chars rest),
+            ap length none,
+            size,
+          ) in
+          none ∙ sym (drop_all count (chars s) few)
+    ]
+
+pub cut_ascii : (s : List ℕ) (most : ℕ) → IsUtf8 s → most ≤ length s → IsAscii (take most s)
+    → IsCharBoundary s most
+cut_ascii s most us within ascii =
+    IsCharBoundary-from_take s most us within (IsUtf8-from_ascii (take most s) ascii)

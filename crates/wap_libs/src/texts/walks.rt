@@ -28,13 +28,17 @@ pub(crate) fn last_of(text: &str) -> Option<(char, &str)>
     }
 }
 
-/// What follows so many characters, as far as there are.
+/// What follows so many characters, as far as there are. Where these are ASCII, each is a byte.
 fn skip(text: &str, count: usize) -> &str
     ensures value { chars result.now ≡ drop count (chars text.now) }
     ensures shorter { length result.now ≤ length text.now }
     ensures end { result.now ≡ drop (length text.now - length result.now) text.now }
     ensures cut { IsCharBoundary text.now (length text.now - length result.now) }
 {
+    let most = count.min(text.len());
+    if text.as_bytes()[..most].is_ascii() {
+        return &text[most..];
+    }
     let mut rest = text;
     let mut left = count;
     while left > 0 {

@@ -1,8 +1,42 @@
-use Rattle.std.proofs.Common.{◌≡◌, [], drop, refl, ap, sym, ◌∙◌, arith}
-use Rattle.std.proofs.lemmas.List.{drop_all}
-use Rattle.std.specs.Str.{chars}
+use Rattle.std.proofs.Common.{◌≡◌, ◌-◌, [], drop, take, length, refl, ap, sym, ◌∙◌, subst, arith}
+use Rattle.std.proofs.lemmas.List.{drop_all, length-drop}
+use Rattle.std.specs.Str.{chars, IsAscii, IsCharBoundary}
 use Rattle.wap_libs.proofs.TextsLemmas.Ends.{ends_whole, ends_more, ends_cut, skip_one}
+use Rattle.wap_libs.proofs.TextsLemmas.Ends.{skip_ascii, cut_ascii}
 use Rattle.wap_libs.proofs.texts.walks.skip.Goals as goal
+
+pub range_from-requires : goal.range_from-requires
+range_from-requires c =
+    let s = c.args.text.now in
+    let most = c.min-most.result in
+    let ascii : IsAscii (take most s) =
+    subst (λ b. IsAscii (take most b)) c.as_bytes.ensures.value c.if-is_ascii.ensures.cases in
+    λ _. cut_ascii s most c.utf8.text (omega (arith, c.min-most.ensures)) ascii
+
+pub returns-then-is_ascii-clause-value : goal.returns-then-is_ascii-clause-value
+returns-then-is_ascii-clause-value c =
+    let s = c.args.text.now in
+    let most = c.min-most.result in
+    let ascii : IsAscii (take most s) =
+    subst (λ b. IsAscii (take most b)) c.as_bytes.ensures.value c.if-is_ascii.ensures.cases in
+    skip_ascii s c.range_from.result.now c.args.count most c.utf8.text c.min-most.ensures ascii
+    c.range_from.ensures.value
+
+pub returns-then-is_ascii-clause-cut : goal.returns-then-is_ascii-clause-cut
+returns-then-is_ascii-clause-cut c =
+    let s = c.args.text.now in
+    let most = c.min-most.result in
+    let ascii : IsAscii (take most s) =
+    subst (λ b. IsAscii (take most b)) c.as_bytes.ensures.value c.if-is_ascii.ensures.cases in
+    let size : most ≡ length s - length c.range_from.result.now =
+    omega (
+      arith,
+      c.min-most.ensures,
+      ap length c.range_from.ensures.value,
+      length-drop most s,
+    ) in
+    subst (IsCharBoundary s) size
+    (cut_ascii s most c.utf8.text (omega (arith, c.min-most.ensures)) ascii)
 
 pub loop-left-init : goal.loop-left-init
 loop-left-init c =
