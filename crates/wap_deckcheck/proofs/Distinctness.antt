@@ -3,19 +3,11 @@ use Rattle.std.proofs.Common.{◌≡◌, ℕ, false, ◌||◌, List, [], ◌∷�
 use Rattle.std.proofs.Common.{Option, Some, None, refl, sym, ap, subst, ◌∙◌}
 use Rattle.std.specs.List.{list_any, AllByRecursion, IsDistinct}
 use Rattle.std.specs.Option.{option_to_list}
-use Rattle.std.specs.Bool.{Decides, one_answer}
-use Rattle.std.specs.Cmp.Lexicographic.{bytes_decides}
+use Rattle.std.specs.Cmp.Lexicographic.{nat_list_eq_equiv}
 use Rattle.std.proofs.lemmas.List.{append-nil}
 use Rattle.std.proofs.lemmas.Bool.{or_parts}
 use Rattle.wap_base.specs.Texts.{is_same_text, AreDistinct}
 use Rattle.wap_deckcheck.specs.Faults.{is_taken}
-
-flips : (a b : List ℕ) → is_same_text a b ≡ is_same_text b a
-flips a b =
-    let here : Decides (is_same_text a b) (a ≡ b) = bytes_decides a b in
-    let there : Decides (is_same_text b a) (a ≡ b) =
-    (λ so. sym ((bytes_decides b a).0 so), λ same. (bytes_decides b a).1 (sym same)) in
-    one_answer (is_same_text a b) (is_same_text b a) here there
 
 each_last : (P : List ℕ → Type 0) (texts : List (List ℕ)) (last : List ℕ) → AllByRecursion P texts
     → P last → AllByRecursion P (texts ++ last ∷ [])
@@ -29,7 +21,7 @@ last_apart [] last none distinct = (tt, tt)
 last_apart (text ∷ texts) last none distinct =
     let both = or_parts (is_same_text last text) (list_any (is_same_text last) texts) none in (
       each_last (λ other. is_same_text text other ≡ false) texts last distinct.0
-          (flips text last ∙ both.0),
+          (nat_list_eq_equiv.symm text last ∙ both.0),
       last_apart texts last both.1 distinct.1,
     )
 

@@ -3,6 +3,7 @@ use Rattle.std.proofs.Common.{◌≡◌, ℕ, Bool, false, not, ◌&&◌, ◌||�
 use Rattle.std.proofs.Common.{◌++◌, map, Option, Some, None, refl, sym, ap, ◌∙◌, arith}
 use Rattle.std.specs.Prelude.{is_some, IfSome}
 use Rattle.std.specs.List.{list_any, list_all, filter_map, cons_option}
+use mathlib.Core.Bool.{and-true}
 use Rattle.std.proofs.lemmas.Bool.Decides.{nat_tests}
 use Rattle.std.proofs.lemmas.List.Folds.{list_all-append}
 use Rattle.wap_base.specs.declared.name.Part.{Part}
@@ -14,8 +15,7 @@ use Rattle.wap_tokens.specs.markup.Trees.{node_from, node_of}
 use Rattle.wap_tokens.specs.markup.Good.{Rule, is_among, place_in, is_not_behind}
 use Rattle.wap_tokens.specs.markup.Good.{may_precede, may_follow, tags_of}
 use Rattle.wap_deckcheck.specs.inside.Reached.{HasReached, IsReachedBy}
-use Rattle.wap_deckcheck.proofs.Tests.{and_true, all_and, all_or, all_not}
-use Rattle.wap_deckcheck.proofs.Tests.{all_apart, all_all, all_same}
+use Rattle.wap_deckcheck.proofs.Tests.{all_and, all_or, all_not, all_apart, all_all, all_same}
 
 -- ---- an element after others
 
@@ -114,7 +114,7 @@ reached_node rule items reached next item node has is by place =
     (map (λ node. node.tag) (cons_option (node_from level) []))) is ∙
     ap (λ b.
     list_all (λ first. is_not_behind (place_in rule.groups first) (Some place)) (tags_of items)
-    && b) (and_true (is_not_behind (place_in rule.groups node.tag) (Some place))) ∙
+    && b) (and-true (is_not_behind (place_in rule.groups node.tag) (Some place))) ∙
     ap (λ b. b && is_not_behind (place_in rule.groups node.tag) (Some place)) (has place)
     ∙ sym (by place)
 
@@ -126,7 +126,7 @@ reached_text rule items reached item parts has is place =
     list_all (λ first. is_not_behind (place_in rule.groups first) (Some place)) (tags_of items)
     && list_all (λ first. is_not_behind (place_in rule.groups first) (Some place))
     (map (λ node. node.tag) (cons_option (node_from level) []))) is ∙
-    and_true (list_all (λ first. is_not_behind (place_in rule.groups first) (Some place))
+    and-true (list_all (λ first. is_not_behind (place_in rule.groups first) (Some place))
     (tags_of items)) ∙ has place
 
 pub reached_node_if : (rule : Rule) (items : List Item) (reached : ℕ) (item : Item) (node : Node)

@@ -2,18 +2,11 @@
 use Rattle.std.proofs.Common.{◌≡◌, Bool, true, false, not, ◌&&◌, ◌||◌, List}
 use Rattle.std.proofs.Common.{[], ◌∷◌, refl, sym, ap, ◌∙◌}
 use Rattle.std.specs.List.{list_any, list_all}
-
-pub and_true : (b : Bool) → (b && true) ≡ b
-and_true true = refl
-and_true false = refl
-
-and_false : (b : Bool) → (b && false) ≡ false
-and_false true = refl
-and_false false = refl
+use mathlib.Core.Bool.{and-false}
 
 and_swap : (a b c d : Bool) → ((a && b) && (c && d)) ≡ ((a && c) && (b && d))
 and_swap true true c d = refl
-and_swap true false c d = sym (and_false c)
+and_swap true false c d = sym (and-false c)
 and_swap false b c d = refl
 
 not_or : (a b : Bool) → (not a && not b) ≡ not (a || b)

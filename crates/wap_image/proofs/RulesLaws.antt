@@ -10,7 +10,7 @@ use Rattle.std.specs.Str.{is_utf8, chars}
 use Rattle.std.specs.declared.cmp.Ordering.{Ordering}
 use Rattle.std.specs.Ordering.{is_lt}
 use Rattle.std.specs.declared.cmp.Ordering.TheVariants.{Less}
-use Rattle.std.proofs.lemmas.Bool.{ltb-true, leb-true, lt-ltb}
+use Rattle.std.proofs.lemmas.Bool.{ltb-true, leb-true, lt-ltb, and_parts, and_from}
 use Rattle.std.proofs.lemmas.Map.Keys.{sorted_from_all_adjacent}
 use Rattle.std.proofs.lemmas.Str.{IsUtf8-from_is_utf8, encodes-chars}
 use Rattle.wap_base.specs.Limits.{AreInRange}
@@ -33,12 +33,12 @@ use Rattle.wap_image.specs.Items.{is_not_started, is_entry_count, is_entry_text}
 use Rattle.wap_image.specs.Images.{Saved, IsText, AreLimits, IsTimerOf, IsVariable, AreVariables}
 use Rattle.wap_image.specs.Images.{IsEntry, IsImage}
 use Rattle.wap_image.specs.Rules.{is_short_text, is_short_variable, is_short_entry, MayBeSaved}
-use Rattle.wap_image.proofs.SpellingLaws.{both_true, true_both, after_last}
+use Rattle.wap_image.proofs.SpellingLaws.{after_last}
 
 -- a number that passes stands between two others
 within : (low n high : ℕ) → (nat_le low n && nat_le n high) ≡ true → (low ≤ n) × (n ≤ high)
 within low n high test =
-    let both = both_true (nat_le low n) (nat_le n high) test in
+    let both = and_parts (nat_le low n) (nat_le n high) test in
     (leb-true _ _ both.0, leb-true _ _ both.1)
 
 -- limits may be chosen
@@ -75,7 +75,7 @@ none_started : (limit count : ℕ) (timer : SavedTimer) (entries : List (List �
     → is_entry_count limit timer count ≡ true → length entries ≡ count → entries ≡ []
     → timer ≡ NotStarted
 none_started limit count timer entries test so_many none =
-    let both = both_true (nat_le count limit) (is_not_started timer || nat_lt 0 count) test in
+    let both = and_parts (nat_le count limit) (is_not_started timer || nat_lt 0 count) test in
     let zero_is : count ≡ 0 = sym so_many ∙ ap (λ (l : List (List ℕ × ℕ)). length l) none in
     not_started timer
     (subst (λ (n : ℕ). (is_not_started timer || nat_lt 0 n) ≡ true) zero_is both.1)
@@ -135,7 +135,7 @@ all_named : (before variables : List (List ℕ × List ℕ)) (bytes : List ℕ)
     → k < length (keys_of variables) → is_name (slice_index_or (keys_of variables) k d) ≡ true
 all_named before [] bytes row k d lt = absurd (omega (arith, lt))
 all_named before (variable ∷ variables) bytes row zero d lt =
-    (both_true (is_name variable.0) (is_after before variable.0)
+    (and_parts (is_name variable.0) (is_after before variable.0)
     (name_follows before row.front variable row.first)).0
 all_named before (variable ∷ variables) bytes row (suc k) d lt =
     all_named (before ++ variable ∷ []) variables row.back row.second k d (omega (arith, lt))
@@ -156,7 +156,7 @@ names_short : (before variables : List (List ℕ × List ℕ)) (bytes : List ℕ
     → IsRowAfter IsVariable before bytes variables → list_all is_short_variable variables ≡ true
 names_short before [] bytes row = refl
 names_short before (variable ∷ variables) bytes row =
-    true_both (is_short_variable variable) (list_all is_short_variable variables)
+    and_from (is_short_variable variable) (list_all is_short_variable variables)
     (name_short before row.front variable row.first)
     (names_short (before ++ variable ∷ []) variables row.back row.second)
 
@@ -173,7 +173,7 @@ adjacent before [] bytes row k lt = absurd (omega (arith, lt))
 adjacent before (variable ∷ []) bytes row k lt = absurd (omega (arith, lt))
 adjacent before (variable ∷ next ∷ variables) bytes row zero lt =
     let follows =
-    both_true (is_name next.0) (is_after (before ++ variable ∷ []) next.0)
+    and_parts (is_name next.0) (is_after (before ++ variable ∷ []) next.0)
     (name_follows (before ++ variable ∷ []) row.second.front next row.second.first) in
     less_of (text_cmp variable.0 next.0) (sym (after_last before variable next.0) ∙ follows.1)
 adjacent before (variable ∷ next ∷ variables) bytes row (suc k) lt =
@@ -215,9 +215,9 @@ entries_short before (entry ∷ entries) bytes row =
     let one = row.first.1 in
     let url : List ℕ = row.first.0 in
     let card : ℕ = one.second.0 in
-    true_both (is_short_entry entry) (list_all is_short_entry entries)
+    and_from (is_short_entry entry) (list_all is_short_entry entries)
     (subst (λ (e : List ℕ × ℕ). is_short_entry e ≡ true) (sym one.second.2)
-    (true_both (is_short_text url) (nat_lt card (2 ^ 32)) (text_short one.front url one.first.0)
+    (and_from (is_short_text url) (nat_lt card (2 ^ 32)) (text_short one.front url one.first.0)
     (lt-ltb card _ one.second.1.fits)))
     (entries_short (before ++ entry ∷ []) entries row.back row.second)
 
@@ -239,7 +239,7 @@ parts_are bytes saved is =
     let entries = history.1 in
     let row = entries.1.second.0 in
     let variables = vars.1.first.1.second.0 in
-    let count = both_true (nat_le entries.0 limits.0.history)
+    let count = and_parts (nat_le entries.0 limits.0.history)
     (is_not_started timer.0 || nat_lt 0 entries.0) entries.1.first.1 in
     subst (λ (s : Saved). MayBeSaved s.0 s.1) (sym history.2) (record {
       rules = record {
@@ -257,7 +257,7 @@ parts_are bytes saved is =
       turns = ltb-true _ _ budget.1.first.1;
       drawn = drawn.1.first.1;
       short =
-          true_both (list_all is_short_variable vars.0) (list_all is_short_entry history.0)
+          and_from (list_all is_short_variable vars.0) (list_all is_short_entry history.0)
           (names_short [] vars.0 vars.1.first.1.back variables)
           (entries_short [] history.0 entries.1.back row);
     })

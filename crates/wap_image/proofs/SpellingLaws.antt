@@ -1,5 +1,5 @@
 -- What is written for the parts of a context is their image, and can be written.
-use Rattle.std.proofs.Common.{◌≡◌, ℕ, suc, ◌<◌, ◌≤◌, ◌^◌, Bool, true, false, List, []}
+use Rattle.std.proofs.Common.{◌≡◌, ℕ, suc, ◌<◌, ◌≤◌, ◌^◌, true, false, List, []}
 use Rattle.std.proofs.Common.{◌∷◌, ◌++◌, length, Result, Ok, Err, refl, sym, ap, subst, ◌∙◌, arith}
 use Rattle.std.specs.Prelude.{IfOk, ⊤, ◌&&◌, ◌||◌, encode_utf8_all, nat_le, nat_lt}
 use Rattle.std.specs.Int.{w64, to_be_bytes}
@@ -9,7 +9,7 @@ use Rattle.std.specs.Map.{keys_of, values_of}
 use Rattle.std.specs.Str.{all_scalars}
 use Rattle.std.specs.Ordering.{is_lt}
 use Rattle.std.specs.declared.cmp.Ordering.TheVariants.{Less}
-use Rattle.std.proofs.lemmas.Bool.{ltb-true, lt-ltb, le-leb}
+use Rattle.std.proofs.lemmas.Bool.{ltb-true, lt-ltb, le-leb, and_parts, and_from}
 use Rattle.std.proofs.lemmas.Nat.{from_be_bytes-to_be_bytes_8}
 use Rattle.std.proofs.lemmas.Str.{chars-encodes}
 use Rattle.wap_base.specs.Names.{is_name}
@@ -45,19 +45,10 @@ use Rattle.wap_image.specs.inside.Fitting.{OfVariable, OfEntry}
 
 -- ---- tests
 
--- both of two tests are passed
-pub both_true : (a b : Bool) → (a && b) ≡ true → (a ≡ true) × (b ≡ true)
-both_true true b e = (refl, e)
-both_true false b e = absurd (cc e)
-
--- two tests that are passed
-pub true_both : (a b : Bool) → a ≡ true → b ≡ true → (a && b) ≡ true
-true_both a b one two = ap (λ (t : Bool). t && b) one ∙ two
-
 -- a number between two others
 between : (low n high : ℕ) → low ≤ n → n ≤ high → (nat_le low n && nat_le n high) ≡ true
 between low n high one two =
-    true_both (nat_le low n) (nat_le n high) (le-leb low n one) (le-leb n high two)
+    and_from (nat_le low n) (nat_le n high) (le-leb low n one) (le-leb n high two)
 
 -- ---- numbers and texts
 
@@ -169,11 +160,11 @@ unfolding IsStrictlySortedBy
 all_follow before [] after sorted named short fits texts = tt
 all_follow before (variable ∷ variables) after sorted named short fits texts =
     let split =
-    both_true (is_short_variable variable) (list_all is_short_variable variables) fits in
+    and_parts (is_short_variable variable) (list_all is_short_variable variables) fits in
     let value : utf8_len variable.1 ≤ TEXT_LIMIT = short 0 [] (omega arith) in (
       record {
         name =
-            true_both (is_name variable.0) (is_after before variable.0) (named 0 [] (omega arith))
+            and_from (is_name variable.0) (is_after before variable.0) (named 0 [] (omega arith))
             after.0;
         fits = short_fits variable.0 split.0;
         short =
@@ -218,8 +209,8 @@ list_is : (before entries : List (List ℕ × ℕ))
     → IsRowAfter (λ before. IsEntry) before (flat_map entry_spelling entries) entries
 list_is before [] urls fits texts = refl
 list_is before (entry ∷ entries) urls fits texts =
-    let split = both_true (is_short_entry entry) (list_all is_short_entry entries) fits in
-    let one = both_true (is_short_text entry.0) (nat_lt entry.1 (2 ^ 32)) split.0 in
+    let split = and_parts (is_short_entry entry) (list_all is_short_entry entries) fits in
+    let one = and_parts (is_short_text entry.0) (nat_lt entry.1 (2 ^ 32)) split.0 in
     both (entry_spelling entry) _ (then_is entry.0 (text_spelling entry.0) _
     (text_is IsMb entry.0 (number_is _ (short_fits entry.0 one.0)) texts.0, urls.0)
     (entry.1, number_is entry.1 (ltb-true _ _ one.1), refl))
@@ -242,7 +233,7 @@ entries_are : (parts : ContextParts) → AreParts parts
 entries_are parts are fits texts =
     then_is (length parts.history) (length parts.history ∷ []) _ (
       refl,
-      true_both (nat_le (length parts.history) parts.limits.history)
+      and_from (nat_le (length parts.history) parts.limits.history)
           (is_not_started parts.timer || nat_lt 0 (length parts.history)) (le-leb _ _ are.few)
           (some_started parts.timer parts.history are.started),
     ) (list_is [] parts.history are.urls fits texts, refl)
@@ -277,7 +268,7 @@ pub image_is : (parts : ContextParts) (budget : ℕ) → AreParts parts → 0 < 
 unfolding spelling IsImage
 image_is parts budget are turns drawn short known =
     let split =
-    both_true (list_all is_short_variable parts.vars) (list_all is_short_entry parts.history) short
+    and_parts (list_all is_short_variable parts.vars) (list_all is_short_entry parts.history) short
     in
     then_is head head _ ((refl, refl), refl)
     (then_is parts.seed (mb_spelling parts.seed) _ (number_is parts.seed known.seed)
@@ -309,8 +300,8 @@ entries_fit : (entries : List (List ℕ × ℕ)) → list_all is_short_entry ent
     → AllByRecursion FitsEntry entries
 entries_fit [] fits = tt
 entries_fit (entry ∷ entries) fits =
-    let split = both_true (is_short_entry entry) (list_all is_short_entry entries) fits in
-    let one = both_true (is_short_text entry.0) (nat_lt entry.1 (2 ^ 32)) split.0 in (
+    let split = and_parts (is_short_entry entry) (list_all is_short_entry entries) fits in
+    let one = and_parts (is_short_text entry.0) (nat_lt entry.1 (2 ^ 32)) split.0 in (
       record { url = short_fits entry.0 one.0; card = ltb-true _ _ one.1 },
       entries_fit entries split.1,
     )
@@ -320,7 +311,7 @@ pub parts_fit : (parts : ContextParts) → AreParts parts → are_short parts �
     → AllByRecursion OfVariable parts.vars → FitsParts parts
 parts_fit parts are short texts =
     let split =
-    both_true (list_all is_short_variable parts.vars) (list_all is_short_entry parts.history) short
+    and_parts (list_all is_short_variable parts.vars) (list_all is_short_entry parts.history) short
     in
     let few_vars : length parts.vars ≤ 1024 = are.vars.few in
     let few = are.few in

@@ -5,7 +5,7 @@ use Rattle.std.proofs.Common.{Err, refl, sym, ap, subst, ◌∙◌, inl, inr, eq
 use Rattle.std.specs.Prelude.{not, find, nat_lt}
 use Rattle.std.specs.List.{list_all, position_or_len, after_first}
 use Rattle.std.specs.Str.{IsUtf8, is_utf8}
-use Rattle.std.proofs.lemmas.Bool.{lt-ltb, le-ltb, cases_lt}
+use Rattle.std.proofs.lemmas.Bool.{lt-ltb, le-ltb, cases_lt, not-true, both_ways}
 use Rattle.std.proofs.lemmas.List.{length-append, length-take, get_or-take, take_all}
 use Rattle.std.proofs.lemmas.List.{get_or_append_left, take-append-le}
 use Rattle.std.proofs.lemmas.List.Sums.{split_at_first, position_or_len_is}
@@ -40,12 +40,8 @@ use Rattle.wap_keys.proofs.KeyLaws.{long_key, bad_text, good_text}
 no_space_at : (prefix : List ℕ) (k : ℕ) → HasNoSpace prefix → k < length prefix
     → is_space (get_or prefix k 0) ≡ false
 no_space_at prefix k none within =
-    not_true (is_space (get_or prefix k 0))
+    not-true (is_space (get_or prefix k 0))
     (AllPass-from_list_all (λ (c : ℕ). not (is_space c)) prefix none k 0 within)
-  where
-    not_true : (b : Bool) → not b ≡ true → b ≡ false
-    not_true true e = absurd cc
-    not_true false e = refl
 
 first_space : (prefix rest : List ℕ) → HasNoSpace prefix
     → position_or_len is_space (prefix ++ 32 ∷ rest) ≡ length prefix
@@ -440,6 +436,10 @@ judged_word line (Some w) found is_text =
     judged_form line w (key_by (form_of w) (rest_of line)) is_text (split_is line (name_of w)
     (name_is (prefix_of line) w found)) (form_said (form_of w) (rest_of line))
 
+-- bytes that a test finds are no text are none
+pub not_utf8 : (bytes : List ℕ) → is_utf8 bytes ≡ false → IsUtf8 bytes → ⊥
+not_utf8 bytes none text = both_ways (is_utf8 bytes) none (is_utf8-from_IsUtf8 bytes text)
+
 judged_text : (line : List ℕ) (b : Bool) → is_utf8 line ≡ b → length line ≤ LINE_LIMIT
     → Judged line (key_at line)
 judged_text line true good short =
@@ -447,12 +447,8 @@ judged_text line true good short =
     subst (Judged line) (sym (good_text line short is_text.1))
     (judged_word line (word_named (prefix_of line)) refl is_text)
 judged_text line false none_is short =
-    let none : IsUtf8 line → ⊥ =
-    λ utf8. not_both (is_utf8 line) (is_utf8-from_IsUtf8 line utf8) none_is in
+    let none = not_utf8 line none_is in
     subst (Judged line) (sym (bad_text line short none)) (short, none)
-  where
-    not_both : (b : Bool) → b ≡ true → b ≡ false → ⊥
-    not_both b is other = cc
 
 judged_by : (line : List ℕ) → (LINE_LIMIT < length line) ⊎ (length line ≤ LINE_LIMIT)
     → Judged line (key_at line)

@@ -20,6 +20,7 @@ use Rattle.wap_keys.specs.Spelling.{spaced, HasNoSpace}
 use Rattle.wap_keys.specs.inside.Wording.{IsTextOrNone, IsRestText, key_of_rest, unknown_fault}
 use Rattle.wap_keys.proofs.KeyLaws.{bad_text, good_text, no_text}
 use Rattle.wap_keys.proofs.SpellLaws.{prefix_spaced, name_is, word_reads, names, are_low}
+use Rattle.wap_keys.proofs.SpellLaws.{not_utf8}
 
 low_text : (bytes rest : List ℕ) → are_low bytes ≡ true → IsUtf8 rest → IsUtf8 (bytes ++ rest)
 low_text [] rest low text = text
@@ -48,11 +49,6 @@ then_text w rest text =
 rest_text : (w : Word) (rest : List ℕ) → IsUtf8 (name_of w ++ 32 ∷ rest) → IsUtf8 rest
 rest_text w rest text =
     past_low (32 ∷ []) rest refl (past_low (name_of w) (32 ∷ rest) (names w).2 text)
-
-not_utf8 : (bytes : List ℕ) → is_utf8 bytes ≡ false → IsUtf8 bytes → ⊥
-not_utf8 bytes none text = not_both (is_utf8 bytes) (is_utf8-from_IsUtf8 bytes text) none where
-  not_both : (b : Bool) → b ≡ true → b ≡ false → ⊥
-  not_both b is other = cc
 
 rest_key : (line : List ℕ) (w : Word) (rest : List ℕ) (b : Bool) → is_utf8 rest ≡ b
     → length line ≤ LINE_LIMIT

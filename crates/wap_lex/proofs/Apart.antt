@@ -23,7 +23,7 @@ use Rattle.wap_lex.specs.Comments.{IsComment, line, block, is_nothing}
 use Rattle.wap_lex.specs.Marks.{marks, is_mark}
 use Rattle.wap_lex.specs.Tokens.{IsShape}
 use Rattle.wap_lex.specs.ByFirst.{first_of}
-use Rattle.wap_lex.proofs.NumberReach.{exponent_first}
+use Rattle.wap_lex.proofs.NumberReach.{exponent_first, digit_no_e}
 use Rattle.wap_lex.proofs.CommentReach.{any_all}
 
 abbrev pub begins_x : List ℕ → Bool
@@ -194,9 +194,6 @@ float_at_point (d ∷ whole) rest all some =
     let parts = and_parts (is_ascii_digit d) (list_all is_ascii_digit whole) all in
     float_behind_digit d whole 46 rest parts.0 parts.1 refl refl
 
-e_no_digit : (c : ℕ) → is_e c ≡ true → is_ascii_digit c ≡ false
-e_no_digit c e = grind (arith, nat_tests)
-
 e_no_x : (c : ℕ) → is_e c ≡ true → is_x c ≡ false
 e_no_x c e = grind (arith, nat_tests)
 
@@ -205,7 +202,7 @@ float_at_e : (whole : List ℕ) (e : ℕ) (rest : List ℕ) → AreDigits whole 
 float_at_e [] e rest all some is = absurd (omega arith)
 float_at_e (d ∷ whole) e rest all some is =
     let parts = and_parts (is_ascii_digit d) (list_all is_ascii_digit whole) all in
-    float_behind_digit d whole e rest parts.0 parts.1 (e_no_digit e is) (e_no_x e is)
+    float_behind_digit d whole e rest parts.0 parts.1 (digit_no_e e is) (e_no_x e is)
 
 float_apart : (text : List ℕ) → IsFloat text → shape_of text ≡ shape.Float
 float_apart text (pointed whole fraction all parts some) = float_at_point whole fraction all some

@@ -169,9 +169,6 @@ abbrev is_descending : List (List ℕ) → Bool
 is_descending [] = true
 is_descending (mark ∷ others) = are_no_longer (length mark) others && is_descending others
 
-same_is : (a b : List ℕ) → is_same_text a b ≡ true → a ≡ b
-same_is a b e = (bytes_decides a b).0 e
-
 -- what holds of all texts holds of each
 pub any_all : (p : List ℕ → Bool) (text : List ℕ) (texts : List (List ℕ))
     → list_any (is_same_text text) texts ≡ true → list_all p texts ≡ true → p text ≡ true
@@ -179,7 +176,7 @@ any_all p text [] one all = absurd cc
 any_all p text (first ∷ texts) one all =
     let parts = and_parts (p first) (list_all p texts) all in
     elim (or_cases (is_same_text text first) (list_any (is_same_text text) texts) one) [
-      | inl same ↦ ap p (same_is text first same) ∙ parts.0
+      | inl same ↦ ap p ((bytes_decides text first).0 same) ∙ parts.0
       | inr others ↦ any_all p text texts others parts.1
     ]
 
@@ -198,7 +195,7 @@ first_takes (mark ∷ others) bytes some =
       one_takes mark others bytes true e some inner =
           let len =
           cond-true (starts_with nat_eq bytes mark) (length mark) (first_len others bytes) e in
-          let same = same_is mark (take (length mark) bytes) e in
+          let same = (bytes_decides mark (take (length mark) bytes)).0 e in
           ap (λ (n : ℕ). list_any (is_same_text (take n bytes)) (mark ∷ others)) len
           ∙ ap (λ (l : List ℕ). list_any (is_same_text l) (mark ∷ others)) (sym same)
           ∙ or_left (is_same_text mark mark) (list_any (is_same_text mark) others)
@@ -231,7 +228,7 @@ first_most (mark ∷ others) text more down one =
           cond-true (starts_with nat_eq (text ++ more) mark) (length mark)
           (first_len others (text ++ more)) e in
           elim (or_cases (is_same_text text mark) (list_any (is_same_text text) others) one) [
-            | inl same ↦ omega (arith, len, ap length (same_is text mark same))
+            | inl same ↦ omega (arith, len, ap length ((bytes_decides text mark).0 same))
             | inr later ↦ omega (
               arith,
               len,
@@ -246,7 +243,7 @@ first_most (mark ∷ others) text more down one =
           elim (or_cases (is_same_text text mark) (list_any (is_same_text text) others) one) [
             | inl same ↦ absurd (both_ways (starts_with nat_eq (text ++ more) mark) e
                 (ap (λ (m : List ℕ). starts_with nat_eq (text ++ more) m)
-                (sym (same_is text mark same))
+                (sym ((bytes_decides text mark).0 same))
                 ∙ ap (pointwise nat_eq text) (take_at text more (length text) refl)
                 ∙ (bytes_decides text text).1 refl))
             | inr later ↦ omega (arith, len, inner later)
@@ -266,7 +263,7 @@ first_within (mark ∷ others) bytes =
           omega (
             arith,
             len,
-            ap length (same_is mark (take (length mark) bytes) e),
+            ap length ((bytes_decides mark (take (length mark) bytes)).0 e),
             length-take (length mark) bytes,
           )
       one_within mark others bytes false e inner = omega (

@@ -215,7 +215,8 @@ exponent_takes (e ∷ rest) some =
           by_sign c rest' (is_sign c) refl some'
           (kept_len (is_e e) (more_by 1 (signed_len rest)) some).0
 
-digit_no_e : (c : ℕ) → is_e c ≡ true → is_ascii_digit c ≡ false
+-- an exponent doesn't begin with a digit
+pub digit_no_e : (c : ℕ) → is_e c ≡ true → is_ascii_digit c ≡ false
 digit_no_e c e = grind (arith, nat_tests)
 
 digit_no_sign : (c : ℕ) → is_ascii_digit c ≡ true → is_sign c ≡ false

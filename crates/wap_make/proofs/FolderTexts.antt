@@ -1,30 +1,8 @@
 -- Texts of US-ASCII that a made folder has: their characters are their bytes.
-use Rattle.std.proofs.Common.{◌≡◌, ℕ, zero, suc, ◌<◌, List, [], ◌∷◌, Bool, true, nat_lt, refl}
-use Rattle.std.proofs.Common.{arith, append_assoc}
+use Rattle.std.proofs.Common.{◌≡◌, refl, append_assoc}
 use Rattle.std.specs.Prelude.{codes}
-use Rattle.std.specs.List.{list_all}
-use Rattle.std.specs.Str.{IsAscii, chars}
-use Rattle.std.proofs.lemmas.Bool.{and_parts}
-use Rattle.std.proofs.lemmas.Bool.Decides.{Decides-ltb}
-use Rattle.std.proofs.lemmas.Str.{chars-IsAscii}
-
--- ---- texts of characters below 128
-
-abbrev is_plain : List ℕ → Bool
-is_plain text = list_all (λ c. nat_lt c 128) text
-
-below : (c : ℕ) → nat_lt c 128 ≡ true → c < 128
-below c so = (Decides-ltb c 128).0 so
-
-ascii : (text : List ℕ) → is_plain text ≡ true → IsAscii text
-ascii [] plain i = omega arith
-ascii (c ∷ cs) plain zero = below c (and_parts (nat_lt c 128) (is_plain cs) plain).0
-ascii (c ∷ cs) plain (suc i) = ascii cs (and_parts (nat_lt c 128) (is_plain cs) plain).1 i
-
-chars-plain : (text : List ℕ) → is_plain text ≡ true → chars text ≡ text
-chars-plain text plain = chars-IsAscii text (ascii text plain)
-
--- ---- one by one
+use Rattle.std.specs.Str.{chars}
+use Rattle.wap_tokens.proofs.Plain.{chars-plain}
 
 -- (each is used where its text is appended)
 pub word_folder : chars (codes "g/") ≡ codes "g/"

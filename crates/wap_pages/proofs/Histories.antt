@@ -8,6 +8,7 @@ use Rattle.std.proofs.lemmas.List.Elements.{All-contains_itself}
 use Rattle.std.proofs.lemmas.Map.{NonePasses, none_passes_from_lookup}
 use Rattle.std.proofs.lemmas.Map.Keys.{IsDistinct-cons}
 use Rattle.std.specs.List.Sorted.{IsPermutation}
+use Rattle.std.specs.Cmp.Lexicographic.{nat_list_eq_equiv}
 use Rattle.wap_base.specs.Contents.{Contents, names_of, page_named}
 use Rattle.wap_base.specs.Texts.{is_same_text, AreDistinct}
 use Rattle.wap_base.proofs.Choices.{chosen, some_same}
@@ -16,7 +17,7 @@ use Rattle.wap_devices.specs.Stores.{Answers, Held, Told, Agrees}
 use Rattle.wap_devices.specs.declared.store.Fetched.{Fetched}
 use Rattle.wap_devices.specs.declared.store.Fetched.TheVariants.{Found, Missing}
 use Rattle.wap_pages.specs.Histories.{AnswersOneWay}
-use Rattle.wap_pages.proofs.Keeping.{same_text, text_same, turned}
+use Rattle.wap_pages.proofs.Keeping.{same_text}
 
 -- pages with one more, unless they have one of its name
 abbrev with_page : List ℕ × List ℕ → Option (List ℕ) → Contents → Contents
@@ -38,7 +39,8 @@ found (one ∷ answers) = with_answer one.0 one.1 (found answers)
 apart : (name : List ℕ) (pages : Contents) → NonePasses (λ other. is_same_text other name) pages
     → AllByRecursion (λ other. is_same_text name other ≡ false) (names_of pages)
 apart name [] none = tt
-apart name (page ∷ pages) none = (turned name page.0 ∙ none.0, apart name pages none.1)
+apart name (page ∷ pages) none =
+    (nat_list_eq_equiv.symm name page.0 ∙ none.0, apart name pages none.1)
 
 distinct_page : (page : List ℕ × List ℕ) (pages : Contents) (there : Option (List ℕ))
     → page_named page.0 pages ≡ there → AreDistinct (names_of pages)
@@ -70,7 +72,7 @@ IsOf pages one = one.1 ≡ answer_for one.0 pages
 -- the first page is that of its name
 first_page : (page : List ℕ × List ℕ) (pages : Contents)
     → page_named page.0 (page ∷ pages) ≡ Some page.1
-first_page page pages = rw (text_same page.0) refl
+first_page page pages = rw (nat_list_eq_equiv.refl page.0) refl
 
 -- of answers, some fact holds of which each name has one answer
 module _ (P : List ℕ × Fetched → Type 0)

@@ -612,7 +612,8 @@ names_judged [] = refl
 names_judged (entry ∷ contents) =
     ap (λ (names : List (List ℕ)). entry.0 ∷ names) (names_judged contents)
 
-judged_there : (contents : Contents)
+-- no judged page is missing
+pub judged_there : (contents : Contents)
     → All (λ (one : List ℕ × Page). IsThere one.1) (judged contents)
 judged_there [] = All-nil (λ (one : List ℕ × Page). IsThere one.1)
 judged_there (entry ∷ contents) =

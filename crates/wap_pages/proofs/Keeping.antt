@@ -5,7 +5,7 @@ use Rattle.std.proofs.Common.{None, refl, sym, ap, subst, ◌∙◌, arith}
 use Rattle.std.specs.Prelude.{◌||◌, filter}
 use Rattle.std.specs.List.{list_any, AllByRecursion, IsDistinct}
 use Rattle.std.specs.Map.{keys_of, lookup, lookup_entry, remove_entry}
-use Rattle.std.specs.Cmp.Lexicographic.{bytes_decides}
+use Rattle.std.specs.Cmp.Lexicographic.{bytes_decides, nat_list_eq_equiv}
 use Rattle.std.proofs.lemmas.Bool.{cases_Bool, or_parts}
 use Rattle.std.proofs.lemmas.Map.Entries.{length-keys_of}
 use Rattle.lru.specs.LruCache.{lru_cache, promoted, put_entries}
@@ -24,30 +24,9 @@ Entries = List (List ℕ × Page)
 abbrev others : List ℕ → List (List ℕ) → List (List ℕ)
 others name names = filter (λ other. not (is_same_text other name)) names
 
+-- texts that are found the same are one
 pub same_text : (a b : List ℕ) → is_same_text a b ≡ true → a ≡ b
 same_text a b = (bytes_decides a b).0
-
-pub text_same : (a : List ℕ) → is_same_text a a ≡ true
-text_same a = (bytes_decides a a).1 refl
-
-flipped : (a b : List ℕ) (x y : Bool) → is_same_text a b ≡ x → is_same_text b a ≡ y → x ≡ y
-flipped a b true true left right = refl
-flipped a b false false left right = refl
-flipped a b true false left right =
-    absurd (differ
-    (sym (ap (λ (t : List ℕ). is_same_text t a) (sym (same_text a b left)) ∙ text_same a) ∙ right))
-  where
-    differ : true ≡ false → ⊥
-    differ e = cc
-flipped a b false true left right =
-    absurd (differ
-    (sym left ∙ ap (λ (t : List ℕ). is_same_text t b) (sym (same_text b a right)) ∙ text_same b))
-  where
-    differ : false ≡ true → ⊥
-    differ e = cc
-
-pub turned : (a b : List ℕ) → is_same_text a b ≡ is_same_text b a
-turned a b = flipped a b (is_same_text a b) (is_same_text b a) refl refl
 
 -- ---- names that are kept later
 
@@ -154,7 +133,7 @@ without_none : (name : List ℕ) (names : List (List ℕ)) → list_any (is_same
 without_none name [] none = refl
 without_none name (first ∷ names) none =
     let parts = or_parts (is_same_text name first) (list_any (is_same_text name) names) none in
-    let other : is_same_text first name ≡ false = turned first name ∙ parts.0 in
+    let other : is_same_text first name ≡ false = nat_list_eq_equiv.symm first name ∙ parts.0 in
     rw other (ap (λ (l : List (List ℕ)). first ∷ l) (without_none name names parts.1))
 
 -- none of names that differ from the first one is it
@@ -171,13 +150,13 @@ unfolding IsDistinct
 without_found name [] page distinct is = absurd cc
 without_found name (e ∷ es) page distinct is = elim (cases_Bool (is_same_text name e.0)) [
   | inl same ↦
-      let flip : is_same_text e.0 name ≡ true = turned e.0 name ∙ same in
+      let flip : is_same_text e.0 name ≡ true = nat_list_eq_equiv.symm e.0 name ∙ same in
       let apart =
       subst (λ (t : List ℕ). AllByRecursion (λ other. is_same_text t other ≡ false) (keys_of es))
       (sym (same_text name e.0 same)) distinct.0 in
       rw same (rw flip (sym (without_none name (keys_of es) (none_again name (keys_of es) apart))))
   | inr differs ↦
-      let flip : is_same_text e.0 name ≡ false = turned e.0 name ∙ differs in
+      let flip : is_same_text e.0 name ≡ false = nat_list_eq_equiv.symm e.0 name ∙ differs in
       rw differs (rw flip (ap (λ (l : List (List ℕ)). e.0 ∷ l)
       (without_found name es page distinct.1 (rw differs at is))))
 ]
@@ -276,7 +255,7 @@ apart : (name : List ℕ) (names : List (List ℕ))
 apart name [] = tt
 apart name (first ∷ names) = elim (cases_Bool (is_same_text first name)) [
   | inl same ↦ rw same (apart name names)
-  | inr differs ↦ rw differs (turned name first ∙ differs, apart name names)
+  | inr differs ↦ rw differs (nat_list_eq_equiv.symm name first ∙ differs, apart name names)
 ]
 
 distinct-asking : (name : List ℕ) (names : List (List ℕ)) (n : ℕ) → AreDistinct names

@@ -5,5 +5,5 @@ pub mod Judgements
 mod Keeping
 mod Histories
 mod Seeing
-mod Fetching
+pub mod Fetching
 mod Looking

@@ -8,7 +8,7 @@ use Rattle.std.specs.BTreeMap.{is_at, insert_entry}
 use Rattle.std.specs.Map.{lookup, keys_of, values_of}
 use Rattle.std.specs.Cmp.Lexicographic.{texts_ties, bytes_decides, nat_list_eq_equiv}
 use Rattle.std.proofs.lemmas.Bool.{ltb-true, ltb-false, le-leb, lt-leb}
-use Rattle.wap_base.specs.Texts.{is_same_text, text_cmp}
+use Rattle.wap_base.specs.Texts.{text_cmp}
 use Rattle.wap_push.specs.declared.indication.Indication.{Indication}
 use Rattle.wap_push.specs.Inbox.{is_of, winner_of, HaveWinners, alerts, IsAlert}
 use Rattle.wap_push.specs.inside.Keyed.{Entry, IsUnder, AreKeyed, loses}
@@ -103,9 +103,6 @@ won_at pushes winners new more id true is have not_lost put =
 won_at pushes winners new more id false is have not_lost put =
     put ∙ have.each id ∙ sym (winner_elsewhere pushes more id is)
 
-turned : (a b : List ℕ) → is_same_text a b ≡ is_same_text b a
-turned a b = nat_list_eq_equiv.symm a b
-
 -- the entries after one more push have the winners
 pub won : (pushes : List Indication) (entries new : List Entry) (more : Indication)
     → HaveWinners pushes (values_of entries) → AllByRecursion IsUnder entries
@@ -120,7 +117,7 @@ won pushes entries new more have keyed new_keyed ordered not_lost put = record {
       won_at pushes (values_of entries) (values_of new) more id (is_of id more) refl have not_lost
       (sym (found_by_id id new new_keyed) ∙ put id
       ∙ ap (λ (b : Bool). cond b (Some more) (lookup (is_at (text_cmp id)) entries))
-      (sym (texts_ties more.id id) ∙ turned more.id id)
+      (sym (texts_ties more.id id) ∙ nat_list_eq_equiv.symm more.id id)
       ∙ ap (λ (found : Option Indication). cond (is_of id more) (Some more) found)
       (found_by_id id entries keyed));
 }

@@ -1,13 +1,12 @@
 -- The texts of the tables are of US-ASCII, so their bytes are their characters.
-use Rattle.std.proofs.Common.{◌≡◌, ℕ, Bool, true, false, cond, List, [], ◌∷◌, Option, Some, None}
-use Rattle.std.proofs.Common.{refl}
+use Rattle.std.proofs.Common.{◌≡◌, ℕ, Bool, true, List, [], ◌∷◌, Option, Some, None, refl}
 use Rattle.std.specs.Prelude.{IfSome}
 use Rattle.std.specs.Borrow.{Bor}
 use Rattle.std.specs.List.{list_all}
 use Rattle.std.specs.Map.{lookup}
 use Rattle.std.specs.Option.{option_map}
 use Rattle.std.specs.Str.{chars}
-use Rattle.std.proofs.lemmas.Bool.{and_parts}
+use Rattle.std.proofs.lemmas.Bool.{and_parts, cond_both}
 use Rattle.wap_tokens.proofs.Plain.{is_plain, chars-plain}
 use Rattle.wap_push.specs.declared.names.PushField.{PushField}
 use Rattle.wap_push.specs.Tables.{Start, start_rows, value_rows}
@@ -21,12 +20,6 @@ texts_plain : list_all (λ row. is_plain row.1) value_rows ≡ true
 unfolding value_rows
 texts_plain = refl
 
--- what is true of a value that a test takes, is true of it
-if_chosen : {X : Type 0} (P : X → Type 0) (b : Bool) (x : X) (rest : Option X) → P x → IfSome rest P
-    → IfSome (cond b (Some x) rest) P
-if_chosen P true x rest p q = p
-if_chosen P false x rest p q = q
-
 -- what is true of all values of a table is true of the one that is found
 found : {X : Type 0} (P : X → Type 0) (is : X → Bool) (test : ℕ → Bool) (rows : List (ℕ × X))
     → ((x : X) → is x ≡ true → P x) → list_all (λ row. is row.1) rows ≡ true
@@ -34,7 +27,8 @@ found : {X : Type 0} (P : X → Type 0) (is : X → Bool) (test : ℕ → Bool) 
 found P is test [] each all = tt
 found P is test (e ∷ es) each all =
     let parts = and_parts (is e.1) (list_all (λ row. is row.1) es) all in
-    if_chosen P (test e.0) e.1 (lookup test es) (each e.1 parts.0) (found P is test es each parts.1)
+    cond_both (test e.0) (Some e.1) (lookup test es) (λ o. IfSome o P) (λ _. each e.1 parts.0)
+    (λ _. found P is test es each parts.1)
 
 -- the text of a start that is found
 pub chars-start : (test : ℕ → Bool) → IfSome (lookup test start_rows) (λ s. chars s.1 ≡ s.1)

@@ -2,6 +2,7 @@
 use Rattle.std.proofs.Common.{◌≡◌, ℕ, ◌<◌, ◌≤◌, Bool, true, false, List, [], ◌∷◌, length, Option}
 use Rattle.std.proofs.Common.{Some, None, nat_le, refl, arith}
 use Rattle.std.specs.Option.{is_some, IsSome}
+use Rattle.std.proofs.lemmas.Bool.{true_from_ne_false as holds, false_from_ne_true as fails}
 use Rattle.std.proofs.lemmas.Bool.Decides.{nat_tests}
 use Rattle.wap_unit.specs.Libraries.{lib_named}
 use Rattle.wap_grammar.specs.declared.program.program.Span.{Span}
@@ -56,14 +57,6 @@ pub record InOrder (p : Program) : Type 0 where
       length before < FUNCTION_LIMIT
 
 -- ---- what isn't wrong
-
-holds : (b : Bool) → (b ≡ false → ⊥) → b ≡ true
-holds true never = refl
-holds false never = absurd (never refl)
-
-fails : (b : Bool) → (b ≡ true → ⊥) → b ≡ false
-fails true never = absurd (never refl)
-fails false never = refl
 
 none_there : {X : Type 0} (o : Option X) → (IsSome o → ⊥) → o ≡ None
 none_there None never = refl

@@ -3,6 +3,7 @@ use Rattle.std.proofs.Common.{◌≡◌, ◌≢◌, ℕ, ◌≤◌, ◌⊎◌, i
 use Rattle.std.proofs.Common.{List, [], ◌∷◌, ◌++◌, length, Option, Some, None, Contains}
 use Rattle.std.proofs.Common.{refl, sym, ap, subst, ◌∙◌, append_assoc, arith}
 use Rattle.std.specs.Option.{is_some, option_map}
+use Rattle.std.proofs.lemmas.Bool.{not-true}
 use Rattle.std.proofs.lemmas.Bool.Decides.{nat_tests}
 use Rattle.std.proofs.lemmas.List.{append-nil}
 use Rattle.std.proofs.lemmas.List.Elements.{Contains-append_left, Contains-append_right}
@@ -92,10 +93,6 @@ module _ {X : Type 0} (rule : List X → X → List ScopeFault) (f : ScopeFault)
 some_mapped : {X Y : Type 0} (f : X → Y) (o : Option X) → is_some (option_map f o) ≡ is_some o
 some_mapped f None = refl
 some_mapped f (Some x) = refl
-
-is_not : (b : Bool) → not b ≡ true → b ≡ false
-is_not true is = absurd (cc is)
-is_not false is = refl
 
 so_many : (limit count : ℕ) → limit ≤ count → nat_le limit count ≡ true
 so_many limit count is = grind (arith, nat_tests)
@@ -215,18 +212,18 @@ module _ (p : Program) where
   of_mention : (before : List Mention) (here : Mention) (f : ScopeFault) → Says p before here →
       Contains (at_mention before here) f → IsFault p f
   of_mention before (Refers (Variable v)) f says =
-      one _ _ f (λ so. wrong.no_variable before v says (is_not _ so))
+      one _ _ f (λ so. wrong.no_variable before v says (not-true _ so))
   of_mention before (Refers (Local g count)) f says =
       both _ _ _ _ f
       (λ so. wrong.no_function before g count says
-      (sym (some_mapped _ (function_named g.name p.functions)) ∙ is_not _ so))
-      (λ so. wrong.arguments before (Local g count) says (is_not _ so))
+      (sym (some_mapped _ (function_named g.name p.functions)) ∙ not-true _ so))
+      (λ so. wrong.arguments before (Local g count) says (not-true _ so))
   of_mention before (Refers (External unit g count)) f says =
-      both _ _ _ _ f (λ so. wrong.no_unit before unit g count says (is_not _ so))
-      (λ so. wrong.arguments before (External unit g count) says (is_not _ so))
+      both _ _ _ _ f (λ so. wrong.no_unit before unit g count says (not-true _ so))
+      (λ so. wrong.arguments before (External unit g count) says (not-true _ so))
   of_mention before (Refers (Library l g count)) f says =
-      both _ _ _ _ f (λ so. wrong.no_library before l g count says (is_not _ so))
-      (λ so. wrong.arguments before (Library l g count) says (is_not _ so))
+      both _ _ _ _ f (λ so. wrong.no_library before l g count says (not-true _ so))
+      (λ so. wrong.arguments before (Library l g count) says (not-true _ so))
   of_mention before (Declares v) f says =
       both _ _ _ _ f (wrong.two_variables before v says)
       (λ so. wrong.too_many_locals before v says (at_most VARIABLE_LIMIT _ so))

@@ -14,6 +14,7 @@ use Rattle.wap_world.specs.declared.timer.Timer.{Timer}
 use Rattle.wap_world.specs.declared.timer.Timer.TheVariants.{NotStarted, Running, Off, Expired}
 use Rattle.wap_world.specs.History.{all_but_last}
 use Rattle.wap_world.specs.Timers.{timer_from, settled_timer}
+use Rattle.wap_world.proofs.Laws.{few_popped}
 use Rattle.wap_state.specs.Standing.{KeepsRules}
 
 -- a call did what it is for, or nothing
@@ -28,13 +29,13 @@ few_pushed true limit history e t some few = grind (t, some, few, arith, nat_tes
 few_pushed false limit history e t some few =
     grind (t, some, few, arith, nat_tests, length-append, length-drop)
 
-few_back : (limit : ℕ) (history : List Entry) (e : Entry) → 1 ≤ limit → length history ≤ limit
-    → length (all_but_last (all_but_last history) ++ e ∷ []) ≤ limit
-few_back limit history e some few = grind (some, few, arith, length-append, length-take)
-
 few_last : (limit : ℕ) (history : List Entry) (e : Entry) → 1 ≤ limit → length history ≤ limit
     → length (all_but_last history ++ e ∷ []) ≤ limit
 few_last limit history e some few = grind (some, few, arith, length-append, length-take)
+
+-- timers that run alike have the same time left
+pub time_same : (m n : ℕ) → ◌≡◌ {A = Timer} (Running m) (Running n) → m ≡ n
+time_same m n e = cc e
 
 few_alone : (o : Option Entry) → length (option_to_list o) ≤ 1
 few_alone None = omega arith
@@ -62,7 +63,7 @@ module _ (limits : Limits) (history : List Entry) (timer : Timer)
     range = rules.range;
     few =
         subst (λ (h : List Entry). length h ≤ limits.history) (sym is)
-        (few_back limits.history history entry some rules.few);
+        (few_popped limits.history history entry some rules.few);
     runs = rules.runs;
   }
 
@@ -106,9 +107,6 @@ module _ (limits : Limits) (history : List Entry) (timer : Timer)
 
   pub keeps_reset : KeepsRules limits history NotStarted
   keeps_reset = record { range = rules.range; few = rules.few; runs = λ tenths e. absurd (cc e) }
-
-  time_same : (m n : ℕ) → ◌≡◌ {A = Timer} (Running m) (Running n) → m ≡ n
-  time_same m n e = cc e
 
   pub keeps_running : (tenths : ℕ) → 0 < tenths → KeepsRules limits history (Running tenths)
   keeps_running tenths left = record {

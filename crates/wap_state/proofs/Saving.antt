@@ -42,6 +42,7 @@ use Rattle.wap_state.proofs.PageUrlsLemmas.Targets.{page_read}
 use Rattle.wap_state.specs.Saved.{saved_timer, timer_in, saved_entry, parts_of, timer_of, entry_with}
 use Rattle.wap_state.specs.Saved.{entries_of, generator_at, saved_world, IsAtRest}
 use Rattle.wap_state.specs.Standing.{KeepsRules}
+use Rattle.wap_state.proofs.Keeping.{time_same}
 
 -- ---- variables that are set in the order of their names
 
@@ -255,9 +256,6 @@ texts_next items rest text card all next =
     next all).1
 
 -- ---- timers
-
-time_same : (m n : ℕ) → ◌≡◌ {A = Timer} (Running m) (Running n) → m ≡ n
-time_same m n e = cc e
 
 saved_same : (m n : ℕ) → ◌≡◌ {A = SavedTimer} (saved.Running m) (saved.Running n) → m ≡ n
 saved_same m n e = cc e

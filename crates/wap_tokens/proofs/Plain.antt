@@ -23,6 +23,7 @@ ascii [] plain i = omega arith
 ascii (c ∷ cs) plain zero = below c (and_parts (nat_lt c 128) (is_plain cs) plain).0
 ascii (c ∷ cs) plain (suc i) = ascii cs (and_parts (nat_lt c 128) (is_plain cs) plain).1 i
 
+-- such a text's bytes are its characters
 pub chars-plain : (text : List ℕ) → is_plain text ≡ true → chars text ≡ text
 chars-plain text plain = chars-IsAscii text (ascii text plain)
 

@@ -54,7 +54,8 @@ plain_segments ss h none =
     (cond-false (is_dot_segment (last_segment ss)) ([] ∷ []) [] (last_plain ss h none))
     ∙ append-nil ss
 
-slash_first : (path : List ℕ) → begins_with is_slash path ≡ true
+-- a path from the root begins with a slash
+pub slash_first : (path : List ℕ) → begins_with is_slash path ≡ true
     → (rest : List ℕ) × (path ≡ 47 ∷ rest)
 slash_first [] slash = absurd (let e = slash in cc)
 slash_first (c ∷ cs) slash = (cs, ap (λ d. d ∷ cs) (eqb-true c 47 slash))

@@ -1,5 +1,5 @@
 -- The text under a name, looked up by the order of names.
-use Rattle.std.proofs.Common.{◌≡◌, ◌≢◌, ℕ, Bool, true, false, cond, List, [], ◌∷◌}
+use Rattle.std.proofs.Common.{◌≡◌, ◌≢◌, ℕ, Bool, false, cond, List, [], ◌∷◌}
 use Rattle.std.proofs.Common.{Option, Some, None, refl, ap, sym, ◌∙◌}
 use Rattle.std.specs.Option.{IfSome, option_copied}
 use Rattle.std.specs.List.{All}
@@ -9,6 +9,7 @@ use Rattle.std.specs.Ordering.{is_eq}
 use Rattle.std.specs.declared.cmp.Ordering.{Ordering}
 use Rattle.std.specs.declared.cmp.Ordering.TheVariants.{Equal}
 use Rattle.std.specs.Cmp.Lexicographic.{texts_ties}
+use Rattle.std.proofs.lemmas.Bool.{cond_both}
 use Rattle.std.proofs.lemmas.List.Elements.{All-head, All-tail}
 use Rattle.std.proofs.lemmas.Map.Lookups.{exact_bytes}
 use Rattle.wap_base.specs.Texts.{is_same_text, text_cmp}
@@ -43,18 +44,14 @@ pub other_place : (name other : List ℕ) → other ≢ name → is_at (text_cmp
 other_place name other apart =
     not_equal (text_cmp name other) (λ same. apart (sym (exact_bytes name other same)))
 
-if_chosen : {X : Type 0} (P : X → Type 0) (b : Bool) (x : X) (rest : Option X) → P x → IfSome rest P
-    → IfSome (cond b (Some x) rest) P
-if_chosen P true x rest p q = p
-if_chosen P false x rest p q = q
-
 -- what is true of all texts is true of the one that is found
 pub found_text : (P : List ℕ → Type 0) (test : List ℕ → Bool) (vars : List (List ℕ × List ℕ))
     → All P (values_of vars) → IfSome (lookup test vars) P
 found_text P test [] all = tt
 found_text P test (e ∷ es) all =
-    if_chosen P (test e.0) e.1 (lookup test es) (All-head P e.1 (values_of es) all)
-    (found_text P test es (All-tail P e.1 (values_of es) all))
+    cond_both (test e.0) (Some e.1) (lookup test es) (λ o. IfSome o P)
+    (λ _. All-head P e.1 (values_of es) all)
+    (λ _. found_text P test es (All-tail P e.1 (values_of es) all))
 
 pub if_copied : (P : List ℕ → Type 0) (found : Option (Bor (List ℕ)))
     → IfSome (option_copied found) P → IfSome found (λ x. P x.now)

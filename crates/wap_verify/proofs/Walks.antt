@@ -2,6 +2,7 @@
 use Rattle.std.proofs.Common.{◌≡◌, ◌≢◌, ℕ, ◌<◌, ◌≤◌, Bool, true, false, eqb, ◌||◌, ◌&&◌, List}
 use Rattle.std.proofs.Common.{[], ◌∷◌, ◌++◌, length, get_or, set, Option, Some, None, Result, Ok}
 use Rattle.std.proofs.Common.{Err, refl, sym, ap, subst, ◌∙◌, inl, inr, arith}
+use mathlib.Core.Bool.{or-true, or-false, or_assoc}
 use Rattle.std.specs.Prelude.{not, IfErr}
 use Rattle.std.specs.List.{list_all}
 use Rattle.std.proofs.lemmas.Bool.{cases_Bool, and_parts, eqb-true, eqb-false}
@@ -55,28 +56,10 @@ module _ (unit : Unit) (index : ℕ) (function : Code) where
 -- one place more is marked
 any_push : (places : List ℕ) (at i : ℕ)
     → is_place (places ++ at ∷ []) i ≡ (is_place places i || eqb at i)
-any_push [] at i = or_false (eqb at i)
-  where
-    or_false : (b : Bool) → (b || false) ≡ b
-    or_false true = refl
-    or_false false = refl
+any_push [] at i = or-false (eqb at i)
 any_push (place ∷ places) at i =
     ap (λ (b : Bool). eqb place i || b) (any_push places at i)
-    ∙ or_assoc (eqb place i) (is_place places i) (eqb at i)
-  where
-    or_assoc : (a b c : Bool) → (a || (b || c)) ≡ (a || b || c)
-    or_assoc true b c = refl
-    or_assoc false b c = refl
-
--- what is true on the right is true
-or_true : (b : Bool) → (b || true) ≡ true
-or_true true = refl
-or_true false = refl
-
--- what is false on the right changes nothing
-or_none : (b : Bool) → (b || false) ≡ b
-or_none true = refl
-or_none false = refl
+    ∙ sym (or_assoc (eqb place i) (is_place places i) (eqb at i))
 
 -- a number equals itself
 pub eqb-same : (n : ℕ) → eqb n n ≡ true
@@ -107,13 +90,13 @@ marks_push unit index function at marks step so_far within is onward =
             get_or (set marks at true) n false ≡ is_place (so_far.places ++ at ∷ []) n) (sym e)
             (get_or-set_same marks at true false inside ∙ sym (any_push so_far.places at at
             ∙ ap (λ (b : Bool). is_place so_far.places at || b) (eqb-same at)
-            ∙ or_true (is_place so_far.places at)))
+            ∙ or-true (is_place so_far.places at)))
         | inr other ↦
             let apart : i ≢ at = eqb-false i at other in
             get_or-set_other marks at i true false apart ∙ so_far.marked i
             ∙ sym (any_push so_far.places at i
             ∙ ap (λ (b : Bool). is_place so_far.places i || b) (eqb-apart at i (λ e. apart (sym e)))
-            ∙ or_none (is_place so_far.places i))
+            ∙ or-false (is_place so_far.places i))
       ];
     }
 

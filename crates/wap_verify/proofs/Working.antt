@@ -5,6 +5,7 @@ use Rattle.std.proofs.Common.{Ok, refl, sym, ap, subst, ◌∙◌, ◌⊎◌, in
 use Rattle.std.specs.Prelude.{not, ◌||◌, IfSome, slice_get}
 use Rattle.std.specs.List.{list_all}
 use Rattle.std.proofs.lemmas.Bool.{or_right, cases_eq, cases_lt, cases_Bool, and_parts, eqb-true}
+use Rattle.std.proofs.lemmas.Bool.{not-true}
 use Rattle.std.proofs.lemmas.List.{length-set, length-append, length-replicate}
 use Rattle.std.proofs.lemmas.Option.{slice_get_within}
 use Rattle.wap_base.proofs.Choices.{ok_same, some_same}
@@ -254,12 +255,8 @@ module _ (unit : Unit) (index : ℕ) (function : Code) where
       (is_aimed unit index function split.places) split.aimed in
       let target : has_target split.places (length function.code) (Ok step) ≡ true =
       sym (ap (has_target split.places (length function.code)) is) ∙ aimed in
-      unstray step.strays (and_parts (not step.strays)
+      not-true step.strays (and_parts (not step.strays)
       (leads_within split.places (length function.code) step.jump) target).0
-    where
-      unstray : (b : Bool) → not b ≡ true → b ≡ false
-      unstray true e = absurd (cc e)
-      unstray false e = refl
 
   -- each way from a place that is reached stays within the code
   pub ways_reached : (split : IsSplit unit index function) (at values : ℕ) (step : Step)

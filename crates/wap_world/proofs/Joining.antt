@@ -1,7 +1,8 @@
 -- Steps one after the other, and the same steps before other keys.
-use Rattle.std.proofs.Common.{◌≡◌, Bool, true, false, List, Option, Some, None, refl, append_assoc}
+use Rattle.std.proofs.Common.{◌≡◌, List, Option, Some, None, refl, append_assoc}
+use mathlib.Core.Bool.{or_assoc}
+pub use mathlib.Core.Bool.{or-false as or_false, or-true as or_true}
 use Rattle.std.proofs.lemmas.List.{append-nil}
-use Rattle.std.specs.Prelude.{◌||◌}
 use Rattle.wap_base.specs.declared.key.Key.{Key}
 use Rattle.wap_world.specs.World.{World}
 use Rattle.wap_world.specs.Steps.{Step, Once, Next, then_step, after_step, quiet, still}
@@ -14,20 +15,6 @@ before keys step = record step { keys = keys }
 -- the same navigation before other keys
 abbrev pub once_before : List Key → Once → Once
 once_before keys once = record once { step = before keys once.step }
-
--- ---- whether one of two steps ended in a dialog
-
-pub or_false : (b : Bool) → (b || false) ≡ b
-or_false true = refl
-or_false false = refl
-
-pub or_true : (b : Bool) → (b || true) ≡ true
-or_true true = refl
-or_true false = refl
-
-or_assoc : (a b c : Bool) → ((a || b) || c) ≡ (a || (b || c))
-or_assoc true b c = refl
-or_assoc false b c = refl
 
 -- ---- steps
 

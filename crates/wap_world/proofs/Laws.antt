@@ -126,7 +126,8 @@ few_pushed true limit history e t some few = grind (t, some, few, arith, length-
 few_pushed false limit history e t some few =
     grind (t, some, few, arith, length-append, length-drop)
 
-few_popped : (limit : ℕ) (history : List Entry) (e : Entry) → 1 ≤ limit → length history ≤ limit
+-- going back leaves no more entries than the limit
+pub few_popped : (limit : ℕ) (history : List Entry) (e : Entry) → 1 ≤ limit → length history ≤ limit
     → length (all_but_last (all_but_last history) ++ e ∷ []) ≤ limit
 few_popped limit history e some few = grind (some, few, arith, length-append, length-take)
 

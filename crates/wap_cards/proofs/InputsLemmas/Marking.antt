@@ -3,6 +3,7 @@ use Rattle.std.proofs.Common.{◌≡◌, ℕ, zero, suc, ◌+◌, ◌-◌, ◌<�
 use Rattle.std.proofs.Common.{List, [], ◌∷◌, ◌++◌, length, take, get_or, set, map}
 use Rattle.std.proofs.Common.{filter, refl, sym, ap, ap₂, ◌∙◌, arith}
 use Rattle.std.specs.Prelude.{◌==◌, ◌||◌}
+use mathlib.Core.Bool.{or-true, or-false}
 use Rattle.std.specs.List.{list_any, range_with_len, enumerate_from}
 use Rattle.std.proofs.lemmas.Bool.Decides.{nat_tests}
 use Rattle.std.proofs.lemmas.List.{map-append, take_more, length-take}
@@ -20,14 +21,6 @@ none_more count = map-range_with_len_more (is_number_among []) 1 count (1 + coun
 
 -- ---- one more number
 
-or_true : (b : Bool) → (b || true) ≡ true
-or_true true = refl
-or_true false = refl
-
-or_false : (b : Bool) → (b || false) ≡ b
-or_false true = refl
-or_false false = refl
-
 same : (n k : ℕ) → n ≡ k → (n == k) ≡ true
 same n k is = grind (arith, nat_tests)
 
@@ -39,7 +32,7 @@ behind n k is = grind (arith, nat_tests)
 
 module _ (f g : ℕ → Bool) (n : ℕ) (adds : (k : ℕ) → g k ≡ (f k || (n == k))) where
   unchanged : (k : ℕ) → (n == k) ≡ false → f k ≡ g k
-  unchanged k isnt = sym (adds k ∙ ap (λ b. f k || b) isnt ∙ or_false (f k))
+  unchanged k isnt = sym (adds k ∙ ap (λ b. f k || b) isnt ∙ or-false (f k))
 
   after : (count a : ℕ) → n < a → map f (range_with_len a count) ≡ map g (range_with_len a count)
   after zero a is = refl
@@ -53,7 +46,7 @@ module _ (f g : ℕ → Bool) (n : ℕ) (adds : (k : ℕ) → g k ≡ (f k || (n
   at zero a (suc i) is = refl
   at (suc count) a zero is =
       ap₂ (λ (b : Bool) (bs : List Bool). b ∷ bs)
-      (sym (adds a ∙ ap (λ b. f a || b) (same n a (omega arith)) ∙ or_true (f a)))
+      (sym (adds a ∙ ap (λ b. f a || b) (same n a (omega arith)) ∙ or-true (f a)))
       (after count (a + 1) (omega arith))
   at (suc count) a (suc i) is =
       ap₂ (λ (b : Bool) (bs : List Bool). b ∷ bs) (unchanged a (behind n a (omega arith)))
@@ -63,7 +56,7 @@ among_more : (some : List ℕ) (n k : ℕ)
     → is_number_among (some ++ n ∷ []) k ≡ (is_number_among some k || (n == k))
 among_more some n k =
     list_any-append (λ one. one == k) some (n ∷ [])
-    ∙ ap (λ b. is_number_among some k || b) (or_false (n == k))
+    ∙ ap (λ b. is_number_among some k || b) (or-false (n == k))
 
 mark_by : (count n : ℕ) (some : List ℕ)
     → marked n (chosen count some) ≡ chosen count (some ++ n ∷ [])

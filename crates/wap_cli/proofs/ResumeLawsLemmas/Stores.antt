@@ -2,11 +2,9 @@
 use Rattle.std.proofs.Common.{◌≡◌, ℕ, Bool, false, List, [], ◌∷◌, ◌++◌, Option, Some, None}
 use Rattle.std.proofs.Common.{refl, sym, ap, ◌∙◌}
 use Rattle.std.proofs.lemmas.Bool.{or_parts}
-use Rattle.std.proofs.lemmas.List.Elements.{All-nil, All-cons}
 use Rattle.std.proofs.lemmas.List.Folds.{list_any-append}
 use Rattle.std.proofs.lemmas.Map.Entries.{All-lookup}
 use Rattle.std.specs.Cmp.Lexicographic.{nat_list_eq_equiv}
-use Rattle.std.specs.List.{All}
 use Rattle.std.specs.Prelude.{◌≢◌, IfSome, map, unwrap_or}
 use Rattle.std.specs.Option.{option_map, option_map_or, option_and_then}
 use Rattle.wap_base.specs.Controls.{shown_text}
@@ -23,7 +21,7 @@ use Rattle.wap_world.specs.declared.site.page.Page.TheVariants as judge
 use Rattle.wap_world.specs.site.Misses.{Asked}
 use Rattle.wap_world.specs.site.Pages.{IsThere, page_under as judged_under}
 use Rattle.wap_pages.specs.Judged.{judged}
-use Rattle.wap_pages.proofs.Judgements.{page_there}
+use Rattle.wap_pages.proofs.Judgements.{judged_there}
 use Rattle.wap_world.specs.declared.history.Entry.{Entry}
 use Rattle.wap_world.specs.Shelves.{Shelf}
 use Rattle.wap_world.specs.World.{World, deck_in, deck_at, last_entry}
@@ -49,15 +47,7 @@ use Rattle.wap_cli.specs.resume_laws.Stores.{AgreeBut}
 
 -- ---- pages of two stores
 
--- no judged page is missing
-judged_there : (contents : Contents)
-    → All (λ (one : List ℕ × Page). IsThere one.1) (judged contents)
-judged_there [] = All-nil (λ (one : List ℕ × Page). IsThere one.1)
-judged_there (entry ∷ contents) =
-    All-cons (λ (one : List ℕ × Page). IsThere one.1) _ (judged contents)
-    (page_there entry.0 entry.1) (judged_there contents)
-
--- nor is the page of a name
+-- the page of a name is there
 there : (name : List ℕ) (contents : Contents) → IfSome (judged_under name (judged contents)) IsThere
 there name contents =
     All-lookup IsThere (λ other. is_same_text other name) (judged contents) (judged_there contents)

@@ -1,11 +1,11 @@
 -- What is fetched of a store: what was saved, or the page of a deck.
-use Rattle.std.proofs.Common.{◌≡◌, ℕ, List, [], ◌∷◌, Option, Some, None, Ok, Err, refl, sym, ap}
+use Rattle.std.proofs.Common.{◌≡◌, ℕ, List, Option, Some, None, Ok, Err, refl, sym, ap}
 use Rattle.std.proofs.Common.{subst, inl, inr, ◌∙◌}
 use Rattle.std.specs.Prelude.{Result, IfOk, IfErr}
 use Rattle.wap_base.specs.Contents.{Contents, page_named}
 use Rattle.wap_devices.specs.Contents.{answer_of, answer_for}
 use Rattle.wap_devices.specs.Stores.{Known, Agrees, StoreSeen, Grew, Fetches}
-use Rattle.wap_devices.proofs.Telling.{grew_nothing, agrees_before}
+use Rattle.wap_devices.proofs.Telling.{agrees_before}
 use Rattle.wap_devices.specs.declared.store.Fetched.{Fetched}
 use Rattle.wap_devices.specs.declared.store.Fetched.TheVariants as fetched
 use Rattle.wap_devices.specs.declared.store.StoreErr.{StoreErr}
@@ -13,6 +13,7 @@ use Rattle.wap_devices.specs.declared.store.StoreErr.TheVariants as store_error
 use Rattle.wap_image.specs.Images.{Saved, IsImage}
 use Rattle.wap_image.specs.Rules.{MayBeSaved}
 use Rattle.wap_pages.specs.declared.fault.PageFault.TheVariants as page_fault
+use Rattle.wap_pages.proofs.Fetching.{grew_asked}
 use Rattle.wap_cli.specs.declared.status.Status.{Status}
 use Rattle.wap_cli.specs.declared.status.Status.TheVariants.{Refused, StoreFault, NoMemory}
 use Rattle.wap_cli.specs.Answers.{IsPageOf, page_of}
@@ -39,19 +40,11 @@ pub page_later : (before after : Known) → Grew before after → (name : List �
 page_later before after grew name page is =
     λ pages agrees. is pages (agrees_before before after grew pages agrees)
 
--- what a store told grew by its answer, or stays
-pub asked_grew : (name : List ℕ) (before after : StoreSeen) (result : Result Fetched StoreErr)
-    → Fetches name before after result → Grew before.known after.known
-asked_grew name before after (Ok answer) fetches =
-    record { answers = (name, answer) ∷ []; lists = []; is = fetches.told }
-asked_grew name before after (Err fault) fetches =
-    grew_nothing before.known after.known fetches.asked.untold
-
 -- whatever was answered, one page was asked for
 pub is_fetched : (name : List ℕ) (before after : StoreSeen) (result : Result Fetched StoreErr)
     → Fetches name before after result → IsFetched before after
 is_fetched name before after result fetches = record {
-  known = asked_grew name before after result fetches;
+  known = grew_asked name before after result fetches;
   fetches = fetches.fetches;
   listings = fetches.listings;
   counts = fetches.asked.counts;

@@ -1,6 +1,7 @@
 -- Places of names, and all items of a list by what stands around each.
 use Rattle.std.proofs.Common.{◌≡◌, ℕ, ◌<◌, Bool, true, false, ◌||◌, List, [], ◌∷◌, ◌++◌}
 use Rattle.std.proofs.Common.{length, map, All, refl, sym, ap, ◌∙◌, arith}
+use mathlib.Core.Bool.{or-true}
 use Rattle.std.specs.List.{list_any, position_or_len}
 use Rattle.std.specs.Prelude.{slice_get}
 use Rattle.std.specs.Cmp.Lexicographic.{bytes_decides}
@@ -48,10 +49,7 @@ among_itself name xs ys =
     (list_any-append (is_same_text name) xs (name ∷ ys)
     ∙ ap (λ (b : Bool). list_any (is_same_text name) xs || (b || list_any (is_same_text name) ys))
     ((bytes_decides name name).1 refl)
-    ∙ or_true (list_any (is_same_text name) xs)) where
-      or_true : (b : Bool) → (b || true) ≡ true
-      or_true true = refl
-      or_true false = refl
+    ∙ or-true (list_any (is_same_text name) xs))
 
 -- the function of a name stands at the name's place
 pub function_there : (name : List ℕ) (fs : List Function) →

@@ -19,6 +19,7 @@ use Rattle.wap_url.specs.Printing.{IsNormal}
 use Rattle.wap_url.specs.Joining.{is_here, is_above, is_dot_segment, kept_with, end_of, without_dots}
 use Rattle.wap_url.specs.Joining.{resolved, resolved_path, lead_segments, merged_path, target, rooted}
 use Rattle.wap_url.specs.Joining.{joined}
+use Rattle.wap_url.proofs.BackLaws.{slash_first}
 use Rattle.wap_url.proofs.JoinLaws.{path-lead, resolved_at_root}
 use Rattle.wap_state.specs.page_urls.PageUrls.{is_http, IsPageUrl}
 
@@ -125,12 +126,6 @@ fine-rooted path all =
 -- it is empty, or begins with a slash
 abbrev FromRoot : List ℕ → Type 0
 FromRoot path = (path ≡ []) ⊎ (begins_with is_slash path ≡ true)
-
-slash_first : (path : List ℕ) → begins_with is_slash path ≡ true
-    → (rest : List ℕ) × (path ≡ 47 ∷ rest)
-slash_first [] slash = absurd (let e = slash in cc)
-slash_first (c ∷ cs) slash =
-    (cs, ap (λ d. d ∷ cs) (Rattle.std.proofs.lemmas.Bool.eqb-true c 47 slash))
 
 rooted_slash : (path : List ℕ) → begins_with is_slash (rooted true (47 ∷ path)) ≡ true
 rooted_slash path =

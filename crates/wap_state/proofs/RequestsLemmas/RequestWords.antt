@@ -1,10 +1,8 @@
 -- Words of US-ASCII that lines have: their characters are their bytes.
-use Rattle.std.proofs.Common.{rules, ◌≡◌, ◌∙◌, ℕ, List, refl, ap, append_assoc}
-use Rattle.std.specs.Prelude.{codes, encode_utf8_all}
-use Rattle.std.specs.Str.{chars, bytes_eq}
-use Rattle.wap_base.specs.Texts.{is_same_text}
+use Rattle.std.proofs.Common.{◌≡◌, refl, append_assoc}
+use Rattle.std.specs.Prelude.{codes}
+use Rattle.std.specs.Str.{chars}
 use Rattle.wap_tokens.proofs.Plain.{chars-plain}
-use Rattle.wap_cards.proofs.ComparedTexts.{same_word}
 
 pub word_request : chars (codes "> ") ≡ codes "> "
 word_request = chars-plain (codes "> ") refl
@@ -22,9 +20,3 @@ pub word_no_cache : chars (codes " no-cache") ≡ codes " no-cache"
 word_no_cache = chars-plain (codes " no-cache") refl
 
 pub ruleset words = (word_request, word_post, word_get, word_referer, word_no_cache, append_assoc)
-
-pub http_is : (bytes text : List ℕ) → bytes ≡ encode_utf8_all text → chars bytes ≡ text
-    → bytes_eq bytes (codes "http") ≡ is_same_text text (codes "http")
-http_is bytes text encoded read =
-    same_word bytes text (codes "http") encoded read (search rules)
-    ∙ ap (is_same_text text) (chars-plain (codes "http") refl)

@@ -2,7 +2,7 @@ use Rattle.std.proofs.Common.{◌∙◌, ap, sym, Option, List, ℕ, codes}
 use Rattle.std.specs.Prelude.{not, false}
 use Rattle.std.specs.Option.{option_map_or}
 use Rattle.wap_base.specs.Texts.{is_same_text}
-use Rattle.wap_state.proofs.RequestsLemmas.RequestWords.{http_is}
+use Rattle.wap_image.proofs.SchemeWord.{http_is}
 use Rattle.wap_state.proofs.requests.urls.has_other_scheme.Goals as goal
 
 pub returns-in-Some : goal.returns-in-Some
