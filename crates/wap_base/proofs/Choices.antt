@@ -1,6 +1,6 @@
 -- Which way a choice or a step went.
 use Rattle.std.proofs.Common.{◌≡◌, Bool, true, false, cond, ◌⊎◌, inl, inr}
-use Rattle.std.proofs.Common.{Some, Result, Ok, Err, refl}
+use Rattle.std.proofs.Common.{List, [], ◌∷◌, length, Some, Result, Ok, Err, OnErr, refl, arith}
 use Rattle.wap_base.specs.Outcome.{◌>>=◌}
 
 pub chosen : {A : Type 0} (b : Bool) (x y z : A) → cond b x y ≡ z
@@ -28,3 +28,13 @@ err_same x y e = cc
 
 pub some_same : {A : Type 0} (x y : A) → Some x ≡ Some y → x ≡ y
 some_same x y e = cc
+
+-- what an error has to do is done, whatever the result
+pub on_err : {A E : Type 0} (result : Result A E) (P : Type 0) → P → OnErr result P
+on_err (Ok x) P holds = tt
+on_err (Err e) P holds = holds
+
+-- nothing is as long as nothing
+pub nil_of : {A : Type 0} (xs : List A) → length xs ≡ 0 → xs ≡ []
+nil_of [] none = refl
+nil_of (x ∷ xs) none = absurd (omega (arith, none))

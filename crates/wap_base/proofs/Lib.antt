@@ -10,4 +10,5 @@ pub mod NumberLaws
 pub mod NumberLoop
 pub mod NumberSpelling
 pub mod NameLaws
+pub mod DigitLaws
 pub mod formats

@@ -16,18 +16,19 @@ past-continues c past = grind (arith, nat_tests)
 past-begins : (c : ℕ) → 128 ≤ c → begins_name c ≡ false
 past-begins c past = grind (arith, nat_tests)
 
-record BeginsPast (bytes : List ℕ) : Type 0 where
-  lead : ℕ
-  rest : List ℕ
-  is : bytes ≡ lead ∷ rest
-  past : 128 ≤ lead
+-- a byte past ASCII comes first
+pub record BeginsPast (bytes : List ℕ) : Type 0 where
+  pub lead : ℕ
+  pub rest : List ℕ
+  pub is : bytes ≡ lead ∷ rest
+  pub past : 128 ≤ lead
 
 past-if : (b : Bool) (x y : List ℕ) → BeginsPast x → BeginsPast y → BeginsPast (cond b x y)
 past-if true x y p q = p
 past-if false x y p q = q
 
 -- a character past ASCII begins with a byte past ASCII
-past-encode : (c : ℕ) → 128 ≤ c → BeginsPast (encode_utf8 c)
+pub past-encode : (c : ℕ) → 128 ≤ c → BeginsPast (encode_utf8 c)
 unfolding encode_utf8
 past-encode c past = rw (le-ltb c 128 past) (past-if (ltb c 2048) _ _
     (record { lead = 192 + c / 64; rest = _; is = refl; past = omega arith })

@@ -1,55 +1,20 @@
 -- Decimal digits, as bytes and as characters.
-use Rattle.std.proofs.Common.{◌≡◌, ℕ, ◌+◌, ◌*◌, ◌-◌, ◌^◌, ◌<◌, ◌≤◌, ◌/◌, min, Bool, true}
-use Rattle.std.proofs.Common.{false, cond, not, ltb, List, [], ◌∷◌, ◌++◌, length, get_or}
+use Rattle.std.proofs.Common.{◌≡◌, ℕ, ◌+◌, ◌*◌, ◌-◌, ◌^◌, ◌<◌, min, Bool, true}
+use Rattle.std.proofs.Common.{false, cond, not, List, [], ◌∷◌, ◌++◌}
 use Rattle.std.proofs.Common.{Some, None, refl, sym, ap, ◌∙◌, inl, inr, arith}
 use Rattle.std.specs.Prelude.{encode_utf8_all, ◌&&◌, IsTrue, ◌↔◌}
 use Rattle.std.specs.Option.{option_map}
-use Rattle.std.specs.Char.{encode_utf8, is_ascii_digit}
-use Rattle.std.specs.Int.{IsInRange}
+use Rattle.std.specs.Char.{is_ascii_digit}
 use Rattle.std.specs.List.{list_all}
 use Rattle.std.specs.Str.Parse.{digits_value}
-use Rattle.std.proofs.lemmas.Bool.{cases_lt, le-ltb, and_parts}
+use Rattle.std.proofs.lemmas.Bool.{cases_lt, and_parts}
 use Rattle.std.proofs.lemmas.Bool.Decides.{nat_tests}
-use Rattle.std.proofs.lemmas.List.Sums.{AllPass-from_list_all}
 use Rattle.std.proofs.lemmas.Str.{encode_ascii}
+use Rattle.wap_base.proofs.NameLaws.{past-encode}
+use Rattle.wap_base.proofs.DigitLaws.{digit_high}
 use Rattle.wap_cardrules.specs.Values.{number_in, is_empty}
 
--- ---- in range
-
-digit_in_range : (c : ℕ) → is_ascii_digit c ≡ true → IsInRange 48 57 c
-digit_in_range c h = grind (arith, nat_tests)
-
-pub digit_at : (ds : List ℕ) (i : ℕ) → list_all is_ascii_digit ds ≡ true → i < length ds
-    → IsInRange 48 57 (get_or ds i 0)
-digit_at ds i digits within =
-    digit_in_range (get_or ds i 0) (AllPass-from_list_all is_ascii_digit ds digits i 0 within)
-
 -- ---- bytes and characters
-
-past_digit : (c : ℕ) → 128 ≤ c → is_ascii_digit c ≡ false
-past_digit c past = grind (arith, nat_tests)
-
-record BeginsPast (bytes : List ℕ) : Type 0 where
-  lead : ℕ
-  rest : List ℕ
-  is : bytes ≡ lead ∷ rest
-  past : 128 ≤ lead
-
-past-if : (b : Bool) (x y : List ℕ) → BeginsPast x → BeginsPast y → BeginsPast (cond b x y)
-past-if true x y p q = p
-past-if false x y p q = q
-
--- a character past ASCII begins with a byte past ASCII
-past-encode : (c : ℕ) → 128 ≤ c → BeginsPast (encode_utf8 c)
-unfolding encode_utf8
-past-encode c past = rw (le-ltb c 128 past) (past-if (ltb c 2048) _ _
-    (record { lead = 192 + c / 64; rest = _; is = refl; past = omega arith })
-    (past-if (ltb c 65536) _ _ (record {
-      lead = 224 + c / 4096;
-      rest = _;
-      is = refl;
-      past = omega arith;
-    }) (record { lead = 240 + c / 262144; rest = _; is = refl; past = omega arith })))
 
 pub digits-encode : (cs : List ℕ)
     → list_all is_ascii_digit (encode_utf8_all cs) ≡ list_all is_ascii_digit cs
@@ -59,7 +24,7 @@ digits-encode (c ∷ cs) = elim (cases_lt c 128) [
       rw (encode_ascii c ascii) (ap (λ (b : Bool). is_ascii_digit c && b) (digits-encode cs))
   | inr past ↦
       let e = past-encode c past in
-      rw (e.is, past_digit e.lead e.past, past_digit c past) refl
+      rw (e.is, digit_high e.lead e.past, digit_high c past) refl
 ]
 
 below : (c : ℕ) → is_ascii_digit c ≡ true → c < 128

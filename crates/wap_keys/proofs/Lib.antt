@@ -1,4 +1,3 @@
-mod DecimalLaws
 mod KeyLaws
 pub mod LineLaws
 mod LineSteps

@@ -6,6 +6,7 @@ use Rattle.std.specs.Prelude.{◌==◌, not, ◌&&◌}
 use Rattle.std.proofs.lemmas.Bool.{eqb-true}
 use Rattle.std.proofs.lemmas.List.{length-append, drop-drop}
 use Rattle.std.proofs.lemmas.List.Folds.{list_all-append}
+use Rattle.wap_base.proofs.Choices.{nil_of}
 use Rattle.wap_keys.specs.declared.fault.KeyFault.{KeyFault}
 use Rattle.wap_keys.specs.declared.fault.KeyFault.TheVariants.{TooLong, NoMemory}
 use Rattle.wap_keys.specs.declared.prefix.Prefix.TheVariants as prefix
@@ -17,12 +18,8 @@ use Rattle.wap_keys.specs.Prefixes.{is_unended, TakesPrefix}
 use Rattle.wap_keys.specs.inside.Taking.{Advances, TakesSaid}
 use Rattle.wap_keys.proofs.LineLaws.{line_before, too_long}
 
-nothing : (bytes : List ℕ) → length bytes ≡ 0 → bytes ≡ []
-nothing [] none = refl
-nothing (c ∷ cs) none = absurd (omega (arith, none))
-
 pub no_bytes : (bytes : List ℕ) → (length bytes == 0) ≡ true → bytes ≡ []
-no_bytes bytes none = nothing bytes (eqb-true (length bytes) 0 none)
+no_bytes bytes none = nil_of bytes (eqb-true (length bytes) 0 none)
 
 both_unended : (line more : List ℕ) → is_unended line ≡ true → is_unended more ≡ true
     → is_unended (line ++ more) ≡ true

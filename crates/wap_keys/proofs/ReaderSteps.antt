@@ -3,7 +3,6 @@ use Rattle.std.proofs.Common.{◌≡◌, ◌≢◌, ℕ, ◌+◌, ◌<◌, ◌�
 use Rattle.std.proofs.Common.{◌∷◌, ◌++◌, length, take, Option, Some, None, Result, Ok, Err, refl}
 use Rattle.std.proofs.Common.{sym, ap, subst, ◌∙◌, append_assoc, inl, inr, arith}
 use Rattle.std.proofs.Math.Seq.{take-length}
-use Rattle.std.specs.Result.{OnErr}
 use Rattle.wap_base.specs.Count.{raised}
 use Rattle.std.proofs.lemmas.List.{append-nil, length-append, take-append-le}
 use Rattle.wap_devices.specs.Sources.{SourceSeen}
@@ -387,12 +386,6 @@ over_steps meaning now old over = record {
   falls = tt;
   counts = refl;
 }
-
--- ---- results
-
-pub on_err : {T E : Type 0} (result : Result T E) (P : Type 0) → P → OnErr result P
-on_err (Ok v) P p = tt
-on_err (Err e) P p = p
 
 -- ---- turn after turn
 

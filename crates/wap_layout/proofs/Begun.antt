@@ -10,6 +10,7 @@ use Rattle.std.proofs.lemmas.List.{drop_more, take_at}
 use Rattle.std.proofs.lemmas.Str.{IsUtf8-nil, chars-nil, chars-IsAscii, IsAscii-append, IsUtf8-drop}
 use Rattle.std.proofs.lemmas.Str.{IsCharBoundary-at_seam}
 use Rattle.std.proofs.lemmas.Str.Ascii.{IsAscii-cons}
+use Rattle.wap_base.proofs.Choices.{nil_of}
 use Rattle.wap_layout.specs.Blanks.{words_of, unless_empty}
 use Rattle.wap_layout.specs.Calculation.{fill, filled}
 use Rattle.wap_layout.specs.inside.Slices.{IsCutAtBlank, IsPlainWord, IsFirstLine, ends_word}
@@ -59,11 +60,6 @@ space_cut bytes at text found is some =
 -- no text has no words
 pub no_words : (bytes : List ℕ) → bytes ≡ [] → words_of (chars bytes) ≡ []
 no_words bytes none = ap (λ bs. words_of (chars bs)) none ∙ ap words_of chars-nil
-
--- nothing is as long as nothing
-nil_of : (bytes : List ℕ) → length bytes ≡ 0 → bytes ≡ []
-nil_of [] none = refl
-nil_of (b ∷ bytes) none = absurd (omega arith)
 
 -- a text without a blank is cut at its end
 pub whole_cut : (bytes : List ℕ) → words_of (chars bytes) ≡ unless_empty (chars bytes)

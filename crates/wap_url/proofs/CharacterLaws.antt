@@ -3,7 +3,7 @@ use Rattle.std.proofs.Common.{◌≡◌, ℕ, ◌<◌, ◌≤◌, true, false, n
 use Rattle.std.proofs.Common.{◌∷◌, refl, arith, nat_lt, ◌==◌, codes}
 use Rattle.std.specs.List.{list_all}
 use Rattle.std.specs.Char.{is_ascii_graphic, is_ascii_alphabetic}
-use Rattle.std.specs.Char.{is_ascii_alphanumeric, is_ascii_digit}
+use Rattle.std.specs.Char.{is_ascii_alphanumeric}
 use Rattle.std.proofs.lemmas.Bool.{or_from, and_left, ne_eqb}
 use Rattle.std.proofs.lemmas.Bool.Decides.{nat_tests}
 use Rattle.wap_url.specs.Characters.{is_one_of, is_allowed, is_unreserved}
@@ -58,6 +58,3 @@ pub host_high : (c : ℕ) → 128 ≤ c → is_host_character c ≡ false
 host_high c high =
     or_from (is_ascii_alphanumeric c) (is_one_of (codes "-.") c) (alphanumeric_high c high)
     (one_of_high (codes "-.") c refl high)
-
-pub digit_high : (c : ℕ) → 128 ≤ c → is_ascii_digit c ≡ false
-digit_high c high = grind (arith, nat_tests)

@@ -13,6 +13,5 @@ pub mod NormalLaws
 pub mod SliceLaws
 pub mod ReadLaws
 pub mod BackLaws
-pub mod PortLaws
 pub mod EscapeLaws
 pub mod WorkedRows

@@ -19,7 +19,8 @@ use Rattle.wap_base.specs.Cuts.{begins_with}
 use Rattle.wap_url.specs.UrlParts.{Parts, is_port, port_number, url_of, IsSplit, Fits}
 use Rattle.wap_url.specs.UrlParts.{IsUrl, may_be_scheme, may_be_host, may_be_port}
 use Rattle.wap_url.specs.Printing.{parts_for, printed, IsNormal}
-use Rattle.wap_url.proofs.CharacterLaws.{scheme_high, host_high, digit_high}
+use Rattle.wap_base.proofs.DigitLaws.{digit_high}
+use Rattle.wap_url.proofs.CharacterLaws.{scheme_high, host_high}
 use Rattle.wap_url.proofs.CharacterLaws.{alphabetic_high, allowed_high}
 use Rattle.wap_url.proofs.UntilLaws.{implies, all-weaker}
 use Rattle.std.proofs.lemmas.Bool.{and_left}

@@ -1,9 +1,8 @@
 -- Defaults, field by field.
 use Rattle.std.proofs.Common.{◌≡◌, ℕ, ◌+◌, ◌<◌, Bool, true, false, cond, List, [], ◌∷◌, ◌++◌}
-use Rattle.std.proofs.Common.{length, take, get_or, Option, Some, None, Result, Ok, Err}
+use Rattle.std.proofs.Common.{length, take, get_or, Option, Some, None}
 use Rattle.std.proofs.Common.{slice_get, refl, sym, ap, subst, ◌∙◌, append_assoc}
 use Rattle.std.specs.Option.{option_and_then, option_map_or}
-use Rattle.std.specs.Result.{OnErr}
 use Rattle.std.proofs.lemmas.Option.{slice_get-get_or}
 use Rattle.wap_cardrules.specs.Fields.{fields_of}
 use Rattle.wap_cards.specs.inputs.Stopped.{FirstStand, default_sets, DefaultsStand}
@@ -92,7 +91,3 @@ stopped_at vars now before card fields i field all within is same first =
           (default_sets (set_each default vars (take i fs)).vars) (slice_get fs i) []) now)
           all there,
     )
-
-pub on_err : {T E : Type 0} (result : Result T E) (P : Type 0) → P → OnErr result P
-on_err (Ok x) P holds = tt
-on_err (Err e) P holds = holds

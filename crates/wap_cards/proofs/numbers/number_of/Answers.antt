@@ -3,7 +3,8 @@ use Rattle.std.specs.Char.{digit_value}
 use Rattle.std.specs.Str.Parse.{digits_value}
 use Rattle.std.proofs.lemmas.Int.Digits.{digits_value_more}
 use Rattle.std.proofs.lemmas.Str.{digit_value_digit}
-use Rattle.wap_cards.proofs.Digits.{digit_at, one_more}
+use Rattle.wap_base.proofs.DigitLaws.{digit_at}
+use Rattle.wap_cards.proofs.Digits.{one_more}
 use Rattle.wap_cards.proofs.numbers.number_of.Goals as goal
 
 pub loop-digit-preserved : goal.loop-digit-preserved

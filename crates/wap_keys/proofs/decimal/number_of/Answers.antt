@@ -3,7 +3,7 @@ use Rattle.std.specs.Char.{digit_value}
 use Rattle.std.proofs.lemmas.Int.Digits.{digits_value_more}
 use Rattle.std.proofs.lemmas.Str.{digit_value_digit}
 use Rattle.std.proofs.lemmas.Grind.{pow_more}
-use Rattle.wap_keys.proofs.DecimalLaws.{digit_at}
+use Rattle.wap_base.proofs.DigitLaws.{digit_at}
 use Rattle.wap_keys.proofs.decimal.number_of.Goals as goal
 
 pub loop-digit-preserved : goal.loop-digit-preserved

@@ -4,7 +4,8 @@ use Rattle.wap_keys.specs.Read.{GivesSomeBy}
 use Rattle.wap_keys.specs.KeyReaders.{HasReadBy}
 use Rattle.wap_keys.specs.inside.Taking.{Steps}
 use Rattle.wap_keys.proofs.ReaderLaws.{begun_by, given_by}
-use Rattle.wap_keys.proofs.ReaderSteps.{on_err, then_read, then_ended}
+use Rattle.wap_keys.proofs.ReaderSteps.{then_read, then_ended}
+use Rattle.wap_base.proofs.Choices.{on_err}
 use Rattle.wap_keys.proofs.reading.read_all.Goals as goal
 
 pub loop-keys-init : goal.loop-keys-init

@@ -1,7 +1,7 @@
 use Rattle.std.proofs.Common.{◌∷◌, [], ◌++◌, rules}
 use Rattle.wap_cardrules.specs.Setting.{set_all}
 use Rattle.wap_cards.specs.inputs.Stopped.{FirstStand}
-use Rattle.wap_cards.proofs.InputsLemmas.Giving.{on_err}
+use Rattle.wap_base.proofs.Choices.{on_err}
 use Rattle.wap_state.proofs.Stopping.{split_next, stands_next, refused_next, stopped_there}
 use Rattle.wap_state.proofs.setting.set_all.Goals as goal
 

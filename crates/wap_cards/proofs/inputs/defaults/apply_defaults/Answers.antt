@@ -3,7 +3,8 @@ use Rattle.wap_vars.specs.declared.fault.VarFault.{VarFault}
 use Rattle.wap_vars.specs.Variables.{Variables}
 use Rattle.wap_cardrules.specs.Setting.{default}
 use Rattle.wap_cards.specs.inputs.Stopped.{DefaultsStand}
-use Rattle.wap_cards.proofs.InputsLemmas.Giving.{vars_next, refused_next, stopped_at, on_err}
+use Rattle.wap_base.proofs.Choices.{on_err}
+use Rattle.wap_cards.proofs.InputsLemmas.Giving.{vars_next, refused_next, stopped_at}
 use Rattle.wap_cards.proofs.inputs.defaults.apply_defaults.Goals as goal
 
 pub loop-field-preserved : goal.loop-field-preserved

@@ -4,7 +4,8 @@ use Rattle.wap_keys.specs.KeyReaders.{Reading}
 use Rattle.wap_keys.specs.inside.Taking.{ReadsMore, Loses}
 use Rattle.wap_keys.proofs.ReaderLaws.{lost}
 use Rattle.wap_keys.proofs.ReaderSteps.{piece_goes, past_steps, fault_steps, end_turns}
-use Rattle.wap_keys.proofs.ReaderSteps.{end_gives_up, on_err}
+use Rattle.wap_keys.proofs.ReaderSteps.{end_gives_up}
+use Rattle.wap_base.proofs.Choices.{on_err}
 use Rattle.wap_keys.proofs.reader.Reader.read_on.Goals as goal
 
 pub returns-in_err-read_more-clause-lost : goal.returns-in_err-read_more-clause-lost

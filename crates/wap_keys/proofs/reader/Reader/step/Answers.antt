@@ -2,8 +2,9 @@
 use Rattle.std.proofs.Common.{ap, subst, sym, ◌∙◌, arith}
 use Rattle.wap_keys.specs.KeyReaders.{Reading}
 use Rattle.wap_keys.specs.inside.Taking.{Turns, Loses}
-use Rattle.wap_keys.proofs.ReaderSteps.{keeps_then, then_gives_up, then_steps, over_steps, on_err}
+use Rattle.wap_keys.proofs.ReaderSteps.{keeps_then, then_gives_up, then_steps, over_steps}
 use Rattle.wap_keys.proofs.ReaderSteps.{none_left}
+use Rattle.wap_base.proofs.Choices.{on_err}
 use Rattle.wap_keys.proofs.reader.Reader.step.Goals as goal
 
 pub returns-in_err-step-clause-lost : goal.returns-in_err-step-clause-lost

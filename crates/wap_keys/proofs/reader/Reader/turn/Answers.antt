@@ -4,7 +4,8 @@ use Rattle.std.specs.Prelude.{IfOk, OnErr}
 use Rattle.wap_keys.specs.KeyReaders.{Reading}
 use Rattle.wap_keys.specs.inside.Taking.{TakesLine, IsOpen, Turns, Loses, turn_of}
 use Rattle.wap_keys.proofs.ReaderLaws.{gives_up_by}
-use Rattle.wap_keys.proofs.ReaderSteps.{line_turns, on_err}
+use Rattle.wap_keys.proofs.ReaderSteps.{line_turns}
+use Rattle.wap_base.proofs.Choices.{on_err}
 use Rattle.wap_keys.proofs.reader.Reader.turn.Goals as goal
 
 pub returns-in_err-said-clause-lost : goal.returns-in_err-said-clause-lost

@@ -1,7 +1,7 @@
 use Rattle.std.proofs.Common.{subst}
 use Rattle.wap_world.specs.World.{World}
 use Rattle.wap_cards.specs.inputs.Stopped.{DefaultsStand}
-use Rattle.wap_cards.proofs.InputsLemmas.Giving.{on_err}
+use Rattle.wap_base.proofs.Choices.{on_err}
 use Rattle.wap_state.proofs.Stopping.{defaults_stand}
 use Rattle.wap_state.proofs.state.State.apply_defaults.Goals as goal
 

@@ -1,7 +1,7 @@
 use Rattle.std.proofs.Common.{ap, subst, ◌∙◌}
 use Rattle.wap_world.specs.World.{World}
 use Rattle.wap_cards.specs.inputs.Stopped.{DefaultsStand}
-use Rattle.wap_cards.proofs.InputsLemmas.Giving.{on_err}
+use Rattle.wap_base.proofs.Choices.{on_err}
 use Rattle.wap_state.specs.CardAtHand.{Held}
 use Rattle.wap_state.proofs.Stopping.{defaults_stand, started_vars}
 use Rattle.wap_state.proofs.state.State.show.Goals as goal
