@@ -164,7 +164,7 @@ pub(crate) fn read_name<'a>(
 }
 
 /// The string of a table from an index on.
-pub(crate) fn string_from(table: &[u8], index: usize) -> &[u8]
+pub fn string_from(table: &[u8], index: usize) -> &[u8]
     ensures { result.now ≡ string_from table.now index }
 {
     let Some(string) = table.get(index..) else {

@@ -21,5 +21,7 @@ mod state;
 pub use builder::Builder;
 pub use documents::{decode, decode_with, no_two_documents, read};
 pub use fault::DocFault;
+pub use fronts::string_from;
+pub use marks::{has_attributes, has_content};
 pub use printing::{document_fault_text, print_document_fault};
 pub use wap_tokens::markup::{Attr, Document, Element, Kid, Piece, Token};

@@ -105,14 +105,16 @@ pub(crate) fn is_named(tag: u8) -> bool
 }
 
 /// Whether attributes stand after a tag.
-pub(crate) fn has_attributes(tag: u8) -> bool
+#[inline(always)]
+pub fn has_attributes(tag: u8) -> bool
     ensures { result ≡ has_attributes tag }
 {
     tag >= 128
 }
 
 /// Whether content stands after a tag, and after its attributes if it has them.
-pub(crate) fn has_content(tag: u8) -> bool
+#[inline(always)]
+pub fn has_content(tag: u8) -> bool
     ensures { result ≡ has_content tag }
 {
     tag % 128 >= 64

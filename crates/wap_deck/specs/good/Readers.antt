@@ -1,11 +1,10 @@
 -- Reading bytes from the left. This project's own.
 use Rattle.std.specs.Prelude.{◌≡◌, ℕ, zero, suc, Bool, true, ◌==◌, if◌then◌else◌, List, [], ◌∷◌}
 use Rattle.std.specs.Prelude.{◌++◌, length, take, drop, Option, Some, None, Result, Ok, Err}
-use Rattle.std.specs.List.{prefix_len}
 use Rattle.wap_base.specs.Numbers.{mb_at}
 use Rattle.wap_base.specs.declared.number.ReadFault.{ReadFault}
 use Rattle.wap_tokens.specs.declared.markup.codes.TheConstants.{END}
-use Rattle.wap_tokens.specs.markup.Strings.{is_not_zero}
+pub use Rattle.wap_wbxml.specs.reading.Fronts.{zero_place}
 
 -- what a call answered, seen by view, is what the reading gives
 abbrev pub Reads : {X Y : Type 0} → (X → Y) → Option X → Option Y → Type 0
@@ -51,10 +50,6 @@ number_from bytes (Err fault) = None
 -- a number of one to five bytes, and those after it
 unfoldable pub number_at : List ℕ → Option (ℕ × List ℕ)
 number_at bytes = number_from bytes (mb_at bytes 0)
-
--- how many bytes stand before the first 0
-abbrev pub zero_place : List ℕ → ℕ
-zero_place = prefix_len is_not_zero
 
 -- the bytes up to a 0, and those after it
 unfoldable pub ended_at : List ℕ → Option (List ℕ × List ℕ)

@@ -10,11 +10,12 @@ ghost use Rattle.wap_deck.specs.good.inside.Nodes.{named_at, start_at, attr_at};
 ghost use Rattle.wap_deck.specs.good.inside.Starts.{start_seen, value_in};
 
 use crate::good::bits::after_bits;
-use crate::good::front::{first, number, string_from};
+use crate::good::front::{first, number};
 use crate::good::run::Run;
 use wap_base::Bytes;
 use wap_tokens::attr_start;
 use wap_tokens::markup::{ATTR_NAMES, AttrName, LITERAL};
+use wap_wbxml::string_from;
 
 /// What an attribute begins with: its name, the text with which its value begins, and the bytes of
 /// the rest of the value.

@@ -1,8 +1,7 @@
 //! What bytes begin with.
-ghost use Rattle.std.specs.Prelude.{◌≡◌, ◌≤◌, length, drop};
-ghost use Rattle.wap_tokens.specs.markup.Strings.{string_from};
-ghost use Rattle.wap_deck.specs.good.Readers.{Reads, first_at, number_at, zero_place};
-ghost use Rattle.wap_deck.specs.good.Readers.{ended_at, behind_zero, is_end};
+ghost use Rattle.std.specs.Prelude.{◌≡◌, drop};
+ghost use Rattle.wap_deck.specs.good.Readers.{Reads, first_at, number_at, ended_at, behind_zero};
+ghost use Rattle.wap_deck.specs.good.Readers.{is_end};
 
 use memchr::memchr;
 use wap_base::read_mb;
@@ -67,26 +66,5 @@ pub(crate) fn is_end(bytes: &[u8]) -> bool
     match bytes {
         [first, ..] => *first == END,
         [] => true,
-    }
-}
-
-/// The string of a table from an index on.
-pub(crate) fn string_from(table: &[u8], index: usize) -> &[u8]
-    ensures { result.now ≡ string_from table.now index }
-{
-    let Some(string) = table.get(index..) else {
-        return &[];
-    };
-    &string[..zero_place(string)]
-}
-
-/// How many bytes stand before the first 0.
-fn zero_place(bytes: &[u8]) -> usize
-    ensures place { result ≡ zero_place bytes.now }
-    ensures within { result ≤ length bytes.now }
-{
-    match memchr(0, bytes) {
-        Some(at) => at,
-        None => bytes.len(),
     }
 }

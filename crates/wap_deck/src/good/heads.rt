@@ -9,11 +9,12 @@ ghost use Rattle.wap_deck.specs.good.inside.Notes.{mark_place, lacks, HaveNames,
 
 use crate::good::bits::after_bits;
 use crate::good::front::{after_first, first, is_end};
-use crate::good::head::{has_attributes, has_content, kids_begin};
+use crate::good::head::kids_begin;
 use crate::good::notes::Known;
 use crate::good::skip::after_attrs;
 use wap_tokens::attr_start;
 use wap_tokens::markup::{AttrName, LITERAL};
+use wap_wbxml::{has_attributes, has_content};
 
 /// The mark of a name, one bit of 16. Several names have the same.
 #[inline(always)]

@@ -8,13 +8,13 @@ ghost use Rattle.wap_deck.specs.good.inside.Notes.{last_bytes};
 
 use crate::good::bits::{after_bit, after_bits};
 use crate::good::front::{after_first, first, is_end};
-use crate::good::head::{has_attributes, has_content};
 use crate::good::heads::known_of;
 use crate::good::skip::after_kids;
 use std::alloc::Global;
 use wap_base::{NoMemory, Rows};
 use wap_tokens::markup::LEVEL_LIMIT;
 use wap_tokens::tag_of;
+use wap_wbxml::{has_attributes, has_content};
 
 /// Where a node begins and where it ends, by how many bytes are left there.
 #[derive(Clone, Copy)]

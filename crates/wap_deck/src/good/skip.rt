@@ -7,8 +7,8 @@ ghost use Rattle.wap_deck.specs.good.inside.Nodes.{FollowsItems, FollowsItem};
 
 use crate::good::bits::{after_bit, after_bits};
 use crate::good::front::{after_first, first, is_end, number};
-use crate::good::head::{has_attributes, has_content};
 use wap_tokens::markup::LITERAL;
+use wap_wbxml::{has_attributes, has_content};
 
 /// What follows a number.
 #[tactic(auto, unfolding(crate::specs::good::Readers::number_at))]

@@ -6,7 +6,6 @@ ghost use Rattle.wap_deck.specs.good.inside.Notes.{IsLent, IsHead};
 
 use crate::good::attrs::find_attr;
 use crate::good::front::first;
-use crate::good::head::has_attributes;
 use crate::good::heads::{content_of, known_at, lacks};
 use crate::good::kids::Kids;
 use crate::good::notes::{Known, Note, own_note};
@@ -15,6 +14,7 @@ use std::marker::Model;
 use wap_base::Bytes;
 use wap_tokens::markup::{AttrName, Tag};
 use wap_tokens::tag_of;
+use wap_wbxml::has_attributes;
 
 /// A node of a good deck. A contract sees that node. What it lends lives as long as the deck is
 /// lent.
