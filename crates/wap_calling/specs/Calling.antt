@@ -1,12 +1,11 @@
--- What a program that calls the browser begins with: a session, and pages in memory. Beside it, what
--- is seen of a store of its own, and the keys of a line that is typed. This project's own.
+-- What a program that calls the browser begins with: a session, what is seen of a store of its own,
+-- and the keys of a line that is typed. This project's own.
 use Rattle.std.specs.Prelude.{◌≡◌, ℕ, List, [], ◌∷◌, Option, Some, None, Result, Ok, Err}
 use Rattle.wap_base.specs.declared.key.Key.{Key}
 use Rattle.wap_base.specs.Limits.{default_limits}
-use Rattle.wap_devices.specs.Stores.{StoreSeen, Answers, Held, Told}
+use Rattle.wap_devices.specs.Stores.{StoreSeen, Answers, Told}
 use Rattle.wap_keys.specs.declared.fault.KeyFault.{KeyFault}
 use Rattle.wap_keys.specs.Lines.{content_key}
-use Rattle.wap_world.specs.site.Pages.{Pages}
 use Rattle.wap_world.specs.site.Asking.{Seen}
 use Rattle.wap_world.specs.Sessions.{Begun}
 use Rattle.wap_context.specs.Sites.{IfOver}
@@ -18,18 +17,6 @@ use Rattle.wap_calling.specs.declared.typing.Typed.TheVariants.{Shown, Wrong}
 -- a session that is begun with these; its first key says which URL is opened
 abbrev pub begun : Begun
 begun = record { url = []; seed = SEED; budget = BUDGET; limits = default_limits }
-
--- no bytes stand below pages in memory, and so they can be no others; no cache is before them, and
--- no store behind them that could fail or be asked
-abbrev pub seen_of : Pages → Seen
-seen_of pages = record {
-  known = Held [];
-  judge = λ _. pages;
-  cache = None;
-  faults = 0;
-  fetches = 0;
-  listings = 0;
-}
 
 -- a page before those of a store
 pub record FrontState (S : Type 0) : Type 0 where

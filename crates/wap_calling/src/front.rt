@@ -1,6 +1,5 @@
 //! A store of one's own: what a caller owes to a cache of pages.
-ghost use Rattle.std.specs.Prelude.{◌≡◌, ◌≤◌, [], true, false, if◌then◌else◌, IfOk};
-ghost use Rattle.wap_base.specs.Count.{raised};
+ghost use Rattle.std.specs.Prelude.{◌≡◌, [], true, false, IfOk};
 ghost use Rattle.wap_base.specs.Texts.{is_same_text};
 ghost use Rattle.wap_devices.specs.Pages.{IsPage, IsSmall};
 ghost use Rattle.wap_devices.specs.Stores.{Fetches, Lists};
@@ -10,7 +9,7 @@ ghost use Rattle.wap_calling.specs.Calling.{seen_before};
 use std::alloc::Global;
 use std::marker::Model;
 use wap_base::{Bytes, Text};
-use wap_devices::{Fetched, Log, Store, StoreErr};
+use wap_devices::{Count, Fetched, Log, Store, StoreErr};
 
 /// A page in memory before those of a store. It keeps what it answered, which clauses alone see.
 #[derive(Drop)]
@@ -20,9 +19,9 @@ pub struct Front<S: Store> {
     page: Bytes,
     store: S,
     answers: Log<Text, Fetched>,
-    faults: u64,
-    fetches: u64,
-    listings: u64,
+    faults: Count,
+    fetches: Count,
+    listings: Count,
 }
 
 impl<S: Store> Model for Front<S> {
@@ -67,21 +66,9 @@ impl<S: Store> Front<S> {
             page,
             store,
             answers: Log::new(),
-            faults: 0,
-            fetches: 0,
-            listings: 0,
-        }
-    }
-
-    /// Counts a call that failed or didn't.
-    fn count(&mut self, failed: bool)
-        ensures faults { self.new.faults
-            ≡ (if failed then raised self.old.faults else self.old.faults) }
-        ensures ordered { self.old.faults ≤ self.new.faults }
-        ensures others { self.new ≡ record self.old { faults = self.new.faults } }
-    {
-        if failed {
-            self.faults = self.faults.saturating_add(1);
+            faults: Count::new(),
+            fetches: Count::new(),
+            listings: Count::new(),
         }
     }
 }
@@ -117,9 +104,9 @@ impl<S: Store> Store for Front<S> {
         ensures below { is_same_text self.old.name name.now ≡ false
             → Fetches name.now (S.seen self.old.store) (S.seen self.new.store) result }
     {
-        self.fetches = self.fetches.saturating_add(1);
+        self.fetches.add();
         let answer = answer(self.alloc, &self.name, &self.page, &mut self.store, name);
-        self.count(answer.is_err());
+        self.faults.add_if(answer.is_err());
         if let Ok(found) = &answer {
             self.answers = self.answers.and(name, found);
         }
@@ -130,8 +117,8 @@ impl<S: Store> Store for Front<S> {
     fn list(&mut self) -> Result<Vec<Text>, StoreErr>
         ensures { Lists (λ names. names.items) (seen_before self.old) (seen_before self.new) result }
     {
-        self.listings = self.listings.saturating_add(1);
-        self.faults = self.faults.saturating_add(1);
+        self.listings.add();
+        self.faults.add();
         Err(StoreErr::Failed)
     }
 }

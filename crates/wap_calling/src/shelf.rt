@@ -3,8 +3,7 @@ ghost use Rattle.std.specs.Prelude.{◌≡◌, [], ◌∷◌, IfOk, OnOk, IfErr,
 ghost use Rattle.std.specs.Option.{option_copied};
 ghost use Rattle.wap_world.specs.site.Pages.{Pages as JudgedPages, page_under, page_of};
 ghost use Rattle.wap_world.specs.site.Pages.{AreSitePages};
-ghost use Rattle.wap_world.specs.site.Asking.{MayBe, Stays, Asks, Fails};
-ghost use Rattle.wap_calling.specs.Calling.{seen_of};
+ghost use Rattle.wap_world.specs.site.Asking.{MayBe, Stays, Asks, Fails, in_memory};
 
 use std::alloc::Global;
 use std::marker::Model;
@@ -64,20 +63,20 @@ fn answer(pages: &[(Text, Page)], name: &Text) -> Result<Page, NoMemory>
 }
 
 impl Pages for Shelf {
-    ghost seen = { seen_of };
+    ghost seen = { in_memory };
 
     fn page(&mut self, _alloc: Global, name: &Text, fresh: bool) -> Result<Page, RunErr>
-        ensures found { IfOk result (λ page. (pages : JudgedPages) → MayBe (seen_of self.new) pages
+        ensures found { IfOk result (λ page. (pages : JudgedPages) → MayBe (in_memory self.new) pages
             → page ≡ page_of name.now pages) }
-        ensures site { (pages : JudgedPages) → MayBe (seen_of self.new) pages
+        ensures site { (pages : JudgedPages) → MayBe (in_memory self.new) pages
             → AreSitePages pages }
         ensures same { self.new ≡ self.old }
         ensures never { IfErr result (λ fault. fault ≡ RunErr.NoMemory) }
         ensures asks { OnOk result
-            (Asks ((name.now, fresh) ∷ []) (seen_of self.old) (seen_of self.new)) }
+            (Asks ((name.now, fresh) ∷ []) (in_memory self.old) (in_memory self.new)) }
         ensures failed { IsErrOf result RunErr.Store
-            → Fails ((name.now, fresh) ∷ []) (seen_of self.old) (seen_of self.new) }
-        ensures stays { Stays (seen_of self.old) (seen_of self.new) }
+            → Fails ((name.now, fresh) ∷ []) (in_memory self.old) (in_memory self.new) }
+        ensures stays { Stays (in_memory self.old) (in_memory self.new) }
     {
         Ok(answer(self.pages.as_slice(), name)?)
     }

@@ -5,6 +5,7 @@ use crate::values::{give_value, values};
 use std::alloc::Global;
 use wap_base::{Limits, Shared, Text};
 use wap_casebook::{Call, CaseFault};
+use wap_devices::Count;
 use wap_machine::{Machine, Outcome};
 use wap_url::Url;
 use wap_value::Value;
@@ -21,7 +22,7 @@ fn give_outcome(call: &mut Call, outcome: &Outcome) {
 
 /// Runs a machine, and gives what it came to, or why it failed.
 fn play(call: &mut Call, machine: Machine, host: &mut SmallHost) {
-    match machine.run(host, &mut FailingPages { asked: 0 }) {
+    match machine.run(host, &mut FailingPages { asked: Count::new() }) {
         Ok(outcome) => give_outcome(call, &outcome),
         Err(fault) => call.give_named(&fault),
     }

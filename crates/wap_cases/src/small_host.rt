@@ -8,6 +8,7 @@ ghost use Rattle.wap_cases.specs.Small.{callable, unit_at};
 
 use std::alloc::Global;
 use wap_base::{RunErr, Shared, Text};
+use wap_devices::Count;
 use wap_execution::{Fatal, Found, HostOut};
 use wap_machine::Host;
 use wap_url::Url;
@@ -41,7 +42,7 @@ impl SmallHost {
 /// Pages that fail wherever they are asked, and count that.
 #[derive(Drop)]
 pub struct FailingPages {
-    pub asked: u64,
+    pub asked: Count,
 }
 
 /// The library WMLBrowser, whose functions ask the pages.
@@ -139,7 +140,7 @@ impl Host<FailingPages> for SmallHost {
         arguments: Vec<Value>,
     ) -> Result<HostOut, RunErr> {
         if library == ASKS_PAGES {
-            pages.asked = pages.asked.saturating_add(1);
+            pages.asked.add();
             return Err(RunErr::Store);
         }
         Ok(HostOut::Value(Value::Invalid))

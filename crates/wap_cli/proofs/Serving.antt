@@ -27,7 +27,7 @@ use Rattle.wap_cli.specs.Answers.{IsReasonOf, Answers, page_of}
 use Rattle.wap_cli.specs.Memory.{is_of_memory}
 use Rattle.wap_cli.specs.Writing.{Writes}
 use Rattle.wap_cli.proofs.Writing.{writes_unrefused}
-use Rattle.wap_cli.specs.Devices.{Devices, uncached, around}
+use Rattle.wap_cli.specs.Devices.{Devices, uncached}
 use Rattle.wap_cli.specs.Headline.{begun_by, each_begun_by, ServesTo, Serves, ServesUnread, Runs}
 use Rattle.wap_cli.proofs.Sourcing.{browses_over}
 use Rattle.wap_cli.proofs.SourcedSessions.{images_over, resumes_over}
@@ -68,7 +68,7 @@ nothing_runs (Some (Make n)) old =
     record { makes = Writes.no_memory refl; unasked = refl; unread = refl }
 nothing_runs (Some (Replay one)) old =
     replays_over (each_begun_by one) old old NoMemory
-    (nothing_replayed (each_begun_by one) (around old))
+    (nothing_replayed (each_begun_by one) old)
 
 -- ---- what the store answered
 

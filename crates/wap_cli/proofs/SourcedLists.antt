@@ -7,7 +7,7 @@ use Rattle.wap_world.specs.Sessions.{Begun}
 use Rattle.wap_cli.specs.declared.status.Status.{Status}
 use Rattle.wap_cli.specs.replay.Headline.{IsSiteOf, ReplaysSeen}
 use Rattle.wap_cli.proofs.ReplayLemmas.Over.{replays_too}
-use Rattle.wap_cli.specs.Devices.{Devices, around}
+use Rattle.wap_cli.specs.Devices.{Devices}
 use Rattle.wap_cli.specs.Replaying.{IsSiteOver, ReplaysOver}
 use Rattle.wap_cli.proofs.Calling.{site_units}
 
@@ -18,7 +18,7 @@ site_of_units store site (one, (contents, agrees, are, reads), is) =
 
 -- replaying over units is replaying over sources
 pub replays_over : (begun : Begun) (old new : Devices) (status : Status)
-    → ReplaysSeen begun (around old) (around new) status → ReplaysOver begun old new status
+    → ReplaysSeen begun old new status → ReplaysOver begun old new status
 replays_over begun old new status so =
     replays_too (IsSiteOf new.store) (IsSiteOver new.store) (site_of_units new.store) begun
-    (around old) (around new) status so
+    old new status so

@@ -12,7 +12,8 @@ use Rattle.wap_cli.specs.declared.status.Status.{Status}
 use Rattle.wap_cli.specs.browse.Outside.{Outside}
 use Rattle.wap_cli.specs.browse.Plays.{AreUnitPages as AreSeen}
 use Rattle.wap_cli.specs.browse.Headline.{Browses}
-use Rattle.wap_cli.specs.resume.Saving.{opened_at, unshown, EndsAt, IsWhole, Images, ImagesSeen}
+use Rattle.wap_cli.specs.resume.Saving.{opened_at, nothing_dropped, unshown, EndsAt, IsWhole, Images}
+use Rattle.wap_cli.specs.resume.Saving.{ImagesSeen}
 use Rattle.wap_cli.specs.resume.Resuming.{resumed_at, asked_once, GoesOn, Resumes, ResumesSeen}
 use Rattle.wap_cli.specs.Devices.{Devices, uncached}
 use Rattle.wap_cli.specs.Browsing.{ArePagesAndCalls, source_site}
@@ -44,7 +45,7 @@ module _ {P Q : Type 0} (Are : P → Type 0) (site : P → Site) (AreToo : Q →
   images_too begun old new status so = record {
     dropped = so.dropped;
     end = so.end;
-    plays = plays_too (opened_at begun) (unshown [] old) (unshown so.dropped new) so.end so.plays;
+    plays = plays_too (opened_at begun) (unshown nothing_dropped old) (unshown so.dropped new) so.end so.plays;
     stops = so.stops;
     parts = so.parts;
     ends_in = λ is bytes may.

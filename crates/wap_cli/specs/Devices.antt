@@ -5,7 +5,6 @@ use Rattle.wap_devices.specs.Sources.{SourceSeen}
 use Rattle.wap_devices.specs.Sinks.{SinkSeen}
 use Rattle.wap_pages.specs.Caches.{seen_over}
 use Rattle.wap_cli.specs.browse.Outside.{Outside}
-use Rattle.wap_cli.specs.replay.Outside.{Outside as Around}
 
 -- where pages come from, where keys come from, and where lines are written to
 pub record Devices : Type 0 where
@@ -20,8 +19,3 @@ uncached capacity devices = record {
   source = devices.source;
   sink = devices.sink;
 }
-
--- as sessions see them that are replayed
-abbrev pub around : Devices → Around
-around devices =
-    record { store = devices.store; source = devices.source; sink = devices.sink }

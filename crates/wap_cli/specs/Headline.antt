@@ -1,6 +1,5 @@
 -- What a run comes to, by its command. This project's own.
-use Rattle.std.specs.Prelude.{◌≡◌, ◌⊎◌, ℕ, ◌≤◌, false, List, Option, Some, None}
-use Rattle.wap_base.specs.Count.{raised, Rose}
+use Rattle.std.specs.Prelude.{◌≡◌, ◌⊎◌, ℕ, ◌≤◌, false, List, Option, Some, None, ◌<◌, ◌+◌}
 use Rattle.wap_devices.specs.Stores.{StoreSeen, Grew}
 use Rattle.wap_devices.specs.Sinks.{SinkSeen}
 use Rattle.wap_pages.specs.declared.fault.PageFault.{PageFault}
@@ -38,11 +37,11 @@ pub data ServesTo (command : PageCommand) (name : List ℕ) (store store_after :
   -- it did its work on some page, which is that of the name in any pages that may be the store's
   answered : (status : Status) (page : Option (List ℕ))
       → IsPageOf store_after.known name page → Answers command page sink sink_after status
-      → store_after.faults ≡ store.faults → store_after.fetches ≡ raised store.fetches
+      → store_after.faults ≡ store.faults → store_after.fetches ≡ store.fetches + 1
       → ServesTo command name store store_after sink sink_after status
   -- the store failed, and nothing was written
-  store_fault : Rose store.faults store_after.faults
-      → store_after.fetches ≡ raised store.fetches → sink_after ≡ sink
+  store_fault : store.faults < store_after.faults
+      → store_after.fetches ≡ store.fetches + 1 → sink_after ≡ sink
       → ServesTo command name store store_after sink sink_after StoreFault
   -- memory ran out, and nothing was written
   no_memory : sink_after ≡ sink
@@ -56,7 +55,7 @@ pub record Serves (command : PageCommand) (name : List ℕ) (store store_after :
   pub of_reason : (fault : PageFault) → status ≡ Refused fault → is_of_memory fault ≡ false
   -- one page is asked for at most, and no names
   pub once : (store_after.fetches ≡ store.fetches)
-      ⊎ (store_after.fetches ≡ raised store.fetches)
+      ⊎ (store_after.fetches ≡ store.fetches + 1)
   pub listings : store_after.listings ≡ store.listings
   -- what is known of the pages only grows, however it ends
   pub kept : Grew store.known store_after.known

@@ -8,7 +8,7 @@ use Rattle.wap_world.specs.Sessions.{Begun}
 use Rattle.wap_cli.specs.declared.status.Status.{Status}
 use Rattle.wap_cli.specs.replay.Headline.{Replays}
 use Rattle.wap_cli.specs.Browsing.{PagesAndCalls, ArePagesAndCalls, source_site}
-use Rattle.wap_cli.specs.Devices.{Devices, around}
+use Rattle.wap_cli.specs.Devices.{Devices}
 
 -- the site of pages that the contents of a store may be
 abbrev pub IsSiteOver : StoreSeen → Site → Type 0
@@ -19,4 +19,4 @@ IsSiteOver store site =
 -- before and after, and the status
 abbrev pub ReplaysOver : Begun → Devices → Devices → Status → Type 0
 ReplaysOver begun old new status =
-    Replays (IsSiteOver new.store) begun (around old) (around new) status
+    Replays (IsSiteOver new.store) begun old new status

@@ -1,6 +1,5 @@
 -- What is written of a text, by the status with which that ends. This project's own.
-use Rattle.std.specs.Prelude.{◌≡◌, ℕ, ◌≤◌, List}
-use Rattle.wap_base.specs.Count.{Rose}
+use Rattle.std.specs.Prelude.{◌≡◌, ℕ, ◌≤◌, List, ◌<◌}
 use Rattle.wap_devices.specs.Sinks.{SinkSeen}
 use Rattle.wap_devices.specs.Transfer.{Appends, AppendsPrefix}
 use Rattle.wap_cli.specs.declared.status.Status.{Status}
@@ -15,7 +14,7 @@ pub data Writes (Tells : (List ℕ → Type 0) → Type 0) (before after : SinkS
         → Writes Tells before after Done
     -- a prefix of it, where the sink failed
     write_fault : Tells (AppendsPrefix before.taken after.taken)
-        → Rose before.faults after.faults → before.faults ≤ after.faults
+        → before.faults < after.faults → before.faults ≤ after.faults
         → Writes Tells before after WriteFault
     -- nothing, where memory ran out
     no_memory : after ≡ before → Writes Tells before after NoMemory

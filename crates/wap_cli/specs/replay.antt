@@ -1,4 +1,3 @@
-pub mod Outside
 pub mod Texts
 pub mod Headline
 pub mod inside

@@ -1,6 +1,5 @@
 //! What a folder's pages are judged, side by side, and the report of it.
 
-mod draft;
 mod fetching;
 mod job;
 mod judging;

@@ -2,7 +2,6 @@ pub mod ScriptLineWords
 pub mod Places
 pub mod Standing
 pub mod Plays
-pub mod Missing
 pub mod Arrivals
 pub mod HeldDecks
 pub mod Rules

@@ -9,7 +9,7 @@ use Rattle.wap_base.specs.declared.fault.RunErr.TheVariants.{Store, NoMemory}
 use Rattle.wap_base.specs.declared.key.Key.{Key}
 use Rattle.wap_cardrules.specs.declared.event.Event.TheVariants as event
 use Rattle.wap_cardrules.specs.declared.task.Task.{Task}
-use Rattle.wap_world.specs.site.Asking.{Seen}
+use Rattle.wap_world.specs.site.Asking.{Seen, Fails}
 use Rattle.wap_world.proofs.SiteLemmas.Asking.{Asks-nil, Stays-same}
 use Rattle.wap_world.specs.declared.timer.Timer.{Timer}
 use Rattle.wap_world.specs.declared.timer.Timer.TheVariants.{Running}
@@ -29,7 +29,6 @@ use Rattle.wap_context.specs.declared.waiting.Step.{Step as Did}
 use Rattle.wap_context.specs.declared.waiting.Step.TheVariants.{Settled as Done}
 use Rattle.wap_context.specs.Browsers.{Browser, IsOver, place_held}
 use Rattle.wap_context.specs.Sites.{site_of}
-use Rattle.wap_context.specs.Missing.{Missed}
 use Rattle.wap_context.specs.Acting.{tick}
 use Rattle.wap_context.specs.inside.AtHand.{event_at}
 use Rattle.wap_context.specs.inside.Moving.{PlaysAt, next_in, waits_in, pursued, Ends, Pursues}
@@ -67,7 +66,7 @@ pursues_from rule other seen after old new before result is so = record {
       so.follows;
   steady = so.steady;
   missed = λ failed. over_map after old old (λ pages over. over)
-      (λ pages over missed. subst (λ (s : Step). Missed s.asked seen after) (is pages over [])
+      (λ pages over missed. subst (λ (s : Step). Fails s.asked seen after) (is pages over [])
       missed) (so.missed failed);
   rose = so.rose;
   stays = so.stays;

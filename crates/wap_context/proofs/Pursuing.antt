@@ -5,12 +5,11 @@ use Rattle.std.proofs.Common.{append-nil, arith}
 use Rattle.std.specs.Prelude.{Result, IfSome, IfOk, OnOk, is_some, ◌||◌}
 use Rattle.wap_base.specs.declared.fault.RunErr.{RunErr}
 use Rattle.wap_base.specs.declared.fault.RunErr.TheVariants.{Store}
-use Rattle.wap_base.specs.Count.{Rose}
 use Rattle.wap_url.specs.declared.url.Url.{Url}
 use Rattle.wap_base.specs.declared.key.Key.{Key}
 use Rattle.wap_execution.specs.declared.dialog.Dialog.{Dialog}
 use Rattle.wap_cardrules.specs.declared.task.Task.{Task}
-use Rattle.wap_world.specs.site.Asking.{Seen, Stays, Asks}
+use Rattle.wap_world.specs.site.Asking.{Seen, Stays, Asks, Fails}
 use Rattle.wap_world.specs.site.Misses.{Asked as Question}
 use Rattle.wap_world.proofs.SiteLemmas.Asking.{Asks-nil, Asks-then, Stays-same, Stays-then}
 use Rattle.wap_world.specs.World.{World}
@@ -31,12 +30,11 @@ use Rattle.wap_context.specs.declared.waiting.Step.{Step as Did}
 use Rattle.wap_context.specs.declared.waiting.Step.TheVariants.{Settled as Done, Asks as Waiting}
 use Rattle.wap_context.specs.Browsers.{Browser, IsOver}
 use Rattle.wap_context.specs.Pausing.{Paused, waits_of}
-use Rattle.wap_context.specs.Missing.{Missed}
 use Rattle.wap_context.specs.Sites.{fragment_call, site_of, IfOver}
 use Rattle.wap_context.specs.Acting.{lines_in, waiting_in, fed_of, Follows, Acts}
 use Rattle.wap_context.specs.inside.Moving.{next_in, waits_in, Goes, Takes, Spends, pursued}
 use Rattle.wap_context.specs.inside.Moving.{Ends, Pursues}
-use Rattle.wap_context.proofs.Missing.{Asks-missed, Missed-more}
+use Rattle.wap_world.proofs.SiteLemmas.Failing.{Asks-fails, Fails-more}
 use Rattle.wap_context.proofs.Plays.{on_ok}
 use Rattle.wap_context.proofs.Takings.{Rule, over_map, both_told}
 
@@ -256,8 +254,8 @@ went_err err is = cc
 fails_behind : (pages : Pages) (rule : List Key → Step) (seen now after : Seen) (b : Browser)
     (before shown : List Line) (task : Task) (from : Option Url) → Stays now after
     → Behind pages rule seen now b before shown (Leads task from)
-    → Missed (Tasks task from pages [] b.world).step.asked now after
-    → Missed (rule []).asked seen after
+    → Fails (Tasks task from pages [] b.world).step.asked now after
+    → Fails (rule []).asked seen after
 fails_behind pages rule seen now after b before shown task from stays behind missed =
     let next : Next = record { task = task; from = from } in
     let once = Tasks task from pages [] b.world in
@@ -268,9 +266,9 @@ fails_behind pages rule seen now after b before shown task from stays behind mis
     (sym behind.world)
     ∙ ap (λ (s : Step). behind.step.asked ++ s.asked) (act_is pages [] b.world next)
     ∙ ap (λ (a : List Question). behind.step.asked ++ a) rest.1 in
-    subst (λ (a : List Question). Missed a seen after) (sym whole)
-    (Asks-missed behind.step.asked (once.step.asked ++ rest.0) seen now after stays behind.asks
-    (Missed-more once.step.asked rest.0 now after missed))
+    subst (λ (a : List Question). Fails a seen after) (sym whole)
+    (Asks-fails behind.step.asked (once.step.asked ++ rest.0) seen now after behind.asks
+    (Fails-more once.step.asked rest.0 now after missed))
 
 pub fails : (rule : StepRule) (seen now after : Seen) (old b new : Browser)
     (before shown more : List Line) (went : Went) (task : Task) (from : Option Url) (err : RunErr)
@@ -285,13 +283,13 @@ fails rule seen now after old b new before shown more went task from err is so_f
       missed = λ failed. both_told now after old b
           {P = λ pages. Behind pages (λ keys. rule pages keys old.world) seen now b before shown
           (Leads task from)}
-          {Q = λ pages. Missed (Tasks task from pages [] b.world).step.asked now after}
+          {Q = λ pages. Fails (Tasks task from pages [] b.world).step.asked now after}
           takes.stays (λ pages behind. behind.over)
           (λ pages behind missed.
           fails_behind pages (λ keys. rule pages keys old.world) seen now after b before shown task
           from takes.stays behind missed)
           done.follows (takes.missed (went_err err failed));
-      rose = λ failed. subst (λ (k : ℕ). Rose k after.faults) done.steady
+      rose = λ failed. subst (λ (k : ℕ). k < after.faults) done.steady
           (takes.rose (went_err err failed));
       stays = Stays-then seen now after done.stays takes.stays;
     }
@@ -374,13 +372,13 @@ then_ok rule seen now after old mid new before shown went (Err err) first stays 
 missed_after : (pages : Pages) (rule : List Key → Step) (seen now after : Seen) (mid : Browser)
     (before shown : List Line) (went : Went) → Stays now after
     → Behind pages rule seen now mid before shown went
-    → Missed (pursued went pages [] mid.world).asked now after → Missed (rule []).asked seen after
+    → Fails (pursued went pages [] mid.world).asked now after → Fails (rule []).asked seen after
 missed_after pages rule seen now after mid before shown went stays first missed =
     let whole : (rule []).asked ≡ first.step.asked ++ (pursued went pages [] mid.world).asked =
     ap (λ (s : Step). s.asked) (first.on [])
     ∙ ap (λ (w : World). first.step.asked ++ (pursued went pages [] w).asked) (sym first.world) in
-    subst (λ (a : List Question). Missed a seen after) (sym whole)
-    (Asks-missed first.step.asked (pursued went pages [] mid.world).asked seen now after stays
+    subst (λ (a : List Question). Fails a seen after) (sym whole)
+    (Asks-fails first.step.asked (pursued went pages [] mid.world).asked seen now after
     first.asks missed)
 
 -- what is left to do is done
@@ -396,12 +394,12 @@ pursues_after rule seen now after old mid new before shown went result first sec
       second.steady;
   missed = λ failed. both_told now after old mid
       {P = λ pages. Behind pages (λ keys. rule pages keys old.world) seen now mid before shown went}
-      {Q = λ pages. Missed (pursued went pages [] mid.world).asked now after}
+      {Q = λ pages. Fails (pursued went pages [] mid.world).asked now after}
       second.stays (λ pages behind. behind.over)
       (λ pages behind missed. missed_after pages (λ keys. rule pages keys old.world) seen now after
       mid before shown went second.stays behind missed)
       first.follows (second.missed failed);
-  rose = λ failed. subst (λ (k : ℕ). Rose k after.faults) first.steady (second.rose failed);
+  rose = λ failed. subst (λ (k : ℕ). k < after.faults) first.steady (second.rose failed);
   stays = Stays-then seen now after first.stays second.stays;
 }
 
@@ -428,8 +426,8 @@ taken_err rule seen now old mid before shown err takes = record {
       (λ pages over missed.
       let once = rule pages [] old.world in
       let rest = asked_by (act (site_of pages)) once.step once.next in
-      subst (λ (a : List Question). Missed a seen now) (sym rest.1)
-      (Missed-more once.step.asked rest.0 seen now missed)) (takes.missed (went_err err failed));
+      subst (λ (a : List Question). Fails a seen now) (sym rest.1)
+      (Fails-more once.step.asked rest.0 seen now missed)) (takes.missed (went_err err failed));
   rose = λ failed. takes.rose (went_err err failed);
   stays = takes.stays;
 }

@@ -14,7 +14,7 @@ use Rattle.wap_world.specs.declared.site.page.Page.{Page}
 use Rattle.wap_world.specs.declared.site.page.Page.TheVariants as page
 use Rattle.wap_world.specs.site.Pages.{Pages as JudgedPages, page_of, AreSitePages}
 use Rattle.wap_world.specs.site.Misses.{Asked as Question}
-use Rattle.wap_world.specs.site.Asking.{Seen, MayBe, Asks}
+use Rattle.wap_world.specs.site.Asking.{Seen, MayBe, Asks, Fails}
 use Rattle.wap_world.proofs.SiteLemmas.Asking.{Asks-nil, Stays-same}
 use Rattle.wap_world.specs.declared.history.Entry.{Entry}
 use Rattle.wap_world.specs.World.{World, last_entry, deck_at, deck_in}
@@ -26,7 +26,6 @@ use Rattle.wap_state.specs.Saved.{saved_world}
 use Rattle.wap_context.specs.declared.saved.Revived.{Revived}
 use Rattle.wap_context.specs.declared.saved.Revived.TheVariants.{Context}
 use Rattle.wap_context.specs.Browsers.{Browser, IsOver}
-use Rattle.wap_context.specs.Missing.{Missed}
 use Rattle.wap_context.specs.Saved.{with_last_in, revived_on, revived, asked_for, StandsOver}
 use Rattle.wap_context.specs.Saved.{IsRevived, Revives}
 use Rattle.wap_context.specs.inside.Reviving.{AsksPage, IsReturned, Returns}
@@ -197,7 +196,7 @@ module _ (parts : ContextParts) (last : Entry) (is : last_entry (saved_world par
         returns.asks;
     failed = λ e. (returns.missed e).rose;
     missed =
-        subst (λ (asked : List Question). result ≡ Err Store → Missed asked before after)
+        subst (λ (asked : List Question). result ≡ Err Store → Fails asked before after)
         (sym asked_is) returns.missed;
     stays = returns.stays;
   }

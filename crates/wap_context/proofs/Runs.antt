@@ -1,14 +1,12 @@
 -- A machine that runs over pages comes to what the definitions say.
-use Rattle.std.proofs.Common.{◌≡◌, ◌∙◌, ◌⊎◌, inl, inr, ◌≤◌, ◌<◌, ◌+◌, zero, suc, ℕ, Bool, false}
+use Rattle.std.proofs.Common.{◌≡◌, ◌∙◌, inl, inr, ◌≤◌, ◌<◌, ◌+◌, ℕ, Bool, false}
 use Rattle.std.proofs.Common.{List, [], ◌∷◌, ◌++◌, Option, Some, None, Ok, Err, refl, sym, ap, ap₂}
 use Rattle.std.proofs.Common.{subst, arith, append_assoc, append-nil}
-use Rattle.std.proofs.lemmas.Bool.{cases_lt}
-use Rattle.std.specs.Prelude.{Result, IfSome, min, unwrap_or, if◌then◌else◌, ◌||◌}
+use Rattle.std.specs.Prelude.{Result, IfSome, unwrap_or, if◌then◌else◌, ◌||◌}
 use Rattle.std.specs.Option.{option_map, option_and_then}
 use Rattle.wap_base.specs.declared.fault.RunErr.{RunErr}
 use Rattle.wap_base.specs.declared.fault.RunErr.TheVariants.{Store}
 use Rattle.wap_base.specs.declared.limits.Limits.{Limits}
-use Rattle.wap_base.specs.Count.{greatest_count, raised, Rose}
 use Rattle.wap_url.specs.declared.url.Url.{Url}
 use Rattle.wap_base.specs.declared.key.Key.{Key}
 use Rattle.wap_execution.specs.Outcomes.{Outcome as Meant, fatal, waits, Ended}
@@ -20,8 +18,7 @@ use Rattle.wap_machine.specs.declared.machine.Outcome.{Outcome}
 use Rattle.wap_world.specs.site.Pages.{Pages as JudgedPages}
 use Rattle.wap_world.specs.site.Misses.{Cache, Asked as Question, is_miss, after_asking, after_all}
 use Rattle.wap_world.specs.site.Misses.{misses}
-use Rattle.wap_world.specs.site.Asking.{Seen, MayBe, raised_by, RaisedWithin, Stays, Asks}
-use Rattle.wap_world.proofs.SiteLemmas.Counts.{raised_by-then}
+use Rattle.wap_world.specs.site.Asking.{Seen, MayBe, RoseBy, Stays, Asks, Fails}
 use Rattle.wap_world.specs.declared.history.Entry.{Entry}
 use Rattle.wap_world.specs.World.{World, Place, place_now, deck_at, last_entry}
 use Rattle.wap_world.specs.Steps.{Step, Once, quiet, after_step}
@@ -39,11 +36,10 @@ use Rattle.wap_world.proofs.Hosts.Runs.{parts_of, moved_alike, finished_holds}
 use Rattle.wap_world.proofs.ScriptingLawsLemmas.Runs.{starts}
 use Rattle.wap_world.proofs.ScriptingLawsLemmas.Viewing.{views_run_alike}
 use Rattle.wap_state.specs.Scenes.{Line}
-use Rattle.wap_context.specs.host.Stages.{Stage, told, counted_in, count_of, fetched_in}
+use Rattle.wap_context.specs.host.Stages.{Stage, told, counted_in, fetched_in}
 use Rattle.wap_context.specs.declared.waiting.Went.{Went}
 use Rattle.wap_context.specs.Browsers.{Browser, IsOver, place_held}
-use Rattle.wap_context.specs.Missing.{Missed}
-use Rattle.wap_context.proofs.Missing.{Missed-more}
+use Rattle.wap_world.proofs.SiteLemmas.Failing.{Fails-more}
 use Rattle.wap_context.specs.inside.Moving.{Moves, Goes, Takes, next_in, waits_in}
 use Rattle.wap_context.specs.inside.Starting.{run_of, run_with, CameTo, RunsTo, end_at, waits_by}
 use Rattle.wap_context.proofs.Places.{held_now}
@@ -72,15 +68,16 @@ counted_is : (asked : List Question) (cache : Cache) (fetches : ℕ)
     → counted_all asked (Some (record { cache = cache; fetches = fetches }))
     ≡ Some (record {
       cache = after_all asked cache;
-      fetches = raised_by (misses asked cache) fetches;
+      fetches = fetches + misses asked cache;
     })
-counted_is [] cache fetches = refl
+counted_is [] cache fetches =
+    ap (λ (n : ℕ). Some (record { cache = cache; fetches = n })) (omega arith)
 counted_is (one ∷ others) cache fetches =
     let some = if is_miss one cache then 1 else 0 in
     let kept = after_asking one cache in
-    counted_is others kept (raised_by some fetches)
+    counted_is others kept (fetches + some)
     ∙ ap (λ (n : ℕ). Some (record { cache = after_all others kept; fetches = n }))
-    (sym (raised_by-then some (misses others kept) fetches))
+    (omega arith)
 
 counted_none : (asked : List Question) → counted_all asked None ≡ None
 counted_none [] = refl
@@ -97,13 +94,13 @@ some_none c same = absurd (cc)
 cache_by : (asked : List Question) (x y : Option Cache) (k l : ℕ)
     → counted_by y l ≡ counted_all asked (counted_by x k)
     → (y ≡ option_map (after_all asked) x)
-    × IfSome x (λ cache. l ≡ raised_by (misses asked cache) k)
+    × IfSome x (λ cache. l ≡ k + misses asked cache)
 cache_by asked None None k l is = (refl, tt)
 cache_by asked None (Some d) k l is =
     absurd (some_none (record { cache = d; fetches = l }) (is ∙ counted_none asked))
 cache_by asked (Some c) None k l is = absurd (some_none (record {
   cache = after_all asked c;
-  fetches = raised_by (misses asked c) k;
+  fetches = k + misses asked c;
 }) (sym (is ∙ counted_is asked c k)))
 cache_by asked (Some c) (Some d) k l is =
     let same = is ∙ counted_is asked c k in
@@ -120,45 +117,16 @@ asks_by asked seen after steady is =
 
 -- ---- a store that failed
 
--- a count by how often it was raised
-raised_is : (more count : ℕ) → count ≤ greatest_count
-    → raised_by more count ≡ min (count + more) greatest_count
-raised_is zero count low = omega (arith, low)
-raised_is (suc more) count low =
-    let so = raised_is more (raised count) (omega (arith, low)) in omega (arith, so, low)
-
-found_within : (most k before after : ℕ) → before < greatest_count → after ≡ raised_by k before
-    → raised (count_of before) ≤ count_of after
-    → count_of after ≤ count_of (raised_by most before)
-    → (most < k) ⊎ (k ≤ most) → RaisedWithin most before after
-found_within most k before after low is rose few (inr within) =
-    let at = raised_is k before (omega (arith, low)) in record {
-      more = k;
-      some = omega (arith, low, is, rose, at);
-      few = within;
-      count = is;
-    }
-found_within most k before after low is rose few (inl past) =
-    let at = raised_is k before (omega (arith, low)) in
-    let top = raised_is most before (omega (arith, low)) in record {
-      more = most;
-      some = omega (arith, low, is, rose, few, at, top, past);
-      few = omega arith;
-      count = omega (arith, low, is, few, at, top, past);
-    }
-
-missed_by : (asked : List Question) (cache : Option Cache) (end : View) (k l more : ℕ)
-    → end.counted ≡ counted_all asked (counted_by cache k) → l ≡ raised_by more k
-    → Fetches (option_map (λ (c : Counted). count_of c.fetches) (counted_by cache k)) (count_of l)
-    (fetched_in end)
-    → IfSome cache (λ one. k < greatest_count → RaisedWithin (misses asked one) k l)
-missed_by asked None end k l more is grew so = tt
-missed_by asked (Some cache) end k l more is grew so = λ low.
-    let most = misses asked cache in
-    found_within most more k l low grew so.0
-    (subst (λ (o : Option Counted).
-    AtMost (count_of l) (option_map (λ (c : Counted). count_of c.fetches) o))
-    (is ∙ counted_is asked cache k) so.1) (cases_lt most more)
+missed_by : (asked : List Question) (cache : Option Cache) (end : View) (k l : ℕ)
+    → end.counted ≡ counted_all asked (counted_by cache k)
+    → Fetches (option_map (λ (c : Counted). c.fetches) (counted_by cache k)) l (fetched_in end)
+    → IfSome cache (λ one. RoseBy (misses asked one) k l)
+missed_by asked None end k l is so = tt
+missed_by asked (Some cache) end k l is so = (
+  so.0,
+  subst (λ (o : Option Counted). AtMost l (option_map (λ (c : Counted). c.fetches) o))
+      (is ∙ counted_is asked cache k) so.1,
+)
 
 -- ---- over known pages
 
@@ -235,13 +203,13 @@ module _ (machine : Stack) (first : List Line) (seen after : Seen) (old : Browse
               ∙ over ∙ sym (ap (λ (b : Browser). b.deck) new_is ∙ ap (λ (v : View). v.deck) same);
         }
 
-    missed_at : Stays seen after → Rose seen.faults after.faults
-        → Fetches (fetched_in view) (count_of after.fetches) (fetched_in seen_end.state)
-        → Missed end.state.asked seen after
-    missed_at stays rose so = record {
+    missed_at : seen.faults < after.faults
+        → Fetches (fetched_in view) after.fetches (fetched_in seen_end.state)
+        → Fails end.state.asked seen after
+    missed_at rose so = record {
       rose = rose;
       fetches = missed_by end.state.asked seen.cache seen_end.state seen.fetches after.fetches
-          stays.fetches.0 (ap (λ (v : View). v.counted) both_ends.state.is) stays.fetches.1 so;
+          (ap (λ (v : View). v.counted) both_ends.state.is) so;
     }
 
   -- what is known of the machine that ran
@@ -279,9 +247,9 @@ module _ (machine : Stack) (first : List Line) (seen after : Seen) (old : Browse
   store_of err is = cc
 
   pub runs_err : (new : Browser) (err : RunErr) (begun : Stage) → begun ≡ begins
-      → Stays seen after → (err ≡ Store → Rose seen.faults after.faults)
+      → Stays seen after → (err ≡ Store → seen.faults < after.faults)
       → (err ≡ Store → (judged : JudgedPages) → MayBe after judged
-      → Fetches (fetched_in (told begun seen judged)) (count_of after.fetches)
+      → Fetches (fetched_in (told begun seen judged)) after.fetches
       (fetched_in (machine_run machine viewing begun.turns (told begun seen judged)).state))
       → RunsTo machine first seen after old new (Err err)
   runs_err new err begun begun_is stays rose so = record {
@@ -289,8 +257,8 @@ module _ (machine : Stack) (first : List Line) (seen after : Seen) (old : Browse
     steady = tt;
     missed = λ failed judged may over.
         let store = store_of err failed in
-        missed_at (unit_pages judged) over stays (rose store)
-        (subst (λ (s : Stage). Fetches (fetched_in (told s seen judged)) (count_of after.fetches)
+        missed_at (unit_pages judged) over (rose store)
+        (subst (λ (s : Stage). Fetches (fetched_in (told s seen judged)) after.fetches
         (fetched_in (machine_run machine viewing s.turns (told s seen judged)).state)) begun_is
         (so store judged may));
     rose = λ failed. rose (store_of err failed);
@@ -422,8 +390,8 @@ ran_err machine base first seen after old new start shown err runs = record {
   missed = λ failed judged may over.
       let pages = unit_pages judged in
       let rest = run_asks machine base first pages old in
-      subst (λ (a : List Question). Missed a seen after) (sym rest.1)
-      (Missed-more (run_of machine first pages old.world).state.asked rest.0 seen after
+      subst (λ (a : List Question). Fails a seen after) (sym rest.1)
+      (Fails-more (run_of machine first pages old.world).state.asked rest.0 seen after
       (runs.missed (outcome_err err failed) judged may over));
   rose = λ failed. runs.rose (outcome_err err failed);
   stays = runs.stays;

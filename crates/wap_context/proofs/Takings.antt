@@ -1,18 +1,17 @@
 -- One navigation over pages, with any keys after it: from what its parts come to.
 use Rattle.std.proofs.Common.{◌≡◌, ◌∙◌, ◌≤◌, ℕ, ◌+◌, Bool, false, List, [], ◌∷◌, ◌++◌, Option, Some}
 use Rattle.std.proofs.Common.{None, Ok, Err, refl, sym, ap, ap₂, subst, append_assoc, arith}
-use Rattle.std.specs.Prelude.{Result, IfSome, IfOk, OnOk, IsErr, IsErrAnd, ◌||◌}
+use Rattle.std.specs.Prelude.{Result, IfSome, IfOk, OnOk, IsErr, IsErrAnd, ◌||◌, ◌<◌}
 use Rattle.std.specs.Option.{option_map}
 use Rattle.std.proofs.lemmas.Bool.{false≢true}
 use Rattle.wap_base.specs.declared.fault.RunErr.{RunErr}
 use Rattle.wap_base.specs.declared.fault.RunErr.TheVariants.{Store, NoMemory}
-use Rattle.wap_base.specs.Count.{Rose}
 use Rattle.wap_url.specs.Printing.{name_for}
 use Rattle.wap_base.specs.declared.key.Key.{Key}
 use Rattle.wap_cardrules.specs.declared.task.Task.{Task}
 use Rattle.wap_world.specs.declared.site.page.Page.{Page}
 use Rattle.wap_world.specs.site.Pages.{Pages as JudgedPages, page_of, AreSitePages}
-use Rattle.wap_world.specs.site.Asking.{Seen, Stays, Asks}
+use Rattle.wap_world.specs.site.Asking.{Seen, Stays, Asks, Fails}
 use Rattle.wap_world.specs.site.Misses.{Asked as Question}
 use Rattle.wap_world.proofs.SiteLemmas.Asking.{Asks-nil, Asks-then, Stays-same, Stays-then, Stays-may}
 use Rattle.wap_world.specs.Shelves.{Shelf}
@@ -28,10 +27,9 @@ use Rattle.wap_state.specs.Scenes.{Line}
 use Rattle.wap_context.specs.declared.waiting.Went.{Went}
 use Rattle.wap_context.specs.Browsers.{Browser, IsOver}
 use Rattle.wap_context.specs.Sites.{fragment_call, IfOver}
-use Rattle.wap_context.specs.Missing.{Missed}
 use Rattle.wap_context.specs.inside.Moving.{Moves, Asked, next_in, waits_in, Goes, Takes, Spends}
 use Rattle.wap_context.specs.inside.Moving.{Onces}
-use Rattle.wap_context.proofs.Missing.{Asks-missed, Missed-more}
+use Rattle.wap_world.proofs.SiteLemmas.Failing.{Asks-fails, Fails-more}
 use Rattle.wap_context.proofs.Plays.{if_ok, on_ok}
 
 -- a rule for one navigation
@@ -162,7 +160,7 @@ takes_by rule other seen after old mid new before shown result onto is fewer so 
       so.follows;
   steady = so.steady;
   missed = λ failed. over_map after old mid onto (λ pages over missed.
-      subst (λ (o : Once). Missed o.step.asked seen after) (is pages over []) missed)
+      subst (λ (o : Once). Fails o.step.asked seen after) (is pages over []) missed)
       (so.missed failed);
   rose = so.rose;
   stays = so.stays;
@@ -268,10 +266,10 @@ takes_after rule other first seen mid after old new before line shown result lin
       steady = on_ok result (λ (same : after.faults ≡ mid.faults). same ∙ steady) so.steady;
       missed = λ failed judged may over.
           let one = law judged (Stays-may mid after so.stays judged may) over in
-          subst (λ (o : Once). Missed o.step.asked seen after) (sym (one.1 []))
-          (Asks-missed first.asked (other (unit_pages judged) [] old.world).step.asked seen mid
-          after so.stays one.0 (so.missed failed judged may over));
-      rose = λ failed. subst (λ (k : ℕ). Rose k after.faults) steady (so.rose failed);
+          subst (λ (o : Once). Fails o.step.asked seen after) (sym (one.1 []))
+          (Asks-fails first.asked (other (unit_pages judged) [] old.world).step.asked seen mid
+          after one.0 (so.missed failed judged may over));
+      rose = λ failed. subst (λ (k : ℕ). k < after.faults) steady (so.rose failed);
       stays = Stays-then seen mid after stays so.stays;
       turns = so.turns;
     }
@@ -319,8 +317,8 @@ takes_missed rule one seen after old new before shown err asked so = record {
   steady = tt;
   missed = λ failed judged may over.
       let rest = asked (unit_pages judged) in
-      subst (λ (a : List Question). Missed a seen after) (sym rest.1)
-      (Missed-more ((name_for one.url, one.fresh) ∷ []) rest.0 seen after
+      subst (λ (a : List Question). Fails a seen after) (sym rest.1)
+      (Fails-more ((name_for one.url, one.fresh) ∷ []) rest.0 seen after
       (so.missed (page_err err failed)));
   rose = λ failed. (so.missed (page_err err failed)).rose;
   stays = so.stays;

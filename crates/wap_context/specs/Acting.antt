@@ -1,16 +1,15 @@
 -- What a call of a context comes to: a step of its world, of which further keys may be a part where
 -- a script asks its user. This project's own.
-use Rattle.std.specs.Prelude.{◌≡◌, ℕ, true, false, List, [], Option, Some, None, is_some}
+use Rattle.std.specs.Prelude.{◌≡◌, ℕ, true, false, List, [], Option, Some, None, is_some, ◌<◌}
 use Rattle.std.specs.Prelude.{IfOk, OnOk, Result, Err}
 use Rattle.wap_base.specs.declared.fault.RunErr.{RunErr}
 use Rattle.wap_base.specs.declared.fault.RunErr.TheVariants.{Store}
-use Rattle.wap_base.specs.Count.{Rose}
 use Rattle.wap_value.specs.declared.value.Value.{Value}
 use Rattle.wap_base.specs.declared.key.Key.{Key}
 use Rattle.wap_execution.specs.declared.fatal.Fatal.TheVariants.{Stopped}
 use Rattle.wap_execution.specs.Running.{resumed}
 use Rattle.wap_execution.specs.laws.Settings.{uncounted}
-use Rattle.wap_world.specs.site.Asking.{Seen, Stays, Asks}
+use Rattle.wap_world.specs.site.Asking.{Seen, Stays, Asks, Fails}
 use Rattle.wap_world.specs.World.{World}
 use Rattle.wap_world.specs.Steps.{Step, still, quiet}
 use Rattle.wap_world.specs.Sites.{failed as failed_by, Ran}
@@ -27,7 +26,6 @@ use Rattle.wap_context.specs.declared.waiting.Step.TheVariants.{Settled, Asks as
 use Rattle.wap_context.specs.declared.waiting.Ticked.{Ticked}
 use Rattle.wap_context.specs.declared.waiting.Ticked.TheVariants.{NotRunning, Counted}
 use Rattle.wap_context.specs.Browsers.{Browser, IsOver, Shows}
-use Rattle.wap_context.specs.Missing.{Missed}
 use Rattle.wap_context.specs.Pausing.{Paused, waits_of}
 use Rattle.wap_context.specs.Sites.{fragment_call, site_of, IfOver}
 
@@ -71,9 +69,9 @@ pub record Acts (rule : Pages → List Key → World → Step) (before after : S
       (IfOver after old (λ pages. Asks (rule pages [] old.world).asked before after))
   pub steady : OnOk result (after.faults ≡ before.faults)
   -- the store failed at one of them
-  pub failed : result ≡ Err Store → Rose before.faults after.faults
+  pub failed : result ≡ Err Store → before.faults < after.faults
   pub missed : result ≡ Err Store
-      → IfOver after old (λ pages. Missed (rule pages [] old.world).asked before after)
+      → IfOver after old (λ pages. Fails (rule pages [] old.world).asked before after)
   -- however it ends
   pub stays : Stays before after
 

@@ -1,6 +1,5 @@
 pub mod Pausing
 pub mod Browsers
-pub mod Missing
 pub mod Sites
 pub mod Acting
 pub mod Saved

@@ -1,10 +1,9 @@
 -- What is made of the parts of a context that was saved. This project's own.
-use Rattle.std.specs.Prelude.{◌≡◌, ⊤, false, List, ◌++◌, map, Some, None}
+use Rattle.std.specs.Prelude.{◌≡◌, ⊤, false, List, ◌++◌, map, Some, None, ◌<◌}
 use Rattle.std.specs.Prelude.{IfSome, IfOk, OnOk, Result, Err}
 use Rattle.std.specs.Option.{option_map_or, option_to_list}
 use Rattle.wap_base.specs.declared.fault.RunErr.{RunErr}
 use Rattle.wap_base.specs.declared.fault.RunErr.TheVariants.{Store}
-use Rattle.wap_base.specs.Count.{Rose}
 use Rattle.wap_url.specs.Printing.{name_for}
 use Rattle.wap_tokens.specs.declared.markup.deck.Deck.{Deck}
 use Rattle.wap_image.specs.declared.context_parts.parts.ContextParts.{ContextParts}
@@ -12,7 +11,7 @@ use Rattle.wap_world.specs.declared.site.page.Page.{Page}
 use Rattle.wap_world.specs.declared.site.page.Page.TheVariants as page
 use Rattle.wap_world.specs.site.Pages.{Pages as JudgedPages, page_of}
 use Rattle.wap_world.specs.site.Misses.{Asked}
-use Rattle.wap_world.specs.site.Asking.{Seen, MayBe, Stays, Asks}
+use Rattle.wap_world.specs.site.Asking.{Seen, MayBe, Stays, Asks, Fails}
 use Rattle.wap_world.specs.Shelves.{Shelf}
 use Rattle.wap_world.specs.World.{World, last_entry}
 use Rattle.wap_world.specs.History.{all_but_last, in_deck}
@@ -21,7 +20,6 @@ use Rattle.wap_state.specs.Saved.{saved_world}
 use Rattle.wap_context.specs.declared.saved.Revived.{Revived}
 use Rattle.wap_context.specs.declared.saved.Revived.TheVariants.{Context, Missing, Refused}
 use Rattle.wap_context.specs.Browsers.{IsOver}
-use Rattle.wap_context.specs.Missing.{Missed}
 
 -- the world with its current card in a deck: past the deck's end it is the first card
 abbrev pub with_last_in : Deck → World → World
@@ -69,7 +67,7 @@ pub record Revives (parts : ContextParts) (before after : Seen) (result : Result
   pub is : IfOk result (IsRevived parts after)
   pub asks : OnOk result (Asks (asked_for parts) before after)
   -- the store failed at the page
-  pub failed : result ≡ Err Store → Rose before.faults after.faults
-  pub missed : result ≡ Err Store → Missed (asked_for parts) before after
+  pub failed : result ≡ Err Store → before.faults < after.faults
+  pub missed : result ≡ Err Store → Fails (asked_for parts) before after
   -- however it ends
   pub stays : Stays before after

@@ -7,7 +7,6 @@ use Rattle.std.proofs.lemmas.List.{length-take, append-nil, nil_from_length, tak
 use Rattle.std.proofs.lemmas.List.{take-append-drop, take_all}
 use Rattle.std.specs.Prelude.{IsErr, true, false, ◌==◌}
 use Rattle.std.proofs.lemmas.Bool.{eqb-true}
-use Rattle.wap_base.specs.Count.{Rose}
 use Rattle.wap_devices.specs.Transfer.{Appends, AppendsPrefix}
 use Rattle.wap_devices.specs.Sinks.{SinkSeen, Writes, Puts}
 use Rattle.wap_devices.specs.declared.fault.Failed.{Failed}
@@ -81,7 +80,7 @@ puts_whole prefix rest a b done put text is none =
 -- a text of which a write failed that had taken nothing
 pub puts_stopped : {A : Type 0} (prefix rest : List ℕ) (a b c : SinkSeen)
     → HasPut prefix a b → 0 < length rest → c.taken ≡ b.taken
-    → b.faults ≤ c.faults → Rose b.faults c.faults
+    → b.faults ≤ c.faults → b.faults < c.faults
     → (text : List ℕ) → text ≡ prefix ++ rest → (result : Result A Failed) → IsErr result
     → Puts text a c result
 puts_stopped prefix rest a b c put some unmoved counts rose text is (Ok done) failed = absurd cc
@@ -91,7 +90,7 @@ puts_stopped prefix rest a b c put some unmoved counts rose text is (Err fault) 
   untouched = λ none.
       absurd (omega (arith, some, ap length (second_nil prefix rest (sym is ∙ none))));
   counts = omega (arith, put.faults, counts);
-  failed = subst (λ count. Rose count c.faults) put.faults rose;
+  failed = subst (λ count. count < c.faults) put.faults rose;
   steady = tt;
 }
 
@@ -130,7 +129,7 @@ puts_then x y a b c first (Err fault) second = record {
   prefix = prefix_then a.taken b.taken c.taken x y first.whole second.prefix;
   untouched = λ none. second.untouched (second_nil x y none) ∙ first.untouched (first_nil x y none);
   counts = omega (arith, first.counts, second.counts);
-  failed = subst (λ count. Rose count c.faults) first.steady second.failed;
+  failed = subst (λ count. count < c.faults) first.steady second.failed;
   steady = tt;
 }
 

@@ -1,9 +1,9 @@
 -- Stores, sources and sinks in memory, which fail at the calls that a list names. This project's
 -- own.
-use Rattle.std.specs.Prelude.{ℕ, ◌-◌, All, Bool, not, ◌==◌, ◌||◌, ◌&&◌, nat_lt, List}
+use Rattle.std.specs.Prelude.{ℕ, ◌-◌, All, Bool, not, ◌==◌, ◌||◌, ◌&&◌, nat_lt, List, ◌+◌}
 use Rattle.std.specs.Prelude.{◌++◌, length, take, drop, min, if◌then◌else◌}
 use Rattle.std.specs.List.{list_any}
-use Rattle.wap_base.specs.Count.{raised}
+use Rattle.wap_base.specs.Count.{greatest_count}
 use Rattle.wap_base.specs.Texts.{AreDistinct}
 use Rattle.wap_base.specs.Contents.{Contents, names_of}
 use Rattle.wap_devices.specs.Pages.{IsPage}
@@ -21,16 +21,20 @@ pub record Schedule : Type 0 where
 abbrev pub fresh : List ℕ → Schedule
 fresh fail = record { fail = fail; made = 0; faults = 0 }
 
+-- the number of a call, of which so many were made with it; those past the greatest have its number
+abbrev pub number_of : ℕ → ℕ
+number_of made = min made greatest_count
+
 -- the next call is one that fails
 abbrev pub fails_next : Schedule → Bool
-fails_next calls = list_any (λ number. number == raised calls.made) calls.fail
+fails_next calls = list_any (λ number. number == number_of (calls.made + 1)) calls.fail
 
 -- after a call that fails or doesn't
 abbrev pub called : Schedule → Bool → Schedule
 called calls failed = record {
   fail = calls.fail;
-  made = raised calls.made;
-  faults = if failed then raised calls.faults else calls.faults;
+  made = calls.made + 1;
+  faults = if failed then calls.faults + 1 else calls.faults;
 }
 
 -- pages that a store may hold: no name stands twice, and each page is small
@@ -59,7 +63,7 @@ abbrev pub after_fetch : StoreState → StoreState
 after_fetch store = record {
   pages = store.pages;
   calls = called store.calls (fails_next store.calls);
-  fetches = raised store.fetches;
+  fetches = store.fetches + 1;
   listings = store.listings;
 }
 
@@ -69,7 +73,7 @@ after_listing store = record {
   pages = store.pages;
   calls = called store.calls (fails_next store.calls);
   fetches = store.fetches;
-  listings = raised store.listings;
+  listings = store.listings + 1;
 }
 
 -- a source: the bytes that it gave and those that are left, how many one call moves at most, and
@@ -105,7 +109,7 @@ after_read source room = record {
   piece = source.piece;
   calls = called source.calls (fails_next source.calls);
   ends =
-      if not (fails_next source.calls) && (read_count source room == 0) then raised source.ends
+      if not (fails_next source.calls) && (read_count source room == 0) then source.ends + 1
       else source.ends;
 }
 

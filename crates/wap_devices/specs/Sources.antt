@@ -1,7 +1,6 @@
 -- What is seen of a source of bytes, and what a read does. This project's own.
 use Rattle.std.specs.Prelude.{⊤, ◌≡◌, ℕ, ◌≤◌, ◌==◌, if◌then◌else◌, List, [], ◌++◌, length, take}
-use Rattle.std.specs.Prelude.{drop, Result, Ok, Err, IfOk, OnOk, OnErr}
-use Rattle.wap_base.specs.Count.{raised, Rose}
+use Rattle.std.specs.Prelude.{drop, Result, Ok, Err, IfOk, OnOk, OnErr, ◌<◌, ◌+◌}
 use Rattle.wap_devices.specs.declared.fault.Failed.{Failed}
 
 -- what is to come of a source: these bytes, where it holds them, or what nobody knows yet
@@ -36,11 +35,11 @@ pub record MayGive (before after : SourceSeen) (bytes : List ℕ) : Type 0 where
   pub rest : List ℕ
   pub split : before.given ++ bytes ≡ after.given ++ rest
   pub coming : MayCome after.coming rest
-  pub ended : Rose before.ends after.ends → MayCome after.coming [] → rest ≡ []
+  pub ended : before.ends < after.ends → MayCome after.coming [] → rest ≡ []
 
 -- how often a source has reported its end, after a read that answers so
 abbrev pub ends_after : ℕ → Result ℕ Failed → ℕ
-ends_after ends (Ok count) = if count == 0 then raised ends else ends
+ends_after ends (Ok count) = if count == 0 then ends + 1 else ends
 ends_after ends (Err fault) = ends
 
 -- a read into a buffer, from what the buffer was to what it is
@@ -56,9 +55,9 @@ pub record Reads (old new : List ℕ) (before after : SourceSeen) (result : Resu
   pub unmoved : OnErr result (after.given ≡ before.given)
   pub uncome : OnErr result (after.coming ≡ before.coming)
   pub buffer : OnErr result (new ≡ old)
-  pub reads : after.reads ≡ raised before.reads
+  pub reads : after.reads ≡ before.reads + 1
   pub ends : after.ends ≡ ends_after before.ends result
   -- it fails only where the count of faults rose, which stays where it answers
   pub counts : before.faults ≤ after.faults
-  pub failed : OnErr result (Rose before.faults after.faults)
+  pub failed : OnErr result (before.faults < after.faults)
   pub steady : OnOk result (after.faults ≡ before.faults)

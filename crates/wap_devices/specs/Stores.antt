@@ -1,8 +1,7 @@
 -- What is seen of a store of pages, and what its calls do. This project's own.
-use Rattle.std.specs.Prelude.{◌≡◌, ℕ, ◌≤◌, List, [], ◌∷◌, ◌++◌, All}
+use Rattle.std.specs.Prelude.{◌≡◌, ℕ, ◌≤◌, List, [], ◌∷◌, ◌++◌, All, ◌<◌, ◌+◌}
 use Rattle.std.specs.Prelude.{Result, IfOk, OnOk, OnErr, IsErrOf}
 use Rattle.std.specs.List.Sorted.{IsPermutation}
-use Rattle.wap_base.specs.Count.{raised, Rose}
 use Rattle.wap_base.specs.Texts.{AreAscending, AreDistinct}
 use Rattle.wap_base.specs.Contents.{Contents, names_of}
 use Rattle.wap_devices.specs.Contents.{answer_for}
@@ -61,7 +60,7 @@ pub record IsAsked {A : Type 0} (before after : StoreSeen) (result : Result A St
     pub untold : OnErr result (after.known ≡ before.known)
     -- it fails only where the count of faults rose, which stays where it answers
     pub counts : before.faults ≤ after.faults
-    pub failed : IsErrOf result Failed → Rose before.faults after.faults
+    pub failed : IsErrOf result Failed → before.faults < after.faults
     pub steady : OnOk result (after.faults ≡ before.faults)
 
 -- a store is asked for the page of a name
@@ -72,7 +71,7 @@ pub record Fetches (name : List ℕ) (before after : StoreSeen) (result : Result
   pub found : IfOk result (λ answer.
       (pages : Contents) → Agrees after.known pages → answer ≡ answer_for name pages)
   pub small : IfOk result IsSmall
-  pub fetches : after.fetches ≡ raised before.fetches
+  pub fetches : after.fetches ≡ before.fetches + 1
   pub listings : after.listings ≡ before.listings
   pub asked : IsAsked before after result
 
@@ -85,6 +84,6 @@ pub record Lists {A : Type 0} (names_in : A → List (List ℕ)) (before after :
       → IsPermutation (names_of pages) (names_in answer))
   -- in the order of their UTF-8 bytes
   pub ascending : IfOk result (λ answer. AreAscending (names_in answer))
-  pub listings : after.listings ≡ raised before.listings
+  pub listings : after.listings ≡ before.listings + 1
   pub fetches : after.fetches ≡ before.fetches
   pub asked : IsAsked before after result

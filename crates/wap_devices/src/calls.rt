@@ -2,23 +2,28 @@
 ghost use Rattle.std.specs.Prelude.{◌≡◌, ◌≤◌};
 ghost use Rattle.wap_devices.specs.Fakes.{fresh, called, fails_next};
 
+use crate::Count;
 use std::marker::Model;
 
 /// The calls of a fake so far, and those that are to fail.
 #[derive(Drop)]
 pub(crate) struct Calls {
     fail: Vec<u64>,
-    made: u64,
-    faults: u64,
+    number: u64,
+    made: Count,
+    faults: Count,
 }
 
 impl Model for Calls {
-    ghost use Rattle.wap_devices.specs.Fakes.{Schedule};
+    ghost use Rattle.std.specs.Prelude.{◌≡◌};
+    ghost use Rattle.wap_devices.specs.Fakes.{Schedule, number_of};
 
     ghost Value = { Schedule };
 
     ghost view = { λ calls.
         record { fail = calls.fail.items; made = calls.made; faults = calls.faults } };
+
+    ghost invariant = { λ calls. calls.number ≡ number_of calls.made };
 }
 
 impl Calls {
@@ -28,8 +33,9 @@ impl Calls {
     {
         Calls {
             fail,
-            made: 0,
-            faults: 0,
+            number: 0,
+            made: Count::new(),
+            faults: Count::new(),
         }
     }
 
@@ -37,7 +43,7 @@ impl Calls {
     pub(crate) fn fails_next(&self) -> bool
         ensures { result ≡ fails_next self.now }
     {
-        self.fail.contains(&self.made.saturating_add(1))
+        self.fail.contains(&self.number.saturating_add(1))
     }
 
     /// Counts a call that fails or doesn't.
@@ -45,9 +51,8 @@ impl Calls {
         ensures counted { self.new ≡ called self.old failed }
         ensures ordered { self.old.faults ≤ self.new.faults }
     {
-        self.made = self.made.saturating_add(1);
-        if failed {
-            self.faults = self.faults.saturating_add(1);
-        }
+        self.number = self.number.saturating_add(1);
+        self.made.add();
+        self.faults.add_if(failed);
     }
 }

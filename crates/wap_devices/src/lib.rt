@@ -4,6 +4,8 @@
 #![tactic(auto)]
 
 mod calls;
+mod count;
+mod draft;
 mod fault;
 mod gate;
 mod history;
@@ -13,6 +15,8 @@ mod sink;
 mod source;
 mod store;
 
+pub use count::Count;
+pub use draft::Draft;
 pub use fault::Failed;
 pub use gate::{Gate, NoGate};
 pub use history::History;

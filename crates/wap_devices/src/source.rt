@@ -1,12 +1,12 @@
 //! Where key lines come from.
 ghost use Rattle.std.specs.Prelude.{◌≡◌, ◌<◌, ◌≤◌, ◌++◌, length, take, true, ◌↔◌};
-ghost use Rattle.std.specs.Prelude.{[], Ok, IfOk, IsErr};
-ghost use Rattle.wap_devices.specs.Sources.{SourceSeen, Left, Reads, ends_after};
+ghost use Rattle.std.specs.Prelude.{[], IfOk, IsErr};
+ghost use Rattle.wap_devices.specs.Sources.{SourceSeen, Left, Reads};
 ghost use Rattle.wap_devices.specs.Fakes.{SourceState, fresh, fails_next, seen_of_source};
 ghost use Rattle.wap_devices.specs.Fakes.{read_count, after_read};
 
-use crate::Failed;
 use crate::calls::Calls;
+use crate::{Count, Failed};
 use std::marker::Model;
 use wap_base::Bytes;
 
@@ -29,7 +29,7 @@ pub struct MemSource {
     at: usize,
     piece: usize,
     calls: Calls,
-    ends: u64,
+    ends: Count,
 }
 
 impl Model for MemSource {
@@ -68,19 +68,8 @@ impl MemSource {
             at: 0,
             piece,
             calls: Calls::new(fail),
-            ends: 0,
+            ends: Count::new(),
         }
-    }
-}
-
-/// How often the end was reported, after a read that moves so many bytes.
-fn ends_after(ends: u64, count: usize) -> u64
-    ensures { result ≡ ends_after ends (Ok count) }
-{
-    if count == 0 {
-        ends.saturating_add(1)
-    } else {
-        ends
     }
 }
 
@@ -106,7 +95,7 @@ impl Source for MemSource {
         let count = self.piece.min(buffer.len()).min(left.len());
         buffer[..count].copy_from_slice(&left[..count]);
         self.at += count;
-        self.ends = ends_after(self.ends, count);
+        self.ends.add_if(count == 0);
         Ok(count)
     }
 }

@@ -11,6 +11,7 @@ ghost use Rattle.wap_devices.specs.Stores.{StoreSeen, Held, Fetches, Lists};
 ghost use Rattle.wap_devices.specs.Fakes.{StoreState, ArePages, fresh, fails_next};
 ghost use Rattle.wap_devices.specs.Fakes.{seen_of_store, after_fetch, after_listing};
 
+use crate::Count;
 use crate::calls::Calls;
 use std::alloc::{AllocError, AllocFailed, Global};
 use std::marker::Model;
@@ -104,8 +105,8 @@ pub trait Store {
 pub struct MemStore {
     pages: Vec<(Text, Bytes)>,
     calls: Calls,
-    fetches: u64,
-    listings: u64,
+    fetches: Count,
+    listings: Count,
 }
 
 impl Model for MemStore {
@@ -138,8 +139,8 @@ impl MemStore {
         MemStore {
             pages,
             calls: Calls::new(fail),
-            fetches: 0,
-            listings: 0,
+            fetches: Count::new(),
+            listings: Count::new(),
         }
     }
 }
@@ -216,7 +217,7 @@ impl Store for MemStore {
         ensures failed { IsErrOf result StoreErr.Failed ↔ (fails_next self.old.calls ≡ true) }
         ensures after { self.new ≡ after_fetch self.old }
     {
-        self.fetches = self.fetches.saturating_add(1);
+        self.fetches.add();
         let failed = self.calls.fails_next();
         self.calls.count(failed);
         if failed {
@@ -231,7 +232,7 @@ impl Store for MemStore {
         ensures failed { IsErrOf result StoreErr.Failed ↔ (fails_next self.old.calls ≡ true) }
         ensures after { self.new ≡ after_listing self.old }
     {
-        self.listings = self.listings.saturating_add(1);
+        self.listings.add();
         let failed = self.calls.fails_next();
         self.calls.count(failed);
         if failed {

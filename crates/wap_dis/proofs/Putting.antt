@@ -5,7 +5,6 @@ use Rattle.std.proofs.Common.{sym, ap, subst, ◌∙◌, append_assoc, arith}
 use Rattle.std.proofs.lemmas.Bool.{cases_Bool}
 use Rattle.std.specs.List.{flat_map}
 use Rattle.std.proofs.lemmas.List.{append-nil, take_more}
-use Rattle.wap_base.specs.Count.{Rose}
 use Rattle.wap_devices.specs.Transfer.{Appends, AppendsPrefix}
 use Rattle.wap_devices.specs.Sinks.{SinkSeen, Puts}
 use Rattle.wap_devices.specs.declared.fault.Failed.{Failed}
@@ -38,7 +37,7 @@ module _ (a b c : SinkSeen) (p q r : State) (x y : List ℕ) (first : Gathers a 
       )
 
   both_broken : r.failed ≡ true → p.failed ≡ false
-      → AppendsPrefix a.taken c.taken (p.bytes ++ (x ++ y)) × Rose a.faults c.faults
+      → AppendsPrefix a.taken c.taken (p.bytes ++ (x ++ y)) × (a.faults < c.faults)
   both_broken bad good =
       let counts_one = first.counts in
       let counts_two = second.counts in
@@ -125,7 +124,7 @@ fails_second a b c p r piece fine bad first second = record {
   whole = λ good. absurd (unlike r.failed bad good);
   broken = λ also good. (
     prefix_then a.taken b.taken c.taken p.bytes piece first.whole second.prefix,
-    subst (λ count. Rose count c.faults) first.steady second.failed,
+    subst (λ count. count < c.faults) first.steady second.failed,
   );
   stays = λ broke. absurd (unlike p.failed broke fine);
 }

@@ -1,7 +1,6 @@
 //! Compiled units: their listing with notes, and why one is refused or may not be run.
 
 mod faults;
-mod kept;
 mod listing;
 mod notes;
 mod words;

@@ -15,5 +15,5 @@ lost_steady result lost before after is counts = subst (CountsFaults before afte
 -- and the count never falls
 pub ended_counts : (ending : Ending) (before after : ℕ)
     → CountsFaults before after (Ok (next.Ended ending)) → before ≤ after
-ended_counts ReadFault before after counts = counts.0
+ended_counts ReadFault before after counts = omega (arith, counts)
 ended_counts _ before after counts = omega (arith, counts)

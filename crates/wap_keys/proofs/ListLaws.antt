@@ -2,12 +2,11 @@
 use Rattle.std.proofs.Common.{◌≡◌, ◌≢◌, ℕ, ◌+◌, ◌≤◌, Bool, true, false, cond, List, [], ◌∷◌, ◌++◌}
 use Rattle.std.proofs.Common.{Option, Some, None, Result, Ok, Err, take, refl, sym, ap, subst, ◌∙◌}
 use Rattle.std.proofs.Common.{append-nil, arith}
-use Rattle.std.specs.Prelude.{◌||◌, nat_lt, length, IsErr}
+use Rattle.std.specs.Prelude.{◌||◌, nat_lt, length, IsErr, ◌<◌}
 use Rattle.std.specs.List.{AllByRecursion}
 use Rattle.std.specs.Bool.{Decides}
 use Rattle.std.specs.Str.{bytes_eq}
 use Rattle.std.proofs.lemmas.Slice.Eq.{bytes_eq-Decides}
-use Rattle.wap_base.specs.Count.{Rose}
 use Rattle.wap_base.specs.declared.fault.NoMemory.{NoMemory}
 use Rattle.wap_base.specs.declared.key.Key.{Key}
 use Rattle.wap_devices.specs.Sources.{SourceSeen}
@@ -119,7 +118,7 @@ module _ {A : Type 0} (lists_in : A → List (List Key)) {start last : SourceSee
       → ReadsToBy content_item start last items ending
       → (ending ≡ End → lists_in lists ≡ all_of (lists_by items End))
       → (ending ≢ End → lists_in lists ≡ [])
-      → (ending ≡ ReadFault → Rose start.faults last.faults)
+      → (ending ≡ ReadFault → start.faults < last.faults)
       → (ending ≢ ReadFault → last.faults ≡ start.faults) → start.faults ≤ last.faults
       → ReadsLists {A = A} lists_in start last (Ok (lists, ending))
   lists_read items ending lists (taken, so) all none failed steady counts =

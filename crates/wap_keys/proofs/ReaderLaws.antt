@@ -4,8 +4,7 @@ use Rattle.std.proofs.Common.{cond, List, [], ◌∷◌, ◌++◌, length}
 use Rattle.std.proofs.Common.{refl, sym, ap, ◌∙◌, inl, inr, append_assoc, arith}
 use Rattle.std.specs.Prelude.{nat_lt}
 use Rattle.std.proofs.Math.Seq.{take-append-add}
-use Rattle.std.proofs.lemmas.Bool.{le-leb, le-ltb}
-use Rattle.wap_base.specs.Count.{raised}
+use Rattle.std.proofs.lemmas.Bool.{le-ltb, lt-ltb}
 use Rattle.std.proofs.lemmas.List.{append-nil, length-append}
 use Rattle.wap_devices.specs.Sources.{SourceSeen, MayCome}
 use Rattle.wap_base.specs.declared.key.Key.{Key}
@@ -26,8 +25,6 @@ use Rattle.wap_keys.proofs.GivingLaws.{gives_none, gives_both, may_split, none_t
 pub some_none : (seen : SourceSeen) → TakesSome [] seen seen
 some_none seen = record {
   takes = gives_none seen seen refl refl;
-  reads = 0;
-  some = omega arith;
   least = omega arith;
   most = omega arith;
   ends = refl;
@@ -40,10 +37,8 @@ pub some_both : {start now last : SourceSeen} {taken piece : List ℕ} → Takes
     → TakesSome (taken ++ piece) start last
 some_both {start} {now} {last} {taken} {piece} first second some steady = record {
   takes = gives_both start now last taken piece first.takes second.takes;
-  reads = first.reads + 1;
-  some = omega (arith, first.some, some, length-append taken piece);
   least = omega (arith, first.least, second.reads);
-  most = omega (arith, first.most, second.reads);
+  most = omega (arith, first.most, second.reads, some, length-append taken piece);
   ends = second.ends some ∙ first.ends;
   faults = steady ∙ first.faults;
 }
@@ -88,7 +83,7 @@ none_follows taken rest few none = (
 
 -- the source gives its end once at most
 once_by : (start now : SourceSeen) (over : Bool)
-    → now.ends ≡ cond over (raised start.ends) start.ends
+    → now.ends ≡ cond over (start.ends + 1) start.ends
     → (over ≡ true → MayCome now.coming []) → EndsAtMostOnce start now
 once_by start now true ends none = inr (record { none = none refl; ends = ends })
 once_by start now false ends none = inl ends
@@ -98,7 +93,7 @@ once_more : (start now last : SourceSeen) → now.ends ≡ start.ends → EndsAt
     → EndsAtMostOnce start last
 once_more start now last same (inl none) = inl (none ∙ same)
 once_more start now last same (inr end) =
-    inr (record { none = end.none; ends = end.ends ∙ ap raised same })
+    inr (record { none = end.none; ends = end.ends ∙ ap (λ (n : ℕ). n + 1) same })
 
 -- ---- of what was read
 
@@ -108,7 +103,7 @@ module _ {A : Type 0} {meaning : Meaning A} {start now : SourceSeen} {taken : Li
   few_taken = omega (arith, read.counted, read.few)
 
   -- the source of a reader that is over gave its end
-  pub over_ends : reader.over ≡ true → now.ends ≡ raised start.ends
+  pub over_ends : reader.over ≡ true → now.ends ≡ start.ends + 1
   over_ends over = rw over at read.ends
 
   -- what was said is the first of what the whole lines say
@@ -119,7 +114,7 @@ module _ {A : Type 0} {meaning : Meaning A} {start now : SourceSeen} {taken : Li
         ap (λ (l : List ℕ). (said_at meaning ending l).keys) (sym (append-nil taken))
             ∙ ap (λ (all : KeysOf A). all.keys)
             (read.says ending [] (λ over. (
-              ap ending_after (le-leb (raised start.ends) now.ends (omega (arith, over_ends over))),
+              ap ending_after (lt-ltb start.ends now.ends (omega (arith, over_ends over))),
               refl,
             ))),
       )

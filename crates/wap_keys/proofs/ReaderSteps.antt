@@ -3,7 +3,6 @@ use Rattle.std.proofs.Common.{◌≡◌, ◌≢◌, ℕ, ◌+◌, ◌<◌, ◌�
 use Rattle.std.proofs.Common.{◌∷◌, ◌++◌, length, take, Option, Some, None, Result, Ok, Err, refl}
 use Rattle.std.proofs.Common.{sym, ap, subst, ◌∙◌, append_assoc, inl, inr, arith}
 use Rattle.std.proofs.Math.Seq.{take-length}
-use Rattle.wap_base.specs.Count.{raised}
 use Rattle.std.proofs.lemmas.List.{append-nil, length-append, take-append-le}
 use Rattle.wap_devices.specs.Sources.{SourceSeen}
 use Rattle.wap_keys.specs.declared.limits.TheConstants.{KEYS_LIMIT}
@@ -246,7 +245,7 @@ module _ {A : Type 0} {meaning : Meaning A} {now last : SourceSeen} {old : Readi
           },
         );
         falls = tt;
-        counts = (fails.counts, fails.rose);
+        counts = fails.rose;
       }
 
   -- ---- the last line
@@ -271,7 +270,7 @@ module _ {A : Type 0} {meaning : Meaning A} {now last : SourceSeen} {old : Readi
         end : GivesEnd start last
         end = record {
           none = reads.none;
-          ends = reads.ends ∙ ap raised (rw is_open.goes_on at read.ends);
+          ends = reads.ends ∙ ap (λ (n : ℕ). n + 1) (rw is_open.goes_on at read.ends);
         }
 
         few : length (taken ++ []) ≤ KEYS_LIMIT

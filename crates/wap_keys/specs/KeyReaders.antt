@@ -1,7 +1,6 @@
 -- A reader of keys, call by call. This project's own.
 use Rattle.std.specs.Prelude.{◌≡◌, ℕ, ◌+◌, ◌-◌, ◌≤◌, ◌<◌, Bool, true, false, if◌then◌else◌}
 use Rattle.std.specs.Prelude.{List, [], ◌∷◌, ◌++◌, length, Result, Ok, Err}
-use Rattle.wap_base.specs.Count.{raised, Rose}
 use Rattle.wap_base.specs.declared.fault.NoMemory.{NoMemory}
 use Rattle.wap_devices.specs.Sources.{SourceSeen, MayCome, Gives}
 use Rattle.wap_base.specs.declared.key.Key.{Key}
@@ -42,7 +41,7 @@ said_then meaning reader ending rest =
 
 -- how often a source has reported its end that had reported it so often at first
 abbrev pub ends_known : Reading → ℕ → ℕ
-ends_known reader ends = if reader.over then raised ends else ends
+ends_known reader ends = if reader.over then ends + 1 else ends
 
 -- these bytes were taken from a source, and the reader has said these keys of them: with what it is
 -- to say yet they are all
@@ -94,7 +93,7 @@ CountsAt before after (step.Said key) = after ≡ before
 CountsAt before after (step.Ended End) = after ≡ before
 CountsAt before after (step.Ended (BadKey line fault)) = after ≡ before
 CountsAt before after (step.Ended TooManyKeys) = after ≡ before
-CountsAt before after (step.Ended ReadFault) = (before ≤ after) × Rose before after
+CountsAt before after (step.Ended ReadFault) = before < after
 
 -- how many bytes may be read yet
 abbrev pub room : Reading → ℕ

@@ -1,7 +1,6 @@
 -- Keys whose bytes are taken from a source. This project's own.
-use Rattle.std.specs.Prelude.{◌≡◌, ◌≢◌, ◌⊎◌, ℕ, ◌+◌, ◌<◌, ◌≤◌, min, Bool, nat_le}
+use Rattle.std.specs.Prelude.{◌≡◌, ◌≢◌, ◌⊎◌, ℕ, ◌+◌, ◌<◌, ◌≤◌, Bool, nat_lt}
 use Rattle.std.specs.Prelude.{if◌then◌else◌, List, [], ◌∷◌, ◌++◌, length, take}
-use Rattle.wap_base.specs.Count.{greatest_count, raised}
 use Rattle.wap_devices.specs.Sources.{SourceSeen, MayCome, Gives, MayGive}
 use Rattle.wap_base.specs.declared.key.Key.{Key}
 use Rattle.wap_keys.specs.declared.limits.TheConstants.{KEYS_LIMIT, PIECE_LIMIT}
@@ -15,11 +14,8 @@ use Rattle.wap_keys.specs.Lines.{KeysOf, Meaning, content_key, said_at, said_of,
 -- these bytes were taken from a source in reads that each gave some of them
 pub record TakesSome (bytes : List ℕ) (before after : SourceSeen) : Type 0 where
   pub takes : Gives bytes before after
-  -- so many reads, as far as the source counts them
-  pub reads : ℕ
-  pub some : reads ≤ length bytes
-  pub least : min (before.reads + reads) greatest_count ≤ after.reads
-  pub most : after.reads ≤ before.reads + reads
+  pub least : before.reads ≤ after.reads
+  pub most : after.reads ≤ before.reads + length bytes
   -- none of them met the end, and none failed
   pub ends : after.ends ≡ before.ends
   pub faults : after.faults ≡ before.faults
@@ -28,7 +24,7 @@ pub record TakesSome (bytes : List ℕ) (before after : SourceSeen) : Type 0 whe
 pub record TakesAtOnce (bytes : List ℕ) (before after : SourceSeen) : Type 0 where
   pub takes : Gives bytes before after
   pub short : length bytes ≤ PIECE_LIMIT
-  pub reads : after.reads ≡ raised before.reads
+  pub reads : after.reads ≡ before.reads + 1
   pub ends : 0 < length bytes → after.ends ≡ before.ends
 
 -- at most so many bytes were taken
@@ -36,14 +32,14 @@ abbrev pub TakesAtMost : ℕ → SourceSeen → SourceSeen → Type 0
 TakesAtMost most before after =
     (bytes : List ℕ) × (length bytes ≤ most) × Gives bytes before after
 
--- whether a count rose, or stands at its greatest value
+-- whether a count rose
 abbrev pub rose : ℕ → ℕ → Bool
-rose before after = nat_le (raised before) after
+rose = nat_lt
 
 -- the source gave its end, and nothing may be to come
 pub record GivesEnd (before after : SourceSeen) : Type 0 where
   pub none : MayCome after.coming []
-  pub ends : after.ends ≡ raised before.ends
+  pub ends : after.ends ≡ before.ends + 1
 
 -- it gave its end once, or not at all
 abbrev pub EndsAtMostOnce : SourceSeen → SourceSeen → Type 0

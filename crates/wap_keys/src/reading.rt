@@ -1,6 +1,5 @@
 //! Reading keys to their end.
-ghost use Rattle.std.specs.Prelude.{◌≡◌, ◌≢◌, ℕ, ◌+◌, ◌≤◌, List, IfOk, OnErr};
-ghost use Rattle.wap_base.specs.Count.{Rose};
+ghost use Rattle.std.specs.Prelude.{◌≡◌, ◌≢◌, ℕ, ◌+◌, ◌≤◌, List, IfOk, OnErr, ◌<◌};
 ghost use Rattle.wap_devices.specs.Sources.{MayGive};
 ghost use Rattle.wap_keys.specs.declared.ending.Ending.TheVariants.{ReadFault};
 ghost use Rattle.wap_keys.specs.declared.limits.TheConstants.{KEYS_LIMIT};
@@ -23,7 +22,7 @@ pub(crate) fn read_all<T: Says, I: Source>(
     ensures read { IfOk result (λ read. ReadsToBy T.meaning (I.seen source.old) (I.seen source.new)
         read.0.items read.1) }
     ensures failed { IfOk result (λ read. read.1 ≡ ReadFault
-        → Rose (I.seen source.old).faults (I.seen source.new).faults) }
+        → (I.seen source.old).faults < (I.seen source.new).faults) }
     ensures steady { IfOk result (λ read. read.1 ≢ ReadFault
         → (I.seen source.new).faults ≡ (I.seen source.old).faults) }
     ensures faults { (I.seen source.old).faults ≤ (I.seen source.new).faults }
@@ -56,7 +55,7 @@ pub fn read_keys<I: Source>(alloc: Global, source: &mut I) -> Result<(Vec<Key>, 
         → AreFirst read.0.items (keys_of bytes).keys) }
     ensures few { TakesAtMost (KEYS_LIMIT + 1) (I.seen source.old) (I.seen source.new) }
     ensures failed { IfOk result (λ read. read.1 ≡ ReadFault
-        → Rose (I.seen source.old).faults (I.seen source.new).faults) }
+        → (I.seen source.old).faults < (I.seen source.new).faults) }
     ensures steady { IfOk result (λ read. read.1 ≢ ReadFault
         → (I.seen source.new).faults ≡ (I.seen source.old).faults) }
     ensures faults { (I.seen source.old).faults ≤ (I.seen source.new).faults }

@@ -1,6 +1,6 @@
 -- Runs of a machine, step by step.
+use Rattle.std.specs.Prelude.{◌<◌}
 use Rattle.std.proofs.Common.{◌≡◌, ℕ, ◌≤◌, Option, Some, None, refl, sym, ap, subst, ◌∙◌, arith}
-use Rattle.wap_base.specs.Count.{Rose}
 use Rattle.wap_base.specs.declared.limits.Limits.{Limits}
 use Rattle.wap_execution.specs.Outcomes.{Ended, Hosting}
 use Rattle.wap_execution.specs.Running.{ended, finished}
@@ -13,7 +13,7 @@ use Rattle.wap_machine.specs.Runs.{run_of, meant, IsEnd}
 use Rattle.wap_machine.specs.inside.MachineSteps.{rest}
 use Rattle.wap_machine.proofs.CallLaws.{grows_same, grows_chained}
 
-rose_less : (least more count : ℕ) → least ≤ more → Rose more count → Rose least count
+rose_less : (least more count : ℕ) → least ≤ more → more < count → least < count
 rose_less least more count less rose = grind arith
 
 fetches_earlier : (before middle after : Option ℕ) (count : ℕ) → Grows before middle

@@ -1,6 +1,5 @@
 -- What machines are promised by their hosts. This project's own.
 use Rattle.std.specs.Prelude.{⊤, ◌≡◌, ◌≢◌, ℕ, ◌<◌, ◌≤◌, Option, Some, None, IfSome, slice_get}
-use Rattle.wap_base.specs.Count.{Rose}
 use Rattle.wap_base.specs.declared.limits.TheConstants.{MOST_DEPTH}
 use Rattle.wap_unit.specs.declared.unit.Unit.{Unit}
 use Rattle.wap_unit.specs.declared.unit.Code.{Code}
@@ -43,7 +42,7 @@ AtMost count (Some more) = count ≤ more
 abbrev pub Grows : Option ℕ → Option ℕ → Type 0
 Grows before after = IfSome before (λ count. AtMost count after)
 
--- a call that failed raised the count that was known before, and not above what the call would have
--- left
+-- after a call that failed the count is above the one that was known before, and not above what the
+-- call would have left
 abbrev pub Fetches : Option ℕ → ℕ → Option ℕ → Type 0
-Fetches before count after = IfSome before (λ least. Rose least count × AtMost count after)
+Fetches before count after = IfSome before (λ least. (least < count) × AtMost count after)

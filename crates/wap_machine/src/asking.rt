@@ -1,6 +1,5 @@
 //! Calls that ask the host.
 ghost use Rattle.std.specs.Prelude.{◌≡◌, ◌<◌, ◌≤◌, length, IfOk, OnOk, IsErrOf};
-ghost use Rattle.wap_base.specs.Count.{Rose};
 ghost use Rattle.wap_execution.specs.Effects.{library, external};
 ghost use Rattle.wap_machine.specs.Seen.{called_of};
 ghost use Rattle.wap_machine.specs.Doing.{AreFew};
@@ -40,7 +39,7 @@ fn call_library<P, H: Host<P>>(
     ensures steady { OnOk result (H.faults pages.new ≡ H.faults pages.old) }
     ensures faults { H.faults pages.old ≤ H.faults pages.new }
     ensures failed { IsErrOf result RunErr.Store
-        → Rose (H.faults pages.old) (H.faults pages.new) }
+        → (H.faults pages.old) < (H.faults pages.new) }
     ensures fetches { H.fetches pages.old ≤ H.fetches pages.new }
     ensures fetched { IsErrOf result RunErr.Store → (under : H.Under)
         → H.may_have pages.new under
@@ -78,7 +77,7 @@ fn call_external<P, H: Host<P>>(
     ensures steady { OnOk result (H.faults pages.new ≡ H.faults pages.old) }
     ensures faults { H.faults pages.old ≤ H.faults pages.new }
     ensures failed { IsErrOf result RunErr.Store
-        → Rose (H.faults pages.old) (H.faults pages.new) }
+        → (H.faults pages.old) < (H.faults pages.new) }
     ensures fetches { H.fetches pages.old ≤ H.fetches pages.new }
     ensures fetched { IsErrOf result RunErr.Store → (under : H.Under)
         → H.may_have pages.new under
@@ -117,7 +116,7 @@ pub(crate) fn call<P, H: Host<P>>(
     ensures steady { OnOk result (H.faults pages.new ≡ H.faults pages.old) }
     ensures faults { H.faults pages.old ≤ H.faults pages.new }
     ensures failed { IsErrOf result RunErr.Store
-        → Rose (H.faults pages.old) (H.faults pages.new) }
+        → (H.faults pages.old) < (H.faults pages.new) }
     ensures fetches { H.fetches pages.old ≤ H.fetches pages.new }
     ensures fetched { IsErrOf result RunErr.Store → (under : H.Under)
         → H.may_have pages.new under

@@ -2,7 +2,6 @@
 ghost use Rattle.std.specs.Prelude.{◌≡◌, ℕ, ◌-◌, ◌<◌, ◌≤◌, List, Option, Some};
 ghost use Rattle.std.specs.Prelude.{length, IsTrue, ◌↔◌, IfSome, IfOk, OnOk, IsErrOf};
 ghost use Rattle.std.specs.Option.{option_copied};
-ghost use Rattle.wap_base.specs.Count.{Rose};
 ghost use Rattle.wap_url.specs.declared.url.Url.{Url as TheUrl};
 ghost use Rattle.wap_value.specs.declared.value.Value.{Value as TheValue};
 ghost use Rattle.wap_unit.specs.Libraries.{lib_args};
@@ -81,7 +80,7 @@ pub trait Host<P> {
         ensures steady { OnOk result (faults pages.new ≡ faults pages.old) }
         ensures faults { faults pages.old ≤ faults pages.new }
         ensures failed { IsErrOf result RunErr.Store
-            → Rose (faults pages.old) (faults pages.new) }
+            → (faults pages.old) < (faults pages.new) }
         ensures fetches { fetches pages.old ≤ fetches pages.new }
         ensures fetched { IsErrOf result RunErr.Store → (under : Under) → may_have pages.new under
             → Fetches (fetched (state self.old pages.old under)) (fetches pages.new) (fetched
@@ -113,7 +112,7 @@ pub trait Host<P> {
         ensures steady { OnOk result (faults pages.new ≡ faults pages.old) }
         ensures faults { faults pages.old ≤ faults pages.new }
         ensures failed { IsErrOf result RunErr.Store
-            → Rose (faults pages.old) (faults pages.new) }
+            → (faults pages.old) < (faults pages.new) }
         ensures fetches { fetches pages.old ≤ fetches pages.new }
         ensures fetched { IsErrOf result RunErr.Store → (under : Under) → may_have pages.new under
             → Fetches (fetched (state self.old pages.old under)) (fetches pages.new) (fetched

@@ -1,6 +1,5 @@
 //! Runs of machines.
-ghost use Rattle.std.specs.Prelude.{◌≡◌, ◌≤◌, IfOk, OnOk, IsErrOf};
-ghost use Rattle.wap_base.specs.Count.{Rose};
+ghost use Rattle.std.specs.Prelude.{◌≡◌, ◌≤◌, IfOk, OnOk, IsErrOf, ◌<◌};
 ghost use Rattle.wap_machine.specs.Hosts.{Fetches};
 ghost use Rattle.wap_machine.specs.Runs.{run_of, IsEnd, IsBounded};
 ghost use Rattle.wap_machine.specs.Runs.{KeepsLimits, WantsNoTurn};
@@ -36,7 +35,7 @@ impl Machine {
         // A store that failed has counted it, and no more was fetched than by the whole run.
         ensures faults { H.faults pages.old ≤ H.faults pages.new }
         ensures failed { IsErrOf result RunErr.Store
-            → Rose (H.faults pages.old) (H.faults pages.new) }
+            → (H.faults pages.old) < (H.faults pages.new) }
         ensures fetches { H.fetches pages.old ≤ H.fetches pages.new }
         ensures fetched { IsErrOf result RunErr.Store → (under : H.Under)
             → H.may_have pages.new under

@@ -1,6 +1,5 @@
 //! Steps of a machine in its host.
-ghost use Rattle.std.specs.Prelude.{◌≡◌, ◌≤◌, IfOk, OnOk, IsErrOf};
-ghost use Rattle.wap_base.specs.Count.{Rose};
+ghost use Rattle.std.specs.Prelude.{◌≡◌, ◌≤◌, IfOk, OnOk, IsErrOf, ◌<◌};
 ghost use Rattle.wap_machine.specs.Hosts.{Grows, Fetches};
 ghost use Rattle.wap_execution.specs.laws.Settings.{uncounted};
 ghost use Rattle.wap_machine.specs.Runs.{run_of};
@@ -38,7 +37,7 @@ pub(crate) fn step<P, H: Host<P>>(
     ensures steady { OnOk result (H.faults pages.new ≡ H.faults pages.old) }
     ensures faults { H.faults pages.old ≤ H.faults pages.new }
     ensures failed { IsErrOf result RunErr.Store
-        → Rose (H.faults pages.old) (H.faults pages.new) }
+        → (H.faults pages.old) < (H.faults pages.new) }
     ensures fetches { H.fetches pages.old ≤ H.fetches pages.new }
     ensures fetched { IsErrOf result RunErr.Store → (under : H.Under)
         → H.may_have pages.new under

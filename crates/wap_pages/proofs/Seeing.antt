@@ -1,13 +1,13 @@
 -- What is seen of a cache before and after one page is asked for.
+use Rattle.std.specs.Prelude.{◌<◌}
 use Rattle.std.proofs.Common.{◌≡◌, ℕ, ◌+◌, Bool, true, false, if◌then◌else◌, List, []}
 use Rattle.std.proofs.Common.{◌∷◌, Some, Result, refl, sym, ap, subst, ◌∙◌, arith}
-use Rattle.wap_base.specs.Count.{raised, Rose}
 use Rattle.wap_base.specs.declared.fault.RunErr.{RunErr}
 use Rattle.wap_devices.specs.Stores.{StoreSeen}
 use Rattle.wap_devices.proofs.Telling.{grew_nothing}
 use Rattle.wap_world.specs.site.Pages.{Pages, page_of, AreSitePages}
 use Rattle.wap_world.specs.site.Misses.{Cache, Asked, is_miss, after_asking, misses}
-use Rattle.wap_world.specs.site.Asking.{Seen, MayBe, raised_by, Stays, Asks, Fails}
+use Rattle.wap_world.specs.site.Asking.{Seen, MayBe, Stays, Asks, Fails}
 use Rattle.wap_world.specs.declared.site.page.Page.{Page}
 use Rattle.wap_pages.specs.Caches.{seen_over}
 use Rattle.wap_pages.specs.inside.Keeping.{IsRight, AsksStore}
@@ -43,7 +43,7 @@ module _ (store : StoreSeen) (before after : Cache) where
     capacity = ap Some same;
     listings = refl;
     faults = omega arith;
-    fetches = (0, refl);
+    fetches = omega arith;
   }
 
   pub hit_asks : (asked : Asked) → is_miss asked before ≡ false → after ≡ after_asking asked before
@@ -51,7 +51,7 @@ module _ (store : StoreSeen) (before after : Cache) where
       (seen_over store after)
   hit_asks asked hit first = record {
     cache = ap Some first;
-    fetches = ap (λ (more : ℕ). raised_by more store.fetches) (sym (none_missed asked before hit));
+    fetches = let none = none_missed asked before hit in omega (arith, none);
     steady = refl;
   }
 
@@ -70,26 +70,22 @@ module _ (old : StoreSeen) (before : Cache) (new : StoreSeen) (after : Cache) wh
     capacity = ap Some same;
     listings = asks.listings;
     faults = asks.faults;
-    fetches = (1, asks.counted);
+    fetches = let counted = asks.counted in omega (arith, counted);
   }
 
   pub miss_asks : (asked : Asked) → is_miss asked before ≡ true → after ≡ after_asking asked before
-      → new.fetches ≡ raised old.fetches → new.faults ≡ old.faults → Asks (asked ∷ []) Old New
+      → new.fetches ≡ old.fetches + 1 → new.faults ≡ old.faults → Asks (asked ∷ []) Old New
   miss_asks asked miss first count steady = record {
     cache = ap Some first;
-    fetches =
-        count ∙ ap (λ (more : ℕ). raised_by more old.fetches) (sym (one_missed asked before miss));
+    fetches = let one = one_missed asked before miss in omega (arith, count, one);
     steady = steady;
   }
 
-  pub miss_fails : (asked : Asked) → is_miss asked before ≡ true → new.fetches ≡ raised old.fetches
-      → Rose old.faults new.faults → Fails (asked ∷ []) Old New
+  pub miss_fails : (asked : Asked) → is_miss asked before ≡ true → new.fetches ≡ old.fetches + 1
+      → old.faults < new.faults → Fails (asked ∷ []) Old New
   miss_fails asked miss count rose = record {
     rose = rose;
-    fetches = record {
-      more = 1;
-      some = omega arith;
-      few = let one = one_missed asked before miss in omega (arith, one);
-      count = count;
-    };
+    fetches =
+        let one = one_missed asked before miss in
+        (omega (arith, count), omega (arith, count, one));
   }

@@ -4,12 +4,11 @@ use Rattle.std.proofs.Common.{◌∷◌, ◌++◌, false, Ok, Err, refl, sym, ap
 use Rattle.std.proofs.lemmas.Bool.{false≢true}
 use Rattle.std.proofs.lemmas.List.{map-append, take-append-drop, take_more, drop_more}
 use Rattle.wap_base.specs.Controls.{shown_text}
-use Rattle.wap_base.specs.Count.{Rose}
 use Rattle.wap_base.specs.declared.key.Key.{Key}
 use Rattle.wap_push.specs.declared.indication.Indication.{Indication}
 use Rattle.wap_push.specs.Inbox.{HaveWinners}
 use Rattle.wap_world.specs.site.Misses.{Asked}
-use Rattle.wap_world.specs.site.Asking.{Seen, Stays, Asks}
+use Rattle.wap_world.specs.site.Asking.{Seen, Stays, Asks, Fails}
 use Rattle.wap_world.proofs.SiteLemmas.Asking.{Asks-nil, Asks-then, Stays-same, Stays-then}
 use Rattle.wap_world.proofs.SiteLemmas.Asking.{Stays-may}
 use Rattle.std.specs.Prelude.{is_some}
@@ -20,9 +19,8 @@ use Rattle.wap_world.specs.inboxes.Inboxes.{Stepped}
 use Rattle.wap_world.specs.Sessions.{shown_by}
 use Rattle.wap_world.proofs.InboxesLemmas.Winning.{exactly}
 use Rattle.wap_world.specs.scripting.UnitSites.{Pages, unit_pages}
-use Rattle.wap_context.specs.Missing.{Missed}
 use Rattle.wap_context.specs.Sites.{IfOver}
-use Rattle.wap_context.proofs.Missing.{Asks-missed}
+use Rattle.wap_world.proofs.SiteLemmas.Failing.{Asks-fails}
 use Rattle.wap_session.specs.declared.fault.SessionFault.{SessionFault}
 use Rattle.wap_session.specs.declared.fault.SessionFault.TheVariants.{NoMemory, Ended}
 use Rattle.wap_session.specs.Feeding.{State, stepped_of, step_of, left_open, PlaysOn, TakesOn}
@@ -185,16 +183,16 @@ module _ {done : List Key} {before mid after : Seen} {old now : State} {lines : 
 
   -- or the store failed at it
   pub missed_more : (one : Key) (rest : List Key) → Stays mid after
-      → IfOver after now.browser (λ pages. Missed (step_of pages (one ∷ []) now).asked mid after)
+      → IfOver after now.browser (λ pages. Fails (step_of pages (one ∷ []) now).asked mid after)
       → IfOver after old.browser
       (λ pages. MissedAt (done ++ one ∷ rest) pages old before after)
   missed_more one rest stays next judged may over = record {
     first = done ++ one ∷ [];
     others = rest;
     split = sym (append_assoc done (one ∷ []) rest);
-    missed = asked_more one (λ asked. Missed asked before after)
-        (λ asked. Missed asked mid after)
-        (λ asked others. Asks-missed asked others before mid after stays) stays next judged may
+    missed = asked_more one (λ asked. Fails asked before after)
+        (λ asked. Fails asked mid after)
+        (λ asked others. Asks-fails asked others before mid after stays) stays next judged may
         over;
   }
 
@@ -205,7 +203,7 @@ module _ {done : List Key} {before mid after : Seen} {old now : State} {lines : 
     leads = tt;
     asks = tt;
     steady = tt;
-    failed = λ e. subst (λ (count : ℕ). Rose count after.faults) so.steady (next.failed e);
+    failed = λ e. subst (λ (count : ℕ). count < after.faults) so.steady (next.failed e);
     ended = λ over. let e = (so.ended over).0 in absurd cc;
     goes_on = λ going. next.goes_on so.ready;
     ready = tt;

@@ -7,7 +7,7 @@ use Rattle.wap_base.specs.declared.fault.RunErr.{RunErr}
 use Rattle.wap_base.specs.declared.fault.RunErr.TheVariants as run
 use Rattle.wap_base.specs.declared.key.Key.{Key}
 use Rattle.wap_world.specs.site.Misses.{Asked}
-use Rattle.wap_world.specs.site.Asking.{Seen, Stays, Asks}
+use Rattle.wap_world.specs.site.Asking.{Seen, Stays, Asks, Fails}
 use Rattle.wap_world.proofs.SiteLemmas.Asking.{Asks-nil, Stays-same}
 use Rattle.wap_world.specs.declared.refusal.Refusal.TheVariants as refusals
 use Rattle.wap_world.specs.Shelves.{Shelf}
@@ -22,7 +22,6 @@ use Rattle.wap_world.specs.scripting.Feeding.{meaning}
 use Rattle.wap_context.specs.declared.waiting.Step.{Step as Did}
 use Rattle.wap_context.specs.declared.waiting.Step.TheVariants.{Settled}
 use Rattle.wap_context.specs.Browsers.{Browser, IsOver, Shows}
-use Rattle.wap_context.specs.Missing.{Missed}
 use Rattle.wap_context.specs.Sites.{fragment_call, IfOver}
 use Rattle.wap_context.specs.Acting.{waiting_in, Follows, Acts}
 use Rattle.wap_session.specs.Feeding.{left_open}
@@ -104,7 +103,7 @@ module _ (lines : List (List ℕ)) (one other : Rule) (before after : Seen)
     asks = tt;
     steady = tt;
     failed = so.failed;
-    missed = λ is. asked_by (λ asked. Missed asked before after) (so.missed is);
+    missed = λ is. asked_by (λ asked. Fails asked before after) (so.missed is);
     stays = so.stays;
   }
 

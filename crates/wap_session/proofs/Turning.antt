@@ -10,7 +10,7 @@ use Rattle.wap_push.specs.declared.indication.Indication.{Indication}
 use Rattle.wap_push.specs.Inbox.{HaveWinners}
 use Rattle.wap_push.specs.Pushes.{push_at}
 use Rattle.wap_world.specs.site.Misses.{Asked}
-use Rattle.wap_world.specs.site.Asking.{Seen, Asks}
+use Rattle.wap_world.specs.site.Asking.{Seen, Asks, Fails}
 use Rattle.wap_world.specs.World.{World}
 use Rattle.wap_world.specs.Steps.{Step, then_step}
 use Rattle.wap_world.specs.Keys.{renewed}
@@ -25,7 +25,6 @@ use Rattle.wap_world.specs.scripting.Feeding.{turned, meaning}
 use Rattle.wap_world.proofs.ScriptingLawsLemmas.Feeding.{feeds}
 use Rattle.wap_context.specs.declared.waiting.Step.{Step as Did}
 use Rattle.wap_context.specs.Browsers.{Browser}
-use Rattle.wap_context.specs.Missing.{Missed}
 use Rattle.wap_context.specs.Sites.{fragment_call, site_of, IfOver}
 use Rattle.wap_context.specs.Acting.{lines_in, waiting_in, Follows, Acts}
 use Rattle.wap_session.specs.declared.fault.SessionFault.{SessionFault}
@@ -200,9 +199,9 @@ module _ (key : Key) (old : State) where
       → Acts (turn_rule old.waiting old.winners key) before after old.browser last (Err fault)
       → ◌≡◌ {A = Result (List (List ℕ)) SessionFault} (Err (fault_of fault)) (Err Store)
       → IfOver after old.browser
-      (λ pages. Missed (step_of pages (key ∷ []) old).asked before after)
+      (λ pages. Fails (step_of pages (key ∷ []) old).asked before after)
   missed_at {before} {after} run.Store so is =
-      asked_by (λ asked. Missed asked before after) (so.missed refl)
+      asked_by (λ asked. Fails asked before after) (so.missed refl)
   missed_at run.NoMemory so is = absurd cc
 
 -- ---- a key outside a dialog

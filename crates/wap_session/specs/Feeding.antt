@@ -1,13 +1,12 @@
 -- What a session is seen as, and what keys come to. This project's own.
-use Rattle.std.specs.Prelude.{◌≡◌, Bool, true, false, not, ◌&&◌, if◌then◌else◌}
+use Rattle.std.specs.Prelude.{◌≡◌, Bool, true, false, not, ◌&&◌, if◌then◌else◌, ◌<◌}
 use Rattle.std.specs.Prelude.{List, [], ◌∷◌, ◌++◌, Option, Some, None, is_some, is_none}
 use Rattle.std.specs.Prelude.{IfOk, IfErr, OnOk, OnErr, ◌≢◌, ℕ, Result, Err}
-use Rattle.wap_base.specs.Count.{Rose}
 use Rattle.wap_base.specs.declared.key.Key.{Key}
 use Rattle.wap_push.specs.declared.indication.Indication.{Indication}
 use Rattle.wap_push.specs.Pushes.{push_at}
 use Rattle.wap_push.specs.Inbox.{HaveWinners}
-use Rattle.wap_world.specs.site.Asking.{Seen, Stays, Asks}
+use Rattle.wap_world.specs.site.Asking.{Seen, Stays, Asks, Fails}
 use Rattle.wap_world.specs.Steps.{Step, then_step}
 use Rattle.wap_world.specs.inboxes.Winners.{Alike}
 use Rattle.wap_world.specs.inboxes.Inboxes.{Stepped}
@@ -16,7 +15,6 @@ use Rattle.wap_world.specs.scripting.UnitSites.{Pages, shelf_of}
 use Rattle.wap_world.specs.scripting.Waiting.{Waits, State as Between, played_from}
 use Rattle.wap_world.specs.scripting.Feeding.{Turns}
 use Rattle.wap_context.specs.Browsers.{Browser, IsOver}
-use Rattle.wap_context.specs.Missing.{Missed}
 use Rattle.wap_context.specs.Sites.{fragment_call, IfOver}
 use Rattle.wap_session.specs.declared.fault.SessionFault.{SessionFault}
 use Rattle.wap_session.specs.declared.fault.SessionFault.TheVariants.{Store, Ended}
@@ -135,7 +133,7 @@ pub record Plays (keys : List Key) (before after : Seen) (old new : State)
       (IfOver after old.browser (λ pages. Asks (step_of pages keys old).asked before after))
   pub steady : OnOk result (after.faults ≡ before.faults)
   -- the store failed
-  pub failed : result ≡ Err Store → Rose before.faults after.faults
+  pub failed : result ≡ Err Store → before.faults < after.faults
   -- exactly what is over gives no more lines, and it asks for nothing
   pub ended : old.is_over ≡ true → (result ≡ Err Ended) × (after ≡ before)
   pub goes_on : old.is_over ≡ false → IfErr result (λ fault. fault ≢ Ended)
@@ -150,4 +148,4 @@ pub record MissedAt (keys : List Key) (pages : Pages) (old : State) (before afte
     pub first : List Key
     pub others : List Key
     pub split : keys ≡ first ++ others
-    pub missed : Missed (step_of pages first old).asked before after
+    pub missed : Fails (step_of pages first old).asked before after

@@ -4,9 +4,8 @@ ghost use Rattle.std.specs.Prelude.{◌&&◌, not, None, Ok};
 ghost use Rattle.std.specs.Prelude.{IfOk, OnOk, IfErr, OnErr, IsErrOf};
 ghost use Rattle.wap_base.specs.Limits.{AreInRange};
 ghost use Rattle.wap_push.specs.Inbox.{HaveWinners};
-ghost use Rattle.wap_context.specs.Missing.{Missed};
 ghost use Rattle.wap_context.specs.Sites.{IfOver};
-ghost use Rattle.wap_world.specs.site.Asking.{Seen};
+ghost use Rattle.wap_world.specs.site.Asking.{Seen, Fails};
 ghost use Rattle.wap_world.specs.declared.refusal.Refusal.TheVariants.{Ignored};
 ghost use Rattle.wap_world.specs.Lines.{refusal_line};
 ghost use Rattle.wap_session.specs.Feeding.{beginning, step_of, TurnsTo, Plays, MissedAt, ShowsOn};
@@ -126,7 +125,7 @@ impl Session {
             self.old self.new result }
         ensures missed { IsErrOf result SessionFault.Store
             → IfOver (P.seen pages.new) self.old.browser (λ of.
-            Missed (step_of of (key.now ∷ []) self.old).asked
+            Fails (step_of of (key.now ∷ []) self.old).asked
             (P.seen pages.old) (P.seen pages.new)) }
         ensures shown { IfOk result (λ lines.
             IfOver (P.seen pages.new) self.old.browser (λ of.

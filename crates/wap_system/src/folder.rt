@@ -1,10 +1,9 @@
 //! A folder of files as a store of pages.
-ghost use Rattle.std.specs.Prelude.{◌≡◌, ◌≤◌, ◌↔◌, IsTrue, IfOk, is_err};
-ghost use Rattle.std.specs.Prelude.{if◌then◌else◌, encode_utf8_all, []};
+ghost use Rattle.std.specs.Prelude.{◌≡◌, ◌↔◌, IsTrue, IfOk, is_err};
+ghost use Rattle.std.specs.Prelude.{if◌then◌else◌, encode_utf8_all, [], ◌+◌};
 ghost use Rattle.std.specs.IoError.{error_kind};
 ghost use Rattle.wap_system.specs.Inside.{IsFileName, IsInside, IsFoundInside};
 ghost use Rattle.wap_system.specs.Missing.{tells_nothing, fault_of, there};
-ghost use Rattle.wap_base.specs.Count.{raised};
 ghost use Rattle.wap_base.specs.Texts.{AreAscending};
 ghost use Rattle.wap_devices.specs.Pages.{IsSmall};
 ghost use Rattle.wap_devices.specs.Stores.{Fetches, Lists, Told};
@@ -16,7 +15,7 @@ use std::path::Path;
 use std::rt::Files;
 use std::{fs, io};
 use wap_base::{Bytes, Text, are_ascending};
-use wap_devices::{Fetched, History, Log, PAGE_LIMIT, Store, StoreErr};
+use wap_devices::{Count, Fetched, History, Log, PAGE_LIMIT, Store, StoreErr};
 
 /// The deepest level of a folder below the store's own, whose folders have level 1.
 const DEEPEST: u32 = 64;
@@ -36,9 +35,9 @@ pub struct FolderStore<R> {
     folder: String,
     answers: Log<Text, Fetched>,
     lists: History<Vec<Text>>,
-    faults: u64,
-    fetches: u64,
-    listings: u64,
+    faults: Count,
+    fetches: Count,
+    listings: Count,
 }
 
 impl<R> Model for FolderStore<R> {
@@ -66,23 +65,9 @@ impl<R> FolderStore<R> {
             folder,
             answers: Log::new(),
             lists: History::new(),
-            faults: 0,
-            fetches: 0,
-            listings: 0,
-        }
-    }
-
-    /// Counts a call that failed or didn't.
-    fn count(&mut self, failed: bool)
-        ensures faults { self.new.faults
-            ≡ (if failed then raised self.old.faults else self.old.faults) }
-        ensures ordered { self.old.faults ≤ self.new.faults }
-        ensures fetches { self.new.fetches ≡ self.old.fetches }
-        ensures listings { self.new.listings ≡ self.old.listings }
-        ensures known { self.new.known ≡ self.old.known }
-    {
-        if failed {
-            self.faults = self.faults.saturating_add(1);
+            faults: Count::new(),
+            fetches: Count::new(),
+            listings: Count::new(),
         }
     }
 }
@@ -96,11 +81,11 @@ impl<R: Files + AllocGlobal + Clone + Drop> Store for FolderStore<R> {
         ensures inside { IfOk result (IsFoundInside (encode_utf8_all name.now)) }
         ensures outside { ¬ IsInside (encode_utf8_all name.now) → result ≡ Ok Fetched.Missing }
         ensures faults { self.new.faults
-            ≡ (if is_err result then raised self.old.faults else self.old.faults) }
+            ≡ (if is_err result then self.old.faults + 1 else self.old.faults) }
     {
-        self.fetches = self.fetches.saturating_add(1);
+        self.fetches.add();
         let answer = page(&self.rt, self.folder.as_str(), name.as_str());
-        self.count(answer.is_err());
+        self.faults.add_if(answer.is_err());
         if let Ok(found) = &answer {
             self.answers = self.answers.and(name, found);
         }
@@ -110,11 +95,11 @@ impl<R: Files + AllocGlobal + Clone + Drop> Store for FolderStore<R> {
     fn list(&mut self) -> Result<Vec<Text>, StoreErr>
         ensures lists { Lists (λ names. names.items) self.old self.new result }
         ensures faults { self.new.faults
-            ≡ (if is_err result then raised self.old.faults else self.old.faults) }
+            ≡ (if is_err result then self.old.faults + 1 else self.old.faults) }
     {
-        self.listings = self.listings.saturating_add(1);
+        self.listings.add();
         let answer = names(&self.rt, self.folder.as_str());
-        self.count(answer.is_err());
+        self.faults.add_if(answer.is_err());
         if let Ok(names) = &answer {
             self.lists = self.lists.and(names);
         }

@@ -1,13 +1,12 @@
 //! Standard input as a source of key lines.
-ghost use Rattle.std.specs.Prelude.{◌≡◌, ◌<◌, [], length, Ok, is_err, if◌then◌else◌};
+ghost use Rattle.std.specs.Prelude.{◌≡◌, ◌<◌, [], length, is_err, if◌then◌else◌, ◌+◌};
 ghost use Rattle.std.specs.Io.KnownBytes.{ReadConsumes};
-ghost use Rattle.wap_base.specs.Count.{raised};
-ghost use Rattle.wap_devices.specs.Sources.{Reads, ends_after};
+ghost use Rattle.wap_devices.specs.Sources.{Reads};
 ghost use Rattle.wap_system.specs.Adapters.{seen_of_reader};
 
 use std::io::Read;
 use std::marker::Model;
-use wap_devices::{Failed, History, Source};
+use wap_devices::{Count, Failed, History, Source};
 
 /// The most bytes that one read takes.
 const PIECE: usize = 4096;
@@ -18,9 +17,9 @@ const PIECE: usize = 4096;
 pub struct StdinSource<I> {
     reader: I,
     given: History<u8>,
-    reads: u64,
-    ends: u64,
-    faults: u64,
+    reads: Count,
+    ends: Count,
+    faults: Count,
 }
 
 impl<I> Model for StdinSource<I> {
@@ -46,21 +45,10 @@ impl<I> StdinSource<I> {
         StdinSource {
             reader,
             given: History::new(),
-            reads: 0,
-            ends: 0,
-            faults: 0,
+            reads: Count::new(),
+            ends: Count::new(),
+            faults: Count::new(),
         }
-    }
-}
-
-/// How often the end was reported, after a read that moves so many bytes.
-fn ends_after(ends: u64, count: usize) -> u64
-    ensures { result ≡ ends_after ends (Ok count) }
-{
-    if count == 0 {
-        ends.saturating_add(1)
-    } else {
-        ends
     }
 }
 
@@ -75,21 +63,21 @@ impl<I: Read> Source for StdinSource<I> {
         ensures reader { ReadConsumes (I.remaining self.old.reader)
             (I.remaining self.new.reader) result buffer.new }
         ensures faults { self.new.faults
-            ≡ (if is_err result then raised self.old.faults else self.old.faults) }
+            ≡ (if is_err result then self.old.faults + 1 else self.old.faults) }
     {
         // A piece of its own, since a read that fails may have written to what it was given.
         let mut piece = [0; PIECE];
-        self.reads = self.reads.saturating_add(1);
+        self.reads.add();
         let room = buffer.len().min(PIECE);
         match self.reader.read(&mut piece[..room]) {
             Ok(count) => {
                 buffer[..count].copy_from_slice(&piece[..count]);
                 self.given = self.given.and_all(&piece[..count]);
-                self.ends = ends_after(self.ends, count);
+                self.ends.add_if(count == 0);
                 Ok(count)
             }
             Err(_) => {
-                self.faults = self.faults.saturating_add(1);
+                self.faults.add();
                 Err(Failed)
             }
         }

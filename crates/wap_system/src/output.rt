@@ -7,7 +7,7 @@ ghost use Rattle.wap_system.specs.Writes.{faults_after};
 
 use std::io::Write;
 use std::marker::Model;
-use wap_devices::{Failed, History, Sink};
+use wap_devices::{Count, Failed, History, Sink};
 
 /// Standard output, or what else is written to. It keeps what it took, which clauses alone see. A
 /// call that a signal interrupts has failed.
@@ -15,8 +15,8 @@ use wap_devices::{Failed, History, Sink};
 pub struct StdoutSink<O> {
     writer: O,
     taken: History<u8>,
-    writes: u64,
-    faults: u64,
+    writes: Count,
+    faults: Count,
 }
 
 impl<O> Model for StdoutSink<O> {
@@ -41,8 +41,8 @@ impl<O> StdoutSink<O> {
         StdoutSink {
             writer,
             taken: History::new(),
-            writes: 0,
-            faults: 0,
+            writes: Count::new(),
+            faults: Count::new(),
         }
     }
 }
@@ -58,17 +58,15 @@ impl<O: Write> Sink for StdoutSink<O> {
             (O.contents self.new.writer) result piece.now }
         ensures faults { self.new.faults ≡ faults_after self.old.faults piece.now result }
     {
-        self.writes = self.writes.saturating_add(1);
+        self.writes.add();
         match self.writer.write(piece) {
             Ok(count) => {
-                if count == 0 && !piece.is_empty() {
-                    self.faults = self.faults.saturating_add(1);
-                }
+                self.faults.add_if(count == 0 && !piece.is_empty());
                 self.taken = self.taken.and_all(&piece[..count]);
                 Ok(count)
             }
             Err(_) => {
-                self.faults = self.faults.saturating_add(1);
+                self.faults.add();
                 Err(Failed)
             }
         }

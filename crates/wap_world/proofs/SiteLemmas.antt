@@ -1,3 +1,4 @@
 pub mod Counts
 pub mod Asking
+pub mod Failing
 pub mod Missing

@@ -1,9 +1,8 @@
 -- How a session comes to its end.
 use Rattle.std.proofs.Common.{◌≡◌, ◌≢◌, ℕ, ◌≤◌, List, [], ◌∷◌, ◌++◌, Option, Some, None}
 use Rattle.std.proofs.Common.{length, refl, sym, ap, subst, ◌∙◌, inl, inr, arith}
-use Rattle.std.specs.Prelude.{Bool, true, false, is_some, Ok}
+use Rattle.std.specs.Prelude.{Bool, true, false, is_some, Ok, ◌<◌}
 use Rattle.std.proofs.lemmas.List.{append-nil}
-use Rattle.wap_base.specs.Count.{Rose}
 use Rattle.wap_devices.specs.Sources.{SourceSeen, MayGive}
 use Rattle.wap_devices.specs.Sinks.{SinkSeen}
 use Rattle.wap_devices.specs.Transfer.{AppendsPrefix}
@@ -47,8 +46,8 @@ use Rattle.wap_cli.proofs.BrowseLemmas.Stopped.{wrote_before}
 use Rattle.wap_cli.proofs.BrowseLemmas.Stopped.{missed_there, prefix_part, wrote_part, asked_there}
 
 -- a count rose since it stood as before
-rose_from : (before now after : ℕ) → now ≡ before → Rose now after → Rose before after
-rose_from before now after is rose = subst (λ (count : ℕ). Rose count after) is rose
+rose_from : (before now after : ℕ) → now ≡ before → now < after → before < after
+rose_from before now after is rose = subst (λ (count : ℕ). count < after) is rose
 
 -- what holds of judged pages holds of the units that they are
 over_units : (seen : Seen) (Fact : Pages → Type 0)

@@ -1,5 +1,5 @@
 -- A session that stops before its end: what was written, and asked for.
-use Rattle.std.proofs.Common.{◌≡◌, ℕ, ◌+◌, ◌<◌, List, [], ◌∷◌, ◌++◌, length}
+use Rattle.std.proofs.Common.{◌≡◌, ℕ, ◌+◌, List, [], ◌∷◌, ◌++◌, length}
 use Rattle.std.proofs.Common.{sym, ap, subst, ◌∙◌, append_assoc, arith}
 use Rattle.std.specs.Prelude.{IfSome}
 use Rattle.wap_devices.specs.Transfer.{Appends, AppendsPrefix}
@@ -8,12 +8,10 @@ use Rattle.wap_devices.proofs.Transfers.{Appends-then}
 use Rattle.wap_base.specs.declared.key.Key.{Key}
 use Rattle.wap_keys.specs.Read.{AreFirst}
 use Rattle.wap_world.specs.site.Misses.{Asked, misses}
-use Rattle.wap_base.specs.Count.{greatest_count}
-use Rattle.wap_world.specs.site.Asking.{raised_by, Stays}
+use Rattle.wap_world.specs.site.Asking.{Fails}
 use Rattle.wap_world.proofs.SiteLemmas.Asking.{Asks-then}
 use Rattle.wap_world.specs.Steps.{Step}
 use Rattle.wap_world.specs.scripting.UnitSites.{Pages}
-use Rattle.wap_context.specs.Missing.{Missed}
 use Rattle.wap_session.specs.Feeding.{State, step_of}
 use Rattle.wap_cli.specs.browse.Outside.{Outside}
 use Rattle.wap_cli.specs.browse.Handling.{bytes_of, first_lines, first_asked}
@@ -113,16 +111,15 @@ module _ (pages : Pages) (play : List Key → Step) (given : List Key) (key : Ke
   -- the store was asked for a page of the second list, after all of the first
   abbrev RoseBetween : Moment → List Asked → List Asked → Type 0
   RoseBetween new first both = IfSome old.pages.cache
-      (λ cache. new.pages.fetches < greatest_count → RoseWithin
+      (λ cache. RoseWithin
       (misses first cache) (misses both cache) old.pages.fetches new.pages.fetches)
 
   -- it was asked for a page of the key
   pub missed_there : (new : Moment)
-      → Missed (step_of pages (key ∷ []) state).asked now.pages new.pages
-      → Stays now.pages new.pages
+      → Fails (step_of pages (key ∷ []) state).asked now.pages new.pages
       → RoseBetween new (first_asked play given (length given))
       (first_asked play given (length given + 1))
-  missed_there new missed stays =
+  missed_there new missed =
       let one = step_of pages (key ∷ []) state in
       subst (λ (asked : List Asked). RoseBetween new asked
       (first_asked play given (length given + 1))) (sym nears.asked)
@@ -130,7 +127,7 @@ module _ (pages : Pages) (play : List Key → Step) (given : List Key) (key : Ke
       (missed_after nears.before.asked one.asked (play given).asked old.pages now.pages new.pages
       (asked_joined (play given) nears.before one
       (whole pages play given key old now state nears))
-      nears.asks missed stays))
+      nears.asks missed))
 
   -- ---- the sink failed
 
@@ -169,13 +166,13 @@ module _ (pages : Pages) (play : List Key → Step) (given : List Key) (key : Ke
   -- and the store was asked for all its pages
   pub asked_there : (new : Moment) → LeadsPart pages key (moment_of now state) new
       → IfSome old.pages.cache (λ cache. new.pages.fetches
-      ≡ raised_by (misses (first_asked play given (length given + 1)) cache) old.pages.fetches)
+      ≡ old.pages.fetches + (misses (first_asked play given (length given + 1)) cache))
   asked_there new leads =
       let one = step_of pages (key ∷ []) state in
       subst (λ (asked : List Asked). IfSome old.pages.cache (λ cache. new.pages.fetches
-      ≡ raised_by (misses asked cache) old.pages.fetches)) (sym (asked_all play given))
+      ≡ old.pages.fetches + (misses asked cache))) (sym (asked_all play given))
       (subst (λ (asked : List Asked). IfSome old.pages.cache (λ cache. new.pages.fetches
-      ≡ raised_by (misses asked cache) old.pages.fetches))
+      ≡ old.pages.fetches + (misses asked cache)))
       (sym (asked_joined (play given) nears.before one
       (whole pages play given key old now state nears)))
       (Asks-then nears.before.asked one.asked old.pages now.pages new.pages nears.asks

@@ -1,7 +1,7 @@
 -- A key that is played: one that is no push leaves the inbox of a session as it is.
+use Rattle.std.specs.Prelude.{◌<◌}
 use Rattle.std.proofs.Common.{◌≡◌, ◌≤◌, ℕ, List, [], ◌∷◌, Option, None, Ok, refl, ap, subst}
 use Rattle.std.proofs.Common.{◌∙◌}
-use Rattle.wap_base.specs.Count.{Rose}
 use Rattle.wap_devices.specs.Transfer.{Appends, AppendsPrefix}
 use Rattle.wap_base.specs.declared.key.Key.{Key}
 use Rattle.wap_base.specs.declared.key.Key.TheVariants as key
@@ -72,7 +72,7 @@ module _ (one : Key) (old new : Moment) (lines : List (List ℕ))
 
   -- where a part of the lines was written, it stops
   pub stops_there : AppendsPrefix old.sink.taken new.sink.taken (lines_bytes lines)
-      → Rose old.sink.faults new.sink.faults → old.sink.faults ≤ new.sink.faults
+      → old.sink.faults < new.sink.faults → old.sink.faults ≤ new.sink.faults
       → FailsAtSink one old new
   stops_there wrote rose counts = record {
     leads = λ judged may is.

@@ -1,21 +1,18 @@
 -- A store that was asked for some pages is asked for more.
 use Rattle.std.proofs.Common.{◌≡◌, ℕ, ◌+◌, ◌≤◌, Result, Ok, Err, refl, sym, ap, ◌∙◌, subst, arith}
-use Rattle.std.specs.Prelude.{List, [], ◌∷◌, ◌++◌, length, All, IsErr, IsErrAnd, IsErrOf}
+use Rattle.std.specs.Prelude.{List, [], ◌∷◌, ◌++◌, length, All, IsErr, IsErrAnd, IsErrOf, ◌<◌}
 use Rattle.std.proofs.lemmas.List.Elements.{All-push, All-weaker}
-use Rattle.wap_base.specs.Count.{Rose}
 use Rattle.wap_devices.specs.Stores.{StoreSeen, Known, Grew, Fetches}
 use Rattle.wap_devices.specs.declared.store.StoreErr.{StoreErr}
 use Rattle.wap_devices.specs.declared.store.StoreErr.TheVariants.{Failed, NoMemory}
 use Rattle.wap_devices.proofs.Telling.{grew_nothing, grew_then}
-use Rattle.wap_world.specs.site.Asking.{raised_by}
-use Rattle.wap_world.proofs.SiteLemmas.Counts.{raised_by-then}
 use Rattle.wap_cli.specs.Answers.{page_of}
 use Rattle.wap_cli.specs.prepare.Fetching.{AsksFor, Job, IsAnswered}
 use Rattle.wap_cli.proofs.ResumeLemmas.Fetching.{page_later}
 
 -- so many were asked for, and none failed
 pub record Asked (count : ℕ) (before after : StoreSeen) : Type 0 where
-  pub fetches : after.fetches ≡ raised_by count before.fetches
+  pub fetches : after.fetches ≡ before.fetches + count
   pub listings : after.listings ≡ before.listings
   pub known : Grew before.known after.known
   pub faults : after.faults ≡ before.faults
@@ -34,10 +31,10 @@ err_over : {A B : Type 0} (fault other : StoreErr) → IsErrOf {T = A} (Err faul
 err_over fault other is = let same : fault ≡ other = cc in ap Err same
 
 module _ (i : ℕ) (a b c : StoreSeen) (asked : Asked i a b) where
-  more_fetches : (more : ℕ) → c.fetches ≡ raised_by more b.fetches
-      → c.fetches ≡ raised_by (i + more) a.fetches
+  more_fetches : (more : ℕ) → c.fetches ≡ b.fetches + more
+      → c.fetches ≡ a.fetches + (i + more)
   more_fetches more is =
-      is ∙ ap (raised_by more) asked.fetches ∙ sym (raised_by-then i more a.fetches)
+      let first = asked.fetches in omega (arith, is, first)
 
   -- and then more
   pub asked_more : {A : Type 0} (more : ℕ) (job : A) → AsksFor {A = A} more b c (Ok job)
@@ -64,7 +61,7 @@ module _ (i : ℕ) (a b c : StoreSeen) (asked : Asked i a b) where
         known = grew_then a.known b.known c.known asked.known asks.known;
         counts = omega (arith, counts, same);
         failed = λ is.
-            subst (λ (faults : ℕ). Rose faults c.faults) same
+            subst (λ (faults : ℕ). faults < c.faults) same
             (asks.failed (err_over fault Failed is));
         steady = tt;
       }

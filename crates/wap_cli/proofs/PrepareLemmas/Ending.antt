@@ -1,18 +1,16 @@
 -- How work on all pages of a folder ends.
-use Rattle.std.proofs.Common.{◌≡◌, ℕ, ◌≤◌, List, [], ◌∷◌, Ok, Err, Result, inl, inr, refl, ap}
+use Rattle.std.proofs.Common.{◌≡◌, ℕ, ◌≤◌, List, [], ◌∷◌, Ok, Err, Result, inl, inr, refl}
 use Rattle.std.proofs.Common.{subst, ◌∙◌, arith}
-use Rattle.std.specs.Prelude.{length}
+use Rattle.std.specs.Prelude.{length, ◌<◌}
 use Rattle.std.specs.List.Sorted.{IsPermutation}
 use Rattle.std.proofs.lemmas.List.Sorted.{length_permutation}
 use Rattle.std.proofs.lemmas.Map.Entries.{length-keys_of}
 use Rattle.wap_base.specs.Contents.{Contents, names_of}
-use Rattle.wap_base.specs.Count.{Rose}
 use Rattle.wap_devices.specs.Stores.{StoreSeen, Grew, Lists}
 use Rattle.wap_devices.specs.Sinks.{SinkSeen}
 use Rattle.wap_devices.proofs.Telling.{grew_nothing, grew_then, agrees_before}
 use Rattle.wap_devices.specs.declared.store.StoreErr.{StoreErr}
 use Rattle.wap_devices.specs.declared.store.StoreErr.TheVariants as store_error
-use Rattle.wap_world.specs.site.Asking.{raised_by}
 use Rattle.wap_cli.specs.declared.status.Status.{Status}
 use Rattle.wap_cli.specs.declared.status.Status.TheVariants.{StoreFault, NoMemory}
 use Rattle.wap_cli.specs.prepare.Fetching.{AsksFor}
@@ -112,7 +110,7 @@ module _ (Tells : (List ℕ → Type 0) → Type 0) {A : Type 0} (names_in : A �
             within pages (names_in names) asks.few.0 asks.few.1
                 (lists.names pages
                 (agrees_before listed.known after.known asks.known pages agrees)),
-            asks.few.2 ∙ ap (raised_by asks.few.0) lists.fetches,
+            omega (arith, asks.few.2, lists.fetches),
           );
           kept = grew_then store.known listed.known after.known listing asks.known;
           counts = omega (arith, first, second);
@@ -125,7 +123,7 @@ module _ (Tells : (List ℕ → Type 0) → Type 0) {A : Type 0} (names_in : A �
     page_fails asks =
         listed_by StoreFault sink asks
         (WorksTo.store_fault
-        (subst (λ (faults : ℕ). Rose faults after.faults) lists.asked.steady (asks.failed refl))
+        (subst (λ (faults : ℕ). faults < after.faults) lists.asked.steady (asks.failed refl))
         (asks.listings ∙ lists.listings) refl)
 
     -- memory ran out for the pages, or for what is done with them

@@ -5,8 +5,8 @@ use Rattle.std.specs.Map.{keys_of}
 use Rattle.wap_base.specs.Contents.{Contents}
 use Rattle.wap_base.proofs.Orders.{distinct_from_ascending}
 use Rattle.wap_world.specs.site.Pages.{Pages, AreSitePages}
-use Rattle.wap_world.specs.site.Asking.{MayBe, Stays}
-use Rattle.wap_cli.specs.prepared.Prepared.{ArePrepared, shared_seen}
+use Rattle.wap_world.specs.site.Asking.{MayBe, Stays, in_memory}
+use Rattle.wap_cli.specs.prepared.Prepared.{ArePrepared}
 
 -- none of their names stands twice
 pub fit : (pages : Pages) → ArePrepared pages → AreSitePages pages
@@ -16,13 +16,13 @@ fit pages prepared = record {
 }
 
 -- whatever pages these may be are those of a site
-pub fit_all : (seen : Pages) → ArePrepared seen → (pages : Pages) → MayBe (shared_seen seen) pages
+pub fit_all : (seen : Pages) → ArePrepared seen → (pages : Pages) → MayBe (in_memory seen) pages
     → AreSitePages pages
 fit_all seen prepared pages may = subst AreSitePages (sym may.are) (fit seen prepared)
 
 -- after any calls they may be what they were
-pub still : (before after : Pages) → Stays (shared_seen before) (shared_seen after)
-    → MayBe (shared_seen after) before
+pub still : (before after : Pages) → Stays (in_memory before) (in_memory after)
+    → MayBe (in_memory after) before
 unfolding IsDistinct
 still before after stays = record {
   contents = [];

@@ -18,7 +18,7 @@ use Rattle.wap_cli.specs.declared.status.Status.{Status}
 use Rattle.wap_cli.specs.declared.status.Status.TheVariants.{BadKey, TooManyKeys, KeyReadFault}
 use Rattle.wap_cli.specs.declared.status.Status.TheVariants.{NoMemory}
 use Rattle.wap_cli.specs.prepare.Working.{WorksOnAll}
-use Rattle.wap_cli.specs.replay.Outside.{Outside}
+use Rattle.wap_cli.specs.Devices.{Devices}
 use Rattle.wap_cli.specs.replay.Texts.{replayed}
 use Rattle.wap_cli.specs.replay.Headline.{CameTo, Tells, Ends, IsSiteOf, ReplaysSeen}
 use Rattle.wap_cli.specs.replay.inside.Jobs.{TellsOf}
@@ -48,10 +48,10 @@ came_to source last lists by read unfailing = record {
 
 module _ {A : Type 0} (lists_in : A → List (List Key)) (begun : Begun) (source last : SourceSeen)
     (store : StoreSeen) (sink : SinkSeen) where
-  abbrev before : Outside
+  abbrev before : Devices
   before = record { store = store; source = source; sink = sink }
 
-  abbrev after : Outside
+  abbrev after : Devices
   after = record { store = store; source = last; sink = sink }
 
   -- memory ran out for the keys
@@ -107,7 +107,7 @@ module _ {A : Type 0} (lists_in : A → List (List Key)) (begun : Begun) (source
       }
 
 -- what was written of the lists, over whatever both may be
-tells_both : (begun : Begun) (old new : Outside) (lists : List (List Key))
+tells_both : (begun : Begun) (old new : Devices) (lists : List (List Key))
     → ((bytes : List ℕ) → MayGive old.source new.source bytes → all_of (lists_of bytes) ≡ lists)
     → (Wrote : List ℕ → Type 0) → TellsOf begun lists new.store.known Wrote
     → Tells (IsSiteOf new.store) begun old new Wrote
@@ -117,7 +117,7 @@ tells_both begun old new lists same Wrote told site (contents, agrees, is) bytes
 
 -- the lists were played, or not
 pub worked : {A : Type 0} (lists_in : A → List (List Key)) (begun : Begun) (lists : A)
-    (old new : Outside) (status : Status)
+    (old new : Devices) (status : Status)
     → ReadsLists {A = A} lists_in old.source new.source (Ok (lists, ending.End))
     → WorksOnAll (TellsOf begun (lists_in lists) new.store.known) old.store new.store old.sink
     new.sink status

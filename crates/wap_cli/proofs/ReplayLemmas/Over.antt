@@ -9,7 +9,7 @@ use Rattle.wap_world.specs.Sites.{Site}
 use Rattle.wap_world.specs.Sessions.{Begun}
 use Rattle.wap_cli.specs.declared.status.Status.{Status}
 use Rattle.wap_cli.specs.declared.status.Status.TheVariants.{NoMemory}
-use Rattle.wap_cli.specs.replay.Outside.{Outside}
+use Rattle.wap_cli.specs.Devices.{Devices}
 use Rattle.wap_cli.specs.replay.Headline.{Tells, Ends, Replays, ReplaysSeen}
 use Rattle.wap_cli.proofs.PrepareLemmas.Ending.{works_as}
 use Rattle.wap_cli.proofs.ReplayLemmas.Ending.{wanting}
@@ -17,7 +17,7 @@ use Rattle.wap_cli.proofs.ReplayLemmas.Ending.{wanting}
 -- ---- over other sites
 
 module _ (IsSite IsSiteToo : Site → Type 0) (same : (site : Site) → IsSiteToo site → IsSite site)
-    (begun : Begun) (old new : Outside) where
+    (begun : Begun) (old new : Devices) where
   ends_too : (status : Status) → Ends IsSite begun old new status
       → Ends IsSiteToo begun old new status
   ends_too status (Ends.played one came end works) =
@@ -53,7 +53,7 @@ takes_none seen = (
 )
 
 -- memory ran out
-pub nothing_replayed : (begun : Begun) (old : Outside) → ReplaysSeen begun old old NoMemory
+pub nothing_replayed : (begun : Begun) (old : Devices) → ReplaysSeen begun old old NoMemory
 nothing_replayed begun old =
     wanting begun old.source old.source old.store old.sink refl (takes_none old.source)
     (omega arith) (inl refl)

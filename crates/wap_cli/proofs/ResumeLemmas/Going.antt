@@ -1,7 +1,7 @@
 -- A command on what was saved, from its beginning to its end.
+use Rattle.std.specs.Prelude.{◌<◌}
 use Rattle.std.proofs.Common.{◌≡◌, ℕ, List, [], Option, Some, Ok, refl, subst, ◌∙◌, inl, inr}
 use Rattle.std.specs.Option.{option_map}
-use Rattle.wap_base.specs.Count.{Rose}
 use Rattle.wap_base.specs.Contents.{Contents}
 use Rattle.wap_devices.specs.Stores.{StoreSeen, Agrees, Grew}
 use Rattle.wap_devices.specs.Sources.{SourceSeen}
@@ -23,7 +23,7 @@ use Rattle.wap_cli.proofs.MemoryLemmas.Pages.{hinders_remember}
 use Rattle.wap_cli.proofs.BrowseLemmas.Exits.{nothing_browses}
 use Rattle.wap_cli.proofs.BrowseLemmas.Forgetting.{may_too, with_cache, forget_cache, fresh_over}
 use Rattle.wap_cli.proofs.BrowseLemmas.Forgetting.{outside_over, over_fresh}
-use Rattle.wap_cli.specs.resume.Saving.{ImagesSeen, unshown}
+use Rattle.wap_cli.specs.resume.Saving.{ImagesSeen, nothing_dropped, unshown}
 use Rattle.wap_cli.specs.Answers.{IsPageOf}
 use Rattle.wap_cli.specs.resume.Resuming.{resumed, HasDeck, LacksDeck, Hinders, Fails, Unbegun}
 use Rattle.wap_cli.specs.resume.Resuming.{asked_once, Resumes, ResumesSeen}
@@ -35,9 +35,9 @@ use Rattle.wap_cli.proofs.ResumeLemmas.Fetching.{page_later}
 -- where memory ran out before a session was begun
 pub nothing_imaged : (begun : Begun) (old : Outside) → ImagesSeen begun old old NoMemory
 nothing_imaged begun old = record {
-  dropped = [];
+  dropped = nothing_dropped;
   end = NoMemory;
-  plays = nothing_browses (opened begun) (unshown [] old);
+  plays = nothing_browses (opened begun) (unshown nothing_dropped old);
   stops = λ undone. (refl, refl);
   parts = parts_of (world_of begun);
   ends_in = λ is. absurd cc;
@@ -74,7 +74,7 @@ pub fails_as : (Cause Other : PageFault → Type 0) → ((why : PageFault) → C
 fails_as Cause Other turn before now after is status (Fails.refused why cause same) =
     Fails.refused why (turn why cause) (same ∙ is)
 fails_as Cause Other turn before now after is status (Fails.store_fault rose) =
-    Fails.store_fault (subst (λ (count : ℕ). Rose count after) is rose)
+    Fails.store_fault (subst (λ (count : ℕ). count < after) is rose)
 fails_as Cause Other turn before now after is status Fails.no_memory = Fails.no_memory
 
 -- ---- over the pages of a store
@@ -191,7 +191,7 @@ forget_images : (begun : Begun) (old new : Outside) (status : Status) (cache : O
 forget_images begun old new status cache same so = record {
   dropped = so.dropped;
   end = so.end;
-  plays = forget_cache (opened begun) (unshown [] old) (unshown so.dropped new) so.end cache same
+  plays = forget_cache (opened begun) (unshown nothing_dropped old) (unshown so.dropped new) so.end cache same
       so.plays;
   stops = so.stops;
   parts = so.parts;

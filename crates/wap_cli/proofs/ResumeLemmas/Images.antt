@@ -37,7 +37,7 @@ use Rattle.wap_cli.specs.browse.Headline.{BrowsesSeen}
 use Rattle.wap_cli.proofs.BrowseLemmas.Exits.{unrefused}
 use Rattle.wap_cli.proofs.Writing.{writes_unrefused}
 use Rattle.wap_cli.specs.resume.Saving.{WritesImage, played_in, EndsIn, ImagesSeen}
-use Rattle.wap_cli.specs.resume.Saving.{IsWhole, unshown}
+use Rattle.wap_cli.specs.resume.Saving.{IsWhole, Dropped, nothing_dropped, unshown}
 
 -- ---- where keys end
 
@@ -119,9 +119,9 @@ image_remembers parts budget before after status (WritesImage.refused why is sam
 image_remembers parts budget before after status (WritesImage.no_memory same) fault so = absurd cc
 
 -- the keys didn't end outside a dialog
-pub images_undone : (begun : Begun) (old new : Outside) (dropped : List ℕ) (status : Status)
+pub images_undone : (begun : Begun) (old new : Outside) (dropped : Dropped) (status : Status)
     → status ≢ Done
-    → BrowsesSeen (opened begun) (unshown [] old) (unshown dropped new) status
+    → BrowsesSeen (opened begun) (unshown nothing_dropped old) (unshown dropped new) status
     → new.sink ≡ old.sink → ImagesSeen begun old new status
 images_undone begun old new dropped status undone plays same = record {
   dropped = dropped;
@@ -133,15 +133,15 @@ images_undone begun old new dropped status undone plays same = record {
   saves = λ is. absurd (undone is);
   of_reason = λ fault is.
       absurd
-      (unrefused (opened begun) (unshown [] old) (unshown dropped new) status plays fault is);
+      (unrefused (opened begun) (unshown nothing_dropped old) (unshown dropped new) status plays fault is);
   whole = λ is. absurd (undone is);
 }
 
 -- they did, and the context was to be saved
-pub images_done : (begun : Begun) (old new : Outside) (dropped : List ℕ) (state : State)
+pub images_done : (begun : Begun) (old new : Outside) (dropped : Dropped) (state : State)
     (context : Browser) (end status : Status) → end ≡ Done
-    → BrowsesSeen (opened begun) (unshown [] old) (unshown dropped new) end
-    → Rests (opened begun) (unshown [] old) (unshown dropped new) state → context ≡ state.browser
+    → BrowsesSeen (opened begun) (unshown nothing_dropped old) (unshown dropped new) end
+    → Rests (opened begun) (unshown nothing_dropped old) (unshown dropped new) state → context ≡ state.browser
     → WritesImage (image_of (parts_of context.world) begun.budget) old.sink new.sink status
     → (status ≡ Done → IsWhole (parts_of context.world) context.world)
     → ImagesSeen begun old new status
@@ -151,17 +151,17 @@ images_done begun old new dropped state context end status done plays rests is w
       dropped = dropped;
       end = Done;
       plays =
-          subst (λ (s : Status). BrowsesSeen (opened begun) (unshown [] old) after s) done plays;
+          subst (λ (s : Status). BrowsesSeen (opened begun) (unshown nothing_dropped old) after s) done plays;
       stops = λ other. absurd (other refl);
       parts = parts_of state.browser.world;
-      ends_in = λ so. ends_in begun (unshown [] old) after state rests;
+      ends_in = λ so. ends_in begun (unshown nothing_dropped old) after state rests;
       saves = λ so. subst (λ (browser : Browser). WritesImage
           (image_of (parts_of browser.world) begun.budget) old.sink new.sink status) is written;
       of_reason =
           image_remembers (parts_of context.world) begun.budget old.sink new.sink status written;
       whole = λ so bytes gives pages are.
           subst (λ (w : World). IsWhole (parts_of state.browser.world) w)
-          (stands_there begun (unshown [] old) after state rests bytes gives pages are).world
+          (stands_there begun (unshown nothing_dropped old) after state rests bytes gives pages are).world
           (subst (λ (browser : Browser). IsWhole (parts_of browser.world) browser.world) is
           (whole so));
     }

@@ -1,11 +1,10 @@
 -- The first of the keys that are played: what is written for them, and how often the store is
 -- asked. What is done before the first of them, as a URL that is opened, counts as a key. This
 -- project's own.
-use Rattle.std.specs.Prelude.{◌≡◌, ℕ, zero, suc, List, [], take, IfSome}
+use Rattle.std.specs.Prelude.{◌≡◌, ℕ, zero, suc, List, [], take, IfSome, ◌+◌}
 use Rattle.wap_devices.specs.Transfer.{Appends}
 use Rattle.wap_base.specs.declared.key.Key.{Key}
 use Rattle.wap_world.specs.site.Misses.{Asked, Cache, misses}
-use Rattle.wap_world.specs.site.Asking.{raised_by}
 use Rattle.wap_layout.specs.buffer.Written.{lines_bytes}
 use Rattle.wap_world.specs.Steps.{Step}
 use Rattle.wap_world.specs.Sessions.{shown_by}
@@ -35,4 +34,4 @@ pub record IsPlayed (play : List Key → Step) (keys : List Key) (old new : Outs
   pub wrote : Appends old.sink.taken new.sink.taken (bytes_of (play keys))
   -- and the store was asked exactly for what the cache didn't keep
   pub asked : IfSome old.pages.cache (λ cache. new.pages.fetches
-      ≡ raised_by (misses (play keys).asked cache) old.pages.fetches)
+      ≡ old.pages.fetches + misses (play keys).asked cache)

@@ -1,7 +1,6 @@
 -- What it comes to that keys are read and played: what is written, what is asked for, and how it
 -- ends. This project's own.
-use Rattle.std.specs.Prelude.{◌≡◌, ◌≢◌, ℕ, ◌+◌, ◌≤◌, Bool, true, false, List, length}
-use Rattle.wap_base.specs.Count.{Rose}
+use Rattle.std.specs.Prelude.{◌≡◌, ◌≢◌, ℕ, ◌+◌, ◌≤◌, Bool, true, false, List, length, ◌<◌}
 use Rattle.wap_devices.specs.Sources.{MayGive}
 use Rattle.wap_devices.specs.Transfer.{AppendsPrefix}
 use Rattle.wap_base.specs.declared.key.Key.{Key}
@@ -69,15 +68,15 @@ module _ {P : Type 0} (Are : P → Type 0) (play : P → List Key → Step) (old
     -- there is one byte past the limit, and no more were taken
     too_many_keys : length taken ≡ KEYS_LIMIT + 1 → AreAll ending.TooManyKeys → Ends TooManyKeys
     -- the source failed, where more was to come
-    read_fault : Rose old.source.faults new.source.faults
+    read_fault : old.source.faults < new.source.faults
         → keys_at ending.ReadFault taken ≡ record { keys = given; ending = ending.ReadFault }
         → ArePlayed → Ends KeyReadFault
     -- the store failed, or the sink, as the last key was handled, before the next read began; or as
     -- that was done which is done before the first, and nothing was read
-    store_fault : Rose old.pages.faults new.pages.faults → SourceStays old new → SinkStays old new
+    store_fault : old.pages.faults < new.pages.faults → SourceStays old new → SinkStays old new
         → IsAtLast old.source new.source taken given
         → ((pages : P) → Are pages → StopsAtStore (play pages) given old new) → Ends StoreFault
-    write_fault : Rose old.sink.faults new.sink.faults → SourceStays old new → StoreStays old new
+    write_fault : old.sink.faults < new.sink.faults → SourceStays old new → StoreStays old new
         → IsAtLast old.source new.source taken given
         → ((pages : P) → Are pages → StopsAtSink (play pages) given old new) → Ends WriteFault
     -- memory ran out

@@ -3,18 +3,13 @@
 use Rattle.std.specs.Prelude.{◌≡◌, ℕ, ◌+◌, ◌<◌, ◌≤◌, List, ◌++◌, length, IfSome}
 use Rattle.wap_devices.specs.Transfer.{Appends}
 use Rattle.wap_base.specs.declared.key.Key.{Key}
-use Rattle.wap_base.specs.Count.{greatest_count}
-use Rattle.wap_world.specs.site.Asking.{raised_by}
 use Rattle.wap_world.specs.Steps.{Step}
 use Rattle.wap_cli.specs.browse.Outside.{Outside}
 use Rattle.wap_cli.specs.browse.Handling.{first_lines, first_misses}
 
 -- a count rose by more than the least number, and by no more than the most
-pub record RoseWithin (least most before after : ℕ) : Type 0 where
-  pub more : ℕ
-  pub some : least < more
-  pub few : more ≤ most
-  pub count : after ≡ raised_by more before
+abbrev pub RoseWithin : ℕ → ℕ → ℕ → ℕ → Type 0
+RoseWithin least most before after = (before + least < after) × (after ≤ before + most)
 
 -- all of the first bytes were written, and a prefix of what the others have after them
 pub record WritesPart (before after first others : List ℕ) : Type 0 where
@@ -29,8 +24,8 @@ pub record StopsAtStore (play : List Key → Step) (given : List Key) (old new :
   -- nothing of it was written
   pub wrote : Appends old.sink.taken new.sink.taken
       (first_lines play given (length given))
-  -- the store was asked for a page of it, which is seen while its count is below the greatest
-  pub asked : IfSome old.pages.cache (λ cache. new.pages.fetches < greatest_count → RoseWithin
+  -- the store was asked for a page of it
+  pub asked : IfSome old.pages.cache (λ cache. RoseWithin
       (first_misses play given cache (length given))
       (first_misses play given cache (length given + 1))
       old.pages.fetches new.pages.fetches)
@@ -44,7 +39,7 @@ pub record StopsAtSink (play : List Key → Step) (given : List Key) (old new : 
       (first_lines play given (length given + 1))
   -- the store was asked for all its pages
   pub asked : IfSome old.pages.cache (λ cache. new.pages.fetches
-      ≡ raised_by (first_misses play given cache (length given + 1)) old.pages.fetches)
+      ≡ old.pages.fetches + first_misses play given cache (length given + 1))
 
 -- memory ran out at the last, or as one more was read
 pub record StopsForMemory (play : List Key → Step) (given : List Key) (old new : Outside)

@@ -1,8 +1,7 @@
 -- What the replaying of lists of keys comes to: what is written, what is asked for, and how it
 -- ends. This project's own.
-use Rattle.std.specs.Prelude.{◌≡◌, ◌≢◌, ℕ, ◌+◌, ◌≤◌, List, length}
+use Rattle.std.specs.Prelude.{◌≡◌, ◌≢◌, ℕ, ◌+◌, ◌≤◌, List, length, ◌<◌}
 use Rattle.wap_base.specs.Contents.{Contents}
-use Rattle.wap_base.specs.Count.{Rose}
 use Rattle.wap_devices.specs.Stores.{StoreSeen, Agrees}
 use Rattle.wap_devices.specs.Sources.{SourceSeen, Gives, MayGive}
 use Rattle.wap_keys.specs.declared.limits.TheConstants.{KEYS_LIMIT}
@@ -19,7 +18,7 @@ use Rattle.wap_cli.specs.declared.status.Status.{Status}
 use Rattle.wap_cli.specs.declared.status.Status.TheVariants.{BadKey, TooManyKeys, KeyReadFault}
 use Rattle.wap_cli.specs.declared.status.Status.TheVariants.{NoMemory}
 use Rattle.wap_cli.specs.prepare.Working.{WorksOnAll}
-use Rattle.wap_cli.specs.replay.Outside.{Outside}
+use Rattle.wap_cli.specs.Devices.{Devices}
 use Rattle.wap_cli.specs.replay.Texts.{replayed, site_of_store}
 
 -- the lists came to this end: whatever their bytes may be, they end so. No read began once a line
@@ -30,17 +29,17 @@ pub record CameTo (by : Ending) (before after : SourceSeen) : Type 0 where
   pub steady : after.faults ≡ before.faults
 
 -- what there is to be written, by whatever the site of the store and the bytes of the keys may be
-abbrev pub Tells : (Site → Type 0) → Begun → Outside → Outside → (List ℕ → Type 0) → Type 0
+abbrev pub Tells : (Site → Type 0) → Begun → Devices → Devices → (List ℕ → Type 0) → Type 0
 Tells IsSite begun old new Wrote = (site : Site) → IsSite site
     → (bytes : List ℕ) → MayGive old.source new.source bytes
     → Wrote (replayed site begun (all_of (lists_of bytes)))
 
 -- nothing was asked of the store, or written
-abbrev pub Untouched : Outside → Outside → Type 0
+abbrev pub Untouched : Devices → Devices → Type 0
 Untouched old new = (new.store ≡ old.store) × (new.sink ≡ old.sink)
 
 -- how it ends over the site of the store, with each status, and with no other
-pub data Ends (IsSite : Site → Type 0) (begun : Begun) (old new : Outside) : Status → Type 0 where
+pub data Ends (IsSite : Site → Type 0) (begun : Begun) (old new : Devices) : Status → Type 0 where
   -- all keys were read; then the pages of the store were asked for, and for each list its header
   -- and its transcript were to be written, in order
   played : (status : Status) → CameTo ending.End old.source new.source
@@ -56,7 +55,7 @@ pub data Ends (IsSite : Site → Type 0) (begun : Begun) (old new : Outside) : S
       → (taken : List ℕ) → length taken ≡ KEYS_LIMIT + 1 → Gives taken old.source new.source
       → Untouched old new → Ends IsSite begun old new TooManyKeys
   -- the source failed, and no line is refused of the bytes that were taken by then
-  read_fault : Rose old.source.faults new.source.faults → IsJustOver old.source new.source
+  read_fault : old.source.faults < new.source.faults → IsJustOver old.source new.source
       → (taken : List ℕ) → Gives taken old.source new.source
       → (lists_at ending.ReadFault taken).ending ≡ ending.ReadFault
       → Untouched old new → Ends IsSite begun old new KeyReadFault
@@ -66,7 +65,7 @@ pub data Ends (IsSite : Site → Type 0) (begun : Begun) (old new : Outside) : S
 
 -- sessions that are begun so, one for each list, over the site of the store, from the outside
 -- before to the outside after, and the status; by however many workers
-pub record Replays (IsSite : Site → Type 0) (begun : Begun) (old new : Outside) (status : Status)
+pub record Replays (IsSite : Site → Type 0) (begun : Begun) (old new : Devices) (status : Status)
     : Type 0 where
   pub ends : Ends IsSite begun old new status
   -- no more bytes of keys are taken than one too many, and the source gives its end once at most
@@ -82,5 +81,5 @@ IsSiteOf store site =
     (contents : Contents) × Agrees store.known contents × (site ≡ site_of_store contents)
 
 -- the same over the pages that the store may have by what it told, as they are judged
-abbrev pub ReplaysSeen : Begun → Outside → Outside → Status → Type 0
+abbrev pub ReplaysSeen : Begun → Devices → Devices → Status → Type 0
 ReplaysSeen begun old new status = Replays (IsSiteOf new.store) begun old new status

@@ -1,8 +1,7 @@
 -- The command that goes on with a saved context: in which world, what keys come to there, and why
 -- nothing is begun. This project's own.
-use Rattle.std.specs.Prelude.{◌≡◌, ℕ, false, List, [], ◌∷◌, ◌++◌, Some, None, IfSome}
+use Rattle.std.specs.Prelude.{◌≡◌, ℕ, false, List, [], ◌∷◌, ◌++◌, Some, None, IfSome, ◌<◌, ◌+◌}
 use Rattle.std.specs.Option.{option_and_then, option_map_or}
-use Rattle.wap_base.specs.Count.{raised, Rose}
 use Rattle.wap_base.specs.Contents.{Contents, page_named}
 use Rattle.wap_devices.specs.Stores.{Known, told, Agrees}
 use Rattle.wap_devices.specs.declared.store.Fetched.TheVariants.{Found}
@@ -116,7 +115,7 @@ pub data Fails (Cause : PageFault → Type 0) (before after : ℕ) : Status → 
   -- for one of these causes
   refused : (fault : PageFault) → Cause fault → after ≡ before
       → Fails Cause before after (Refused fault)
-  store_fault : Rose before after → Fails Cause before after StoreFault
+  store_fault : before < after → Fails Cause before after StoreFault
   no_memory : Fails Cause before after NoMemory
 
 -- nothing was begun: no key was read, and nothing written
@@ -133,7 +132,7 @@ abbrev pub asked_once : List ℕ → List ℕ → Outside → Outside
 asked_once name bytes outside = record outside {
   pages = record outside.pages {
     known = told outside.pages.known ((name, Found bytes) ∷ []) [];
-    fetches = raised outside.pages.fetches;
+    fetches = outside.pages.fetches + 1;
   };
 }
 

@@ -1,7 +1,6 @@
 -- The command that saves a context where its keys end: what it writes, and how it ends. This
 -- project's own.
 use Rattle.std.specs.Prelude.{◌≡◌, ◌≢◌, ℕ, false, List, [], ◌++◌, Result, Ok, Err}
-use Rattle.wap_base.specs.Count.{greatest_count}
 use Rattle.wap_devices.specs.Sinks.{SinkSeen}
 use Rattle.wap_devices.specs.Sources.{MayGive}
 use Rattle.wap_base.specs.declared.key.Key.{Key}
@@ -74,12 +73,20 @@ EndsIn begun pages keys parts = EndsAt begun (site_of pages) keys parts
 
 -- ---- the command
 
--- a sink that drops what it took, and never fails
-abbrev pub nowhere : List ℕ → SinkSeen
-nowhere dropped = record { taken = dropped; writes = greatest_count; faults = 0 }
+-- what was dropped so far, in so many writes
+pub record Dropped : Type 0 where
+  pub taken : List ℕ
+  pub writes : ℕ
 
--- the outside, where what is shown is dropped: so far these bytes
-abbrev pub unshown : List ℕ → Outside → Outside
+abbrev pub nothing_dropped : Dropped
+nothing_dropped = record { taken = []; writes = 0 }
+
+-- a sink that drops what it took, and never fails
+abbrev pub nowhere : Dropped → SinkSeen
+nowhere dropped = record { taken = dropped.taken; writes = dropped.writes; faults = 0 }
+
+-- the outside, where what is shown is dropped
+abbrev pub unshown : Dropped → Outside → Outside
 unshown dropped outside = record outside { sink = nowhere dropped }
 
 -- a session that begins so is played over these pages, which have this site, and saved where its
@@ -87,9 +94,9 @@ unshown dropped outside = record outside { sink = nowhere dropped }
 pub record Images {P : Type 0} (Are : P → Type 0) (site : P → Site) (begun : Begun)
     (old new : Outside) (status : Status) : Type 0 where
   -- its keys are played as in browsing, but what they show is dropped; they come to this end
-  pub dropped : List ℕ
+  pub dropped : Dropped
   pub end : Status
-  pub plays : Browses Are (λ pages. opened_at begun (site pages)) (unshown [] old)
+  pub plays : Browses Are (λ pages. opened_at begun (site pages)) (unshown nothing_dropped old)
       (unshown dropped new) end
   -- where that isn't Done the command ends so too, and nothing is written
   pub stops : end ≢ Done → (status ≡ end) × (new.sink ≡ old.sink)

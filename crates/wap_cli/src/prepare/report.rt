@@ -5,10 +5,10 @@ ghost use Rattle.wap_pages.specs.Printing.{page_text};
 ghost use Rattle.wap_cli.specs.prepare.Reports.{kind_word, verdict_text, entry_line};
 ghost use Rattle.wap_cli.specs.prepare.Reports.{accepted, is_accepted, last_line, report};
 
-use crate::prepare::draft::Draft;
 use itoa::Buffer;
 use std::alloc::Global;
 use wap_base::{NoMemory, Text, shown_text};
+use wap_devices::Draft;
 use wap_pages::{Kind, PageFault};
 
 /// What the page of a name is read as.

@@ -1,8 +1,7 @@
 //! Pages that a session shares with others.
 ghost use Rattle.std.specs.Prelude.{◌≡◌, [], ◌∷◌, IfOk, OnOk, IfErr, IsErrOf};
 ghost use Rattle.wap_world.specs.site.Pages.{Pages as JudgedPages, page_of, AreSitePages};
-ghost use Rattle.wap_world.specs.site.Asking.{MayBe, Stays, Asks, Fails};
-ghost use Rattle.wap_cli.specs.prepared.Prepared.{shared_seen};
+ghost use Rattle.wap_world.specs.site.Asking.{MayBe, Stays, Asks, Fails, in_memory};
 
 use crate::prepared::Prepared;
 use std::alloc::Global;
@@ -38,20 +37,20 @@ impl<'a> Shared<'a> {
 }
 
 impl<'a> Pages for Shared<'a> {
-    ghost seen = { shared_seen };
+    ghost seen = { in_memory };
 
     fn page(&mut self, _alloc: Global, name: &Text, fresh: bool) -> Result<Page, RunErr>
         ensures found { IfOk result (λ page. (pages : JudgedPages)
-            → MayBe (shared_seen self.new) pages → page ≡ page_of name.now pages) }
-        ensures site { (pages : JudgedPages) → MayBe (shared_seen self.new) pages
+            → MayBe (in_memory self.new) pages → page ≡ page_of name.now pages) }
+        ensures site { (pages : JudgedPages) → MayBe (in_memory self.new) pages
             → AreSitePages pages }
         ensures same { self.new ≡ self.old }
         ensures never { IfErr result (λ fault. fault ≡ RunErr.NoMemory) }
         ensures asks { OnOk result
-            (Asks ((name.now, fresh) ∷ []) (shared_seen self.old) (shared_seen self.new)) }
+            (Asks ((name.now, fresh) ∷ []) (in_memory self.old) (in_memory self.new)) }
         ensures failed { IsErrOf result RunErr.Store
-            → Fails ((name.now, fresh) ∷ []) (shared_seen self.old) (shared_seen self.new) }
-        ensures stays { Stays (shared_seen self.old) (shared_seen self.new) }
+            → Fails ((name.now, fresh) ∷ []) (in_memory self.old) (in_memory self.new) }
+        ensures stays { Stays (in_memory self.old) (in_memory self.new) }
     {
         match self.prepared.page(name) {
             Some(page) => Ok(page.share()?),

@@ -9,7 +9,7 @@ use crate::browse::{Beginning, browse_session};
 use crate::resume::nowhere::Nowhere;
 use crate::resume::saving::save_context;
 use std::alloc::Global;
-use wap_devices::{History, Sink, Source};
+use wap_devices::{Sink, Source};
 use wap_world::site::Pages;
 
 /// Plays keys as in browsing, and writes the image of the context in which they end outside a
@@ -33,9 +33,7 @@ pub fn image<P: Pages, I: Source, O: Sink>(
         result }
 {
     let turns = begun.budget;
-    let mut dropped = Nowhere {
-        taken: History::new(),
-    };
+    let mut dropped = Nowhere::new();
     let (status, session) = browse_session(alloc, begun, pages, keys, &mut dropped);
     let Status::Done = status else {
         return status;

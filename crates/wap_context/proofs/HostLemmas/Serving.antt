@@ -1,7 +1,7 @@
 -- Calls that ask for a page, and calls that don't, as calls of a host.
-use Rattle.std.proofs.Common.{◌≡◌, ◌∙◌, ◌+◌, ℕ, Bool, true, false, List, [], ◌∷◌, ◌++◌, Option}
-use Rattle.std.proofs.Common.{Some, None, Ok, Err, refl, sym, ap, subst, append-nil}
-use Rattle.std.specs.Prelude.{if◌then◌else◌, Result, IfSome, IsErr, IsErrAnd}
+use Rattle.std.proofs.Common.{◌≡◌, ◌∙◌, ◌+◌, ℕ, true, false, List, [], ◌∷◌, ◌++◌, Option}
+use Rattle.std.proofs.Common.{Some, None, Ok, Err, refl, sym, ap, subst, append-nil, arith}
+use Rattle.std.specs.Prelude.{Result, IfSome, IsErr, IsErrAnd}
 use Rattle.std.proofs.lemmas.Bool.{false≢true}
 use Rattle.std.proofs.Math.Path.{fun_ext}
 use Rattle.std.specs.Option.{option_map}
@@ -18,9 +18,9 @@ use Rattle.wap_world.specs.scripting.Hosting.{within}
 use Rattle.wap_machine.specs.Hosts.{Gives}
 use Rattle.wap_world.specs.declared.site.page.Page.{Page}
 use Rattle.wap_world.specs.site.Pages.{Pages as JudgedPages, page_of, AreSitePages}
-use Rattle.wap_world.specs.site.Misses.{Cache, Asked as Question, is_miss, after_asking, after_all}
+use Rattle.wap_world.specs.site.Misses.{Cache, Asked as Question, after_asking, after_all}
 use Rattle.wap_world.specs.site.Misses.{misses}
-use Rattle.wap_world.specs.site.Asking.{Seen, raised_by}
+use Rattle.wap_world.specs.site.Asking.{Seen}
 use Rattle.wap_world.proofs.SiteLemmas.Asking.{Stays-same}
 use Rattle.wap_world.specs.Requests.{plain_get, request_line}
 use Rattle.wap_world.specs.Shelves.{Shelf}
@@ -112,20 +112,15 @@ module _ (one : Question) where
   abbrev all : List Question
   all = one ∷ []
 
-  one_more : (is_one : Bool) (count : ℕ)
-      → raised_by ((if is_one then 1 else 0) + 0) count ≡ raised_by (if is_one then 1 else 0) count
-  one_more true count = refl
-  one_more false count = refl
-
   counted_after : (cache later : Option Cache) (fetches more : ℕ)
       → later ≡ option_map (after_all all) cache
-      → IfSome cache (λ c. more ≡ raised_by (misses all c) fetches)
+      → IfSome cache (λ c. more ≡ fetches + misses all c)
       → counted_of later more ≡ counted_all all (counted_of cache fetches)
   counted_after None later fetches more is so = ap (λ (c : Option Cache). counted_of c more) is
   counted_after (Some cache) later fetches more is so =
       ap (λ (c : Option Cache). counted_of c more) is
       ∙ ap (λ (n : ℕ). counted_of (Some (after_asking one cache)) n)
-      (so ∙ one_more (is_miss one cache) fetches)
+      (omega (arith, so))
 
 -- ---- a call that asks for a page
 

@@ -1,7 +1,6 @@
 -- What a call of a script comes to for the stage on which it plays: a row of the definitions, done
 -- to a step in which nothing was done yet, and added. This project's own.
-use Rattle.std.specs.Prelude.{◌≡◌, false, [], ◌∷◌, ◌++◌, Result, Err, IfOk, OnOk}
-use Rattle.wap_base.specs.Count.{Rose}
+use Rattle.std.specs.Prelude.{◌≡◌, false, [], ◌∷◌, ◌++◌, Result, Err, IfOk, OnOk, ◌<◌}
 use Rattle.wap_base.specs.declared.fault.RunErr.{RunErr}
 use Rattle.wap_base.specs.declared.fault.RunErr.TheVariants.{Store}
 use Rattle.wap_url.specs.declared.url.Url.{Url}
@@ -15,7 +14,7 @@ use Rattle.wap_world.specs.site.Asking.{Seen, MayBe, Stays, Asks, Fails}
 use Rattle.wap_world.specs.Requests.{plain_get, request_line}
 use Rattle.wap_world.specs.Steps.{Step, still, quiet}
 use Rattle.wap_world.specs.scripting.Views.{View, added}
-use Rattle.wap_context.specs.host.Stages.{Sight, view_in, count_of, fetched_in}
+use Rattle.wap_context.specs.host.Stages.{Sight, view_in, fetched_in}
 
 -- ---- without pages
 
@@ -46,9 +45,9 @@ pub record Serves {A : Type 0} (row : View → A × Step) (old new : Sight) (bef
   pub told : IfOk result (λ answer. (judged : JudgedPages) → MayBe after judged
       → Gives (done_by row (view_in old before judged)) answer (view_in new after judged))
   pub steady : OnOk result (after.faults ≡ before.faults)
-  pub failed : result ≡ Err Store → Rose before.faults after.faults
+  pub failed : result ≡ Err Store → before.faults < after.faults
   pub fetched : result ≡ Err Store → (judged : JudgedPages) → MayBe after judged
-      → Fetches (fetched_in (view_in old before judged)) (count_of after.fetches)
+      → Fetches (fetched_in (view_in old before judged)) after.fetches
       (fetched_in (done_by row (view_in old before judged)).1)
   pub stays : Stays before after
 

@@ -1,8 +1,7 @@
 -- The stage on which a script plays: what it sees of a browser and may change, and the view that it
 -- makes with pages. This project's own.
-use Rattle.std.specs.Prelude.{ℕ, List, Option, min}
+use Rattle.std.specs.Prelude.{ℕ, List, Option}
 use Rattle.std.specs.Option.{option_map}
-use Rattle.wap_base.specs.Count.{greatest_count}
 use Rattle.wap_tokens.specs.declared.markup.deck.Deck.{Deck}
 use Rattle.wap_world.specs.site.Pages.{Pages as JudgedPages}
 use Rattle.wap_world.specs.site.Asking.{Seen}
@@ -48,10 +47,6 @@ told stage seen judged = view_in (sight_of stage) seen judged
 
 -- ---- fetches
 
--- a count is none past the greatest
-abbrev pub count_of : ℕ → ℕ
-count_of count = min count greatest_count
-
 -- how often the store was asked, where a view says it
 abbrev pub fetched_in : View → Option ℕ
-fetched_in view = option_map (λ counted. count_of counted.fetches) view.counted
+fetched_in view = option_map (λ counted. counted.fetches) view.counted

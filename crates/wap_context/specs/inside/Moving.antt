@@ -1,10 +1,9 @@
 -- What the parts of a navigation come to. Contracts inside the crate cite it; those of its public
 -- calls don't. This project's own.
-use Rattle.std.specs.Prelude.{◌≡◌, ◌≤◌, ◌+◌, false, List, [], ◌++◌, ◌∷◌, Option, Some, None}
+use Rattle.std.specs.Prelude.{◌≡◌, ◌≤◌, ◌+◌, false, List, [], ◌++◌, ◌∷◌, Option, Some, None, ◌<◌}
 use Rattle.std.specs.Prelude.{IfSome, IfOk, OnOk, Result, Ok, Err}
 use Rattle.wap_base.specs.declared.fault.RunErr.{RunErr}
 use Rattle.wap_base.specs.declared.fault.RunErr.TheVariants.{Store}
-use Rattle.wap_base.specs.Count.{Rose}
 use Rattle.wap_url.specs.declared.url.Url.{Url}
 use Rattle.wap_url.specs.Printing.{name_for}
 use Rattle.wap_tokens.specs.declared.markup.deck.Deck.{Deck}
@@ -13,7 +12,7 @@ use Rattle.wap_base.specs.declared.key.Key.{Key}
 use Rattle.wap_world.specs.declared.site.page.Page.{Page}
 use Rattle.wap_world.specs.declared.site.page.Page.TheVariants as page
 use Rattle.wap_world.specs.site.Pages.{Pages as JudgedPages, page_of, AreSitePages}
-use Rattle.wap_world.specs.site.Asking.{Seen, MayBe, Stays, Asks}
+use Rattle.wap_world.specs.site.Asking.{Seen, MayBe, Stays, Asks, Fails}
 use Rattle.wap_world.specs.declared.refusal.Refusal.{Refusal}
 use Rattle.wap_world.specs.declared.refusal.Refusal.TheVariants as refusals
 use Rattle.wap_world.specs.Shelves.{Shelf}
@@ -31,7 +30,6 @@ use Rattle.wap_context.specs.declared.waiting.Went.TheVariants.{Settled, Leads, 
 use Rattle.wap_context.specs.declared.waiting.Step.{Step as Did}
 use Rattle.wap_context.specs.Browsers.{Browser, IsOver, place_held}
 use Rattle.wap_context.specs.Pausing.{waits_of}
-use Rattle.wap_context.specs.Missing.{Missed}
 use Rattle.wap_context.specs.Sites.{fragment_call, site_of, IfOver}
 use Rattle.wap_context.specs.Acting.{lines_in, waiting_in}
 
@@ -86,7 +84,7 @@ pub record Asked (request : Request) (seen after : Seen) (before shown : List Li
   pub site : OnOk result ((pages : JudgedPages) → MayBe after pages → AreSitePages pages)
   pub lines : OnOk result (shown ≡ before ++ request_line request ∷ [])
   pub asks : OnOk result (Asks ((name_for request.url, request.fresh) ∷ []) seen after)
-  pub missed : result ≡ Err Store → Missed ((name_for request.url, request.fresh) ∷ []) seen after
+  pub missed : result ≡ Err Store → Fails ((name_for request.url, request.fresh) ∷ []) seen after
   pub stays : Stays seen after
 
 -- ---- navigations with keys after them
@@ -121,8 +119,8 @@ pub record Takes (rule : Pages → List Key → World → Once) (seen after : Se
       (λ pages. Goes pages (λ keys. rule pages keys old.world) seen after new before shown went))
   pub steady : OnOk result (after.faults ≡ seen.faults)
   pub missed : result ≡ Err Store → IfOver after old
-      (λ pages. Missed (rule pages [] old.world).step.asked seen after)
-  pub rose : result ≡ Err Store → Rose seen.faults after.faults
+      (λ pages. Fails (rule pages [] old.world).step.asked seen after)
+  pub rose : result ≡ Err Store → seen.faults < after.faults
   pub stays : Stays seen after
   pub turns : OnOk result (new.world.turns ≤ old.world.turns)
 
@@ -173,6 +171,6 @@ pub record Pursues (rule : Pages → List Key → World → Step) (seen after : 
       (λ pages. Ends pages (λ keys. rule pages keys old.world) seen after new before did))
   pub steady : OnOk result (after.faults ≡ seen.faults)
   pub missed : result ≡ Err Store → IfOver after old
-      (λ pages. Missed (rule pages [] old.world).asked seen after)
-  pub rose : result ≡ Err Store → Rose seen.faults after.faults
+      (λ pages. Fails (rule pages [] old.world).asked seen after)
+  pub rose : result ≡ Err Store → seen.faults < after.faults
   pub stays : Stays seen after

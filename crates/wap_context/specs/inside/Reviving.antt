@@ -7,11 +7,10 @@ use Rattle.wap_url.specs.declared.url.Url.{Url}
 use Rattle.wap_url.specs.Printing.{name_for}
 use Rattle.wap_world.specs.declared.site.page.Page.{Page}
 use Rattle.wap_world.specs.site.Pages.{Pages as JudgedPages, page_of, AreSitePages}
-use Rattle.wap_world.specs.site.Asking.{Seen, MayBe, Stays, Asks}
+use Rattle.wap_world.specs.site.Asking.{Seen, MayBe, Stays, Asks, Fails}
 use Rattle.wap_world.specs.declared.history.Entry.{Entry}
 use Rattle.wap_world.specs.World.{World}
 use Rattle.wap_context.specs.declared.saved.Revived.{Revived}
-use Rattle.wap_context.specs.Missing.{Missed}
 use Rattle.wap_context.specs.Saved.{revived_on}
 
 -- the page of a URL, which is asked for and not fresh
@@ -20,7 +19,7 @@ pub record AsksPage (url : Url) (before after : Seen) (result : Result Page RunE
       → page ≡ page_of (name_for url) pages)
   pub site : OnOk result ((pages : JudgedPages) → MayBe after pages → AreSitePages pages)
   pub asks : OnOk result (Asks ((name_for url, false) ∷ []) before after)
-  pub missed : result ≡ Err Store → Missed ((name_for url, false) ∷ []) before after
+  pub missed : result ≡ Err Store → Fails ((name_for url, false) ∷ []) before after
   pub stays : Stays before after
 
 -- what is made of it by the page, which is that of any pages that these may be
@@ -35,5 +34,5 @@ pub record Returns (world : World) (last : Entry) (before after : Seen)
   pub returned : IfOk result (IsReturned world last after)
   pub site : OnOk result ((pages : JudgedPages) → MayBe after pages → AreSitePages pages)
   pub asks : OnOk result (Asks ((name_for last.url, false) ∷ []) before after)
-  pub missed : result ≡ Err Store → Missed ((name_for last.url, false) ∷ []) before after
+  pub missed : result ≡ Err Store → Fails ((name_for last.url, false) ∷ []) before after
   pub stays : Stays before after

@@ -1,12 +1,11 @@
 -- How a go or an open starts a script of a unit that is known, and what follows its end at the place
 -- at hand. Contracts inside the crate cite it; those of its public calls don't. This project's own.
 use Rattle.std.specs.Prelude.{◌≡◌, ℕ, Bool, true, false, ◌==◌, if◌then◌else◌, List, [], ◌∷◌, length}
-use Rattle.std.specs.Prelude.{Option, Some, None, IfOk, OnOk, ◌≤◌, Result, Err}
+use Rattle.std.specs.Prelude.{Option, Some, None, IfOk, OnOk, ◌≤◌, Result, Err, ◌<◌}
 use Rattle.std.specs.Option.{option_and_then}
 use Rattle.std.specs.List.{list_any}
 use Rattle.wap_base.specs.declared.fault.RunErr.{RunErr}
 use Rattle.wap_base.specs.declared.fault.RunErr.TheVariants.{Store}
-use Rattle.wap_base.specs.Count.{Rose}
 use Rattle.wap_url.specs.declared.url.Url.{Url}
 use Rattle.wap_url.specs.Printing.{without_fragment}
 use Rattle.wap_value.specs.declared.value.Value.{Value}
@@ -25,7 +24,7 @@ use Rattle.wap_machine.specs.declared.machine.Outcome.TheVariants.{Fatal as Died
 use Rattle.wap_cardrules.specs.declared.event.Event.TheVariants as event
 use Rattle.wap_cardrules.specs.declared.task.Task.{Task}
 use Rattle.wap_cardrules.specs.Values.{Pairs}
-use Rattle.wap_world.specs.site.Asking.{Seen, Stays, Asks as AsksFor}
+use Rattle.wap_world.specs.site.Asking.{Seen, Stays, Asks as AsksFor, Fails}
 use Rattle.wap_world.specs.declared.timer.Timer.{Timer}
 use Rattle.wap_world.specs.declared.timer.Timer.TheVariants.{Off, Expired}
 use Rattle.wap_world.specs.World.{World, Place}
@@ -44,7 +43,6 @@ use Rattle.wap_context.specs.declared.starting.Start.{Start}
 use Rattle.wap_context.specs.declared.starting.Start.TheVariants.{Not, Runs}
 use Rattle.wap_context.specs.Browsers.{Browser, IsOver}
 use Rattle.wap_context.specs.Pausing.{waits_of}
-use Rattle.wap_context.specs.Missing.{Missed}
 use Rattle.wap_context.specs.Sites.{fragment_call, IfOver}
 use Rattle.wap_context.specs.inside.AtHand.{show_at, begun_at}
 
@@ -140,8 +138,8 @@ pub record RunsTo (machine : Stack) (first : List Line) (seen after : Seen) (old
       (λ pages. CameTo pages (run_of machine first pages old.world) seen after new did.0 did.1))
   pub steady : OnOk result (after.faults ≡ seen.faults)
   pub missed : result ≡ Err Store → IfOver after old
-      (λ pages. Missed (run_of machine first pages old.world).state.asked seen after)
-  pub rose : result ≡ Err Store → Rose seen.faults after.faults
+      (λ pages. Fails (run_of machine first pages old.world).state.asked seen after)
+  pub rose : result ≡ Err Store → seen.faults < after.faults
   pub stays : Stays seen after
   pub turns : OnOk result (new.world.turns ≤ old.world.turns)
   pub limits : IfOk result (λ did. KeepsLimits machine.limits did.0)

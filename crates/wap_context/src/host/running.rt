@@ -92,7 +92,7 @@ impl<P: Pages> Host<P> for Running {
     ghost use Rattle.wap_world.specs.site.Asking.{MayBe, Stays};
     ghost use Rattle.wap_world.proofs.SiteLemmas.Asking.{Stays-same, Stays-then, Stays-may};
     ghost use Rattle.wap_world.specs.scripting.Views.{View, viewing, host_at, fresh};
-    ghost use Rattle.wap_context.specs.host.Stages.{told, count_of, fetched_in};
+    ghost use Rattle.wap_context.specs.host.Stages.{told, fetched_in};
     ghost use Rattle.wap_context.specs.host.inside.Counting.{counts, added_grows};
 
     ghost Under = { JudgedPages };
@@ -109,7 +109,7 @@ impl<P: Pages> Host<P> for Running {
 
     ghost faults = { λ pages. (P.seen pages).faults };
 
-    ghost fetches = { λ pages. count_of (P.seen pages).fetches };
+    ghost fetches = { λ pages. (P.seen pages).fetches };
 
     ghost fetched = { fetched_in };
 

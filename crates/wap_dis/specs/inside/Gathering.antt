@@ -1,6 +1,5 @@
 -- Bytes that are put after others, of which some are written and some are gathered still.
-use Rattle.std.specs.Prelude.{◌≡◌, ℕ, ◌≤◌, Bool, true, false, List, ◌++◌}
-use Rattle.wap_base.specs.Count.{Rose}
+use Rattle.std.specs.Prelude.{◌≡◌, ℕ, ◌≤◌, Bool, true, false, List, ◌++◌, ◌<◌}
 use Rattle.wap_devices.specs.Transfer.{Appends, AppendsPrefix}
 use Rattle.wap_devices.specs.Sinks.{SinkSeen}
 
@@ -22,5 +21,5 @@ pub record Gathers (before after : SinkSeen) (old new : State) (text : List ℕ)
       → (old.failed ≡ false) × Moves before after old.bytes new.bytes text
   pub broken : new.failed ≡ true → old.failed ≡ false
       → AppendsPrefix before.taken after.taken (old.bytes ++ text)
-      × Rose before.faults after.faults
+      × (before.faults < after.faults)
   pub stays : old.failed ≡ true → (new.failed ≡ true) × (after ≡ before)

@@ -1,13 +1,12 @@
 //! The listing of a unit, with what its operands name behind each instruction.
 use crate::pieces::{Added, margin};
-use crate::units::kept::nothing_kept;
 use crate::units::notes::add_note;
 use std::alloc::Global;
 use std::fmt::Write;
 use std::str;
 use wap_asm::{read_row, row_of};
-use wap_base::{Bytes, NoMemory};
-use wap_devices::Failed;
+use wap_base::NoMemory;
+use wap_devices::{Draft, Failed};
 use wap_dis::listing;
 use wap_unit::{Instr, Row, Unit};
 
@@ -24,10 +23,10 @@ pub(crate) struct Mark {
 }
 
 /// The listing that `list` writes.
-fn listing_of(alloc: Global, unit: &Unit) -> Result<Bytes, NoMemory> {
-    let mut kept = nothing_kept(alloc);
-    match listing(unit, &mut kept) {
-        Ok(()) => Ok(kept.bytes),
+fn listing_of(alloc: Global, unit: &Unit) -> Result<Draft, NoMemory> {
+    let mut draft = Draft::new(alloc);
+    match listing(unit, &mut draft) {
+        Ok(()) => Ok(draft),
         Err(Failed) => Err(NoMemory),
     }
 }
@@ -67,8 +66,8 @@ fn find_mark(text: &str, mark: &Mark) -> Option<usize> {
 
 /// Adds the listing, or where there is a line to be marked those around it.
 pub(crate) fn add_unit(alloc: Global, out: &mut String, unit: &Unit, mark: Option<&Mark>) -> Added {
-    let kept = listing_of(alloc, unit)?;
-    let text = str::from_utf8(kept.as_slice()).unwrap_or("");
+    let draft = listing_of(alloc, unit)?;
+    let text = str::from_utf8(draft.as_bytes()).unwrap_or("");
     let marked = mark.and_then(|mark| find_mark(text, mark));
     let mut functions = 0;
     for (number, line) in text.lines().enumerate() {

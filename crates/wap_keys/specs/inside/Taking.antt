@@ -1,7 +1,6 @@
 -- Lines that are taken from a reader, and bytes that are read after them. This project's own.
 use Rattle.std.specs.Prelude.{◌≡◌, ◌≢◌, ℕ, ◌+◌, ◌-◌, ◌<◌, ◌≤◌, true, false, List, [], ◌++◌, length}
 use Rattle.std.specs.Prelude.{take, drop, Option, Some, None, Result, Ok, Err}
-use Rattle.wap_base.specs.Count.{raised, Rose}
 use Rattle.wap_devices.specs.Sources.{SourceSeen, MayCome, Reads}
 use Rattle.wap_devices.specs.declared.fault.Failed.{Failed}
 use Rattle.wap_keys.specs.declared.limits.TheConstants.{KEYS_LIMIT, LINE_LIMIT}
@@ -81,7 +80,7 @@ pub record ReadsEnd (before after : SourceSeen) (old new : Reading) : Type 0 whe
   pub none : MayCome after.coming []
   pub takes : TakesAtOnce [] before after
   pub reader : new ≡ record old { over = true }
-  pub ends : after.ends ≡ raised before.ends
+  pub ends : after.ends ≡ before.ends + 1
   pub steady : after.faults ≡ before.faults
 
 -- or a byte past the limit is read
@@ -97,7 +96,7 @@ pub record FailsToRead (before after : SourceSeen) : Type 0 where
   pub takes : TakesAtOnce [] before after
   pub ends : after.ends ≡ before.ends
   pub counts : before.faults ≤ after.faults
-  pub rose : Rose before.faults after.faults
+  pub rose : before.faults < after.faults
 
 -- what a read comes to
 abbrev pub ReadsMore : SourceSeen → SourceSeen → Reading → Reading → More → Type 0

@@ -1,6 +1,5 @@
 -- Lists of keys whose bytes are taken from a source. This project's own.
-use Rattle.std.specs.Prelude.{◌≡◌, ◌≢◌, ℕ, ◌+◌, ◌≤◌, List, [], length, Result, IfOk, OnErr}
-use Rattle.wap_base.specs.Count.{Rose}
+use Rattle.std.specs.Prelude.{◌≡◌, ◌≢◌, ℕ, ◌+◌, ◌≤◌, List, [], length, Result, IfOk, OnErr, ◌<◌}
 use Rattle.wap_base.specs.declared.fault.NoMemory.{NoMemory}
 use Rattle.wap_devices.specs.Sources.{SourceSeen, Gives, MayGive}
 use Rattle.wap_base.specs.declared.key.Key.{Key}
@@ -41,7 +40,7 @@ pub record AreRead (before after : SourceSeen) (lists : List (List Key)) (ending
     -- no read begins once a line is refused
     pub prompt : IsJustOver before after
     -- the source failed where the ending says so, and only there
-    pub failed : ending ≡ ReadFault → Rose before.faults after.faults
+    pub failed : ending ≡ ReadFault → before.faults < after.faults
     -- and no line of the bytes that it had given by then is refused
     pub given : ending ≡ ReadFault → (taken : List ℕ) × Gives taken before after
         × ((lists_at ReadFault taken).ending ≡ ReadFault)

@@ -1,11 +1,10 @@
 -- What calls do with the pages that are kept. This project's own.
-use Rattle.std.specs.Prelude.{◌≡◌, ℕ, ◌<◌, ◌≤◌, Bool, true, false, List, length, Option}
+use Rattle.std.specs.Prelude.{◌≡◌, ℕ, ◌<◌, ◌≤◌, Bool, true, false, List, length, Option, ◌+◌}
 use Rattle.std.specs.Prelude.{None, IfSome, IfOk, OnOk, OnErr, IsErrOf, Result, Ok}
 use Rattle.std.specs.List.{AllByRecursion}
 use Rattle.std.specs.Map.{keys_of}
 use Rattle.lru.specs.LruCache.{LruCache}
 use Rattle.wap_base.specs.Contents.{Contents}
-use Rattle.wap_base.specs.Count.{raised, Rose}
 use Rattle.wap_base.specs.Texts.{AreDistinct}
 use Rattle.wap_base.specs.declared.fault.NoMemory.{NoMemory}
 use Rattle.wap_base.specs.declared.fault.RunErr.{RunErr}
@@ -64,8 +63,8 @@ pub record Keeps (known : Known) (name : List ℕ) (before after : Kept)
 -- a store is asked for a page, which is judged: whatever comes of that
 pub record AsksStore (before after : StoreSeen) (result : Result Page RunErr) : Type 0 where
   pub kept : Grew before.known after.known
-  pub counted : after.fetches ≡ raised before.fetches
+  pub counted : after.fetches ≡ before.fetches + 1
   pub listings : after.listings ≡ before.listings
   pub faults : before.faults ≤ after.faults
-  pub failed : IsErrOf result Store → Rose before.faults after.faults
+  pub failed : IsErrOf result Store → before.faults < after.faults
   pub steady : OnOk result (after.faults ≡ before.faults)

@@ -6,8 +6,8 @@ use Rattle.wap_base.specs.Contents.{Contents}
 use Rattle.wap_world.specs.site.Misses.{Cache, Asked, after_all, misses}
 use Rattle.wap_devices.proofs.Telling.{grew_nothing, grew_then, agrees_before}
 use Rattle.wap_world.specs.site.Pages.{Pages}
-use Rattle.wap_world.specs.site.Asking.{Seen, MayBe, raised_by, Stays, Asks}
-use Rattle.wap_world.proofs.SiteLemmas.Counts.{after_all-then, misses-then, raised_by-then}
+use Rattle.wap_world.specs.site.Asking.{Seen, MayBe, Stays, Asks}
+use Rattle.wap_world.proofs.SiteLemmas.Counts.{after_all-then, misses-then}
 
 -- ---- what a cache keeps
 
@@ -30,22 +30,19 @@ told : (P : Cache → Type 0) (asked : List Asked) (cache : Cache) (y : Option C
 told P asked cache y is so = subst (λ (told : Option Cache). IfSome told P) is so
 
 abbrev Counts : List Asked → Option Cache → ℕ → ℕ → Type 0
-Counts asked x before after = IfSome x (λ cache. after ≡ raised_by (misses asked cache) before)
+Counts asked x before after = IfSome x (λ cache. after ≡ before + misses asked cache)
 
 counts-then : (asked others : List Asked) (x y : Option Cache) (k m n : ℕ)
     → y ≡ option_map (after_all asked) x
     → Counts asked x k m → Counts others y m n → Counts (asked ++ others) x k n
 counts-then asked others None y k m n is first second = tt
 counts-then asked others (Some cache) y k m n is first second =
-    let number = misses others (after_all asked cache) in
-    told (λ cache. n ≡ raised_by (misses others cache) m) asked cache y is second
-    ∙ ap (raised_by number) first
-    ∙ sym (raised_by-then (misses asked cache) number k)
-    ∙ ap (λ (more : ℕ). raised_by more k) (sym (misses-then asked others cache))
+    let more = told (λ cache. n ≡ m + misses others cache) asked cache y is second in
+    omega (arith, first, more, misses-then asked others cache)
 
 counts-nil : (x : Option Cache) (k : ℕ) → Counts [] x k k
 counts-nil None k = tt
-counts-nil (Some cache) k = refl
+counts-nil (Some cache) k = omega arith
 
 -- ---- what is seen
 
@@ -73,7 +70,7 @@ Stays-same x = record {
   capacity = refl;
   listings = refl;
   faults = omega arith;
-  fetches = (0, refl);
+  fetches = omega arith;
 }
 
 pub Stays-then : (x y z : Seen) → Stays x y → Stays y z → Stays x z
@@ -83,11 +80,7 @@ Stays-then x y z first second = record {
   capacity = second.capacity ∙ first.capacity;
   listings = second.listings ∙ first.listings;
   faults = let one = first.faults in let two = second.faults in omega arith;
-  fetches = (
-    first.fetches.0 + second.fetches.0,
-    second.fetches.1 ∙ ap (raised_by second.fetches.0) first.fetches.1
-        ∙ sym (raised_by-then first.fetches.0 second.fetches.0 x.fetches),
-  );
+  fetches = let one = first.fetches in let two = second.fetches in omega arith;
 }
 
 -- what pages may be after calls, they may have been before

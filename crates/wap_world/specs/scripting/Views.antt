@@ -1,14 +1,13 @@
 -- What a browser that runs a script sees: the world, the deck at hand, the lines so far, and of the
 -- pages their contents and, where these are known, a cache and how often the store below it was
 -- asked. It sees neither keys that are left nor access tests. This project's own.
-use Rattle.std.specs.Prelude.{◌≡◌, ℕ, if◌then◌else◌, List, [], ◌∷◌, ◌++◌, Option}
+use Rattle.std.specs.Prelude.{◌≡◌, ℕ, if◌then◌else◌, List, [], ◌∷◌, ◌++◌, Option, ◌+◌}
 use Rattle.std.specs.Option.{option_map, option_and_then}
 use Rattle.wap_tokens.specs.declared.markup.deck.Deck.{Deck}
 use Rattle.wap_base.specs.declared.limits.Limits.{Limits}
 use Rattle.wap_execution.specs.Outcomes.{Hosting}
 use Rattle.wap_execution.specs.laws.Simulation.{RunAlike}
 use Rattle.wap_world.specs.site.Misses.{Cache, Asked, is_miss, after_asking}
-use Rattle.wap_world.specs.site.Asking.{raised_by}
 use Rattle.wap_world.specs.declared.history.Entry.{Entry}
 use Rattle.wap_world.specs.World.{World, Place, place_in, place_of, last_entry}
 use Rattle.wap_world.specs.Steps.{Step, still, quiet}
@@ -24,7 +23,7 @@ pub record Counted : Type 0 where
 abbrev pub counted_once : Asked → Counted → Counted
 counted_once one counted = record {
   cache = after_asking one counted.cache;
-  fetches = raised_by (if is_miss one counted.cache then 1 else 0) counted.fetches;
+  fetches = counted.fetches + (if is_miss one counted.cache then 1 else 0);
 }
 
 -- pages are asked for, one after the other

@@ -1,16 +1,14 @@
 -- A key that is played, and whose lines are written. This project's own.
-use Rattle.std.specs.Prelude.{◌≡◌, ◌≤◌, false, [], ◌∷◌, Result, Ok, Err}
-use Rattle.wap_base.specs.Count.{Rose}
+use Rattle.std.specs.Prelude.{◌≡◌, ◌≤◌, false, [], ◌∷◌, Result, Ok, Err, ◌<◌}
 use Rattle.wap_devices.specs.Sinks.{SinkSeen}
 use Rattle.wap_devices.specs.Transfer.{Appends, AppendsPrefix}
 use Rattle.wap_base.specs.declared.key.Key.{Key}
-use Rattle.wap_world.specs.site.Asking.{Seen, Stays, Asks}
+use Rattle.wap_world.specs.site.Asking.{Seen, Stays, Asks, Fails}
 use Rattle.wap_layout.specs.buffer.Written.{lines_bytes}
 use Rattle.wap_world.specs.Steps.{Step}
 use Rattle.wap_world.specs.Sessions.{shown_by}
 use Rattle.wap_world.specs.scripting.UnitSites.{Pages, shelf_of}
 use Rattle.wap_context.specs.Browsers.{IsOver}
-use Rattle.wap_context.specs.Missing.{Missed}
 use Rattle.wap_context.specs.Sites.{IfOver}
 use Rattle.wap_session.specs.Feeding.{State, step_of, PlaysOn}
 use Rattle.wap_cli.specs.browse.Plays.{IsNoPush}
@@ -59,16 +57,16 @@ pub record GoesOn (key : Key) (old new : Moment) : Type 0 where
 
 -- the store failed, and nothing was written
 pub record FailsAtStore (key : Key) (old new : Moment) : Type 0 where
-  pub rose : Rose old.pages.faults new.pages.faults
+  pub rose : old.pages.faults < new.pages.faults
   pub missed : IfMayBe old new
-      (λ pages. Missed (step_at pages key old).asked old.pages new.pages)
+      (λ pages. Fails (step_at pages key old).asked old.pages new.pages)
   pub unwritten : new.sink ≡ old.sink
   pub stays : Stays old.pages new.pages
 
 -- the sink failed
 pub record FailsAtSink (key : Key) (old new : Moment) : Type 0 where
   pub leads : IfMayBe old new (λ pages. LeadsPart pages key old new)
-  pub rose : Rose old.sink.faults new.sink.faults
+  pub rose : old.sink.faults < new.sink.faults
   pub counts : old.sink.faults ≤ new.sink.faults
   pub stays : Stays old.pages new.pages
   pub steady : new.pages.faults ≡ old.pages.faults

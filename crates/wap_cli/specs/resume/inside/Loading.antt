@@ -1,7 +1,6 @@
 -- Fetching what was saved, and finding the deck of its current card. This project's own.
-use Rattle.std.specs.Prelude.{◌≡◌, ◌⊎◌, ◌≤◌, ℕ, List, [], ◌∷◌, Some, None, Result}
+use Rattle.std.specs.Prelude.{◌≡◌, ◌⊎◌, ◌≤◌, ℕ, List, [], ◌∷◌, Some, None, Result, ◌+◌}
 use Rattle.std.specs.Prelude.{IfOk, IfErr, OnOk}
-use Rattle.wap_base.specs.Count.{raised}
 use Rattle.wap_base.specs.Contents.{Contents}
 use Rattle.wap_devices.specs.Stores.{Known, told, Agrees, StoreSeen, Grew}
 use Rattle.wap_devices.specs.declared.store.Fetched.TheVariants.{Found}
@@ -24,7 +23,7 @@ use Rattle.wap_cli.specs.resume.Resuming.{resumed, HasDeck, LacksDeck, Hinders, 
 -- a store before and after it was asked for one page
 pub record IsFetched (before after : StoreSeen) : Type 0 where
   pub known : Grew before.known after.known
-  pub fetches : after.fetches ≡ raised before.fetches
+  pub fetches : after.fetches ≡ before.fetches + 1
   pub listings : after.listings ≡ before.listings
   pub counts : before.faults ≤ after.faults
 

@@ -1,4 +1,4 @@
-use Rattle.std.proofs.Common.{rules, ◌≡◌, ◌∙◌, ◌∷◌, [], IfOk, subst, sym, ap}
+use Rattle.std.proofs.Common.{rules, ◌≡◌, ◌∙◌, ◌∷◌, [], IfOk, subst, sym, ap, arith}
 use Rattle.wap_devices.specs.Pages.{IsSmall}
 use Rattle.wap_devices.specs.Stores.{StoreSeen, Fetches, Agrees, Told, told}
 use Rattle.wap_devices.proofs.Telling.{told_page, page_right}
@@ -9,16 +9,15 @@ pub returns-in-Ok-clause-fetches : goal.returns-in-Ok-clause-fetches
 returns-in-Ok-clause-fetches g c =
     let name = c.args.name.now in
     let found = c.in-Ok.found in
-    let earlier = c.self-2.inside.answers.items in
+    let earlier = c.self.inside.answers.items in
     let known_is : Told earlier [] ≡ Told c.args.self.now.answers [] =
-    ap (λ s. (seen_before s).known) c.self-2.view_is
-    ∙ ap (λ s. (seen_before s).known) c.count.ensures.others
-    ∙ ap (λ s. (seen_before s).known) c.self.view_is in
+    ap (λ s. (seen_before s).known) c.self.view_is in
+    let steady : c.add_if.new.self ≡ c.args.self.now.faults = search rules in
     let after : StoreSeen = record {
       known = Told c.and-self-inside.result.items [];
-      faults = c.self-2.inside.faults;
-      fetches = c.self-2.inside.fetches;
-      listings = c.self-2.inside.listings;
+      faults = c.add_if.new.self;
+      fetches = c.add.new.self;
+      listings = c.self.inside.listings;
     } in
     subst (λ r. Fetches name (seen_before c.args.self.now) after r) (sym c.in-Ok.is) (record {
       told =
@@ -30,5 +29,10 @@ returns-in-Ok-clause-fetches g c =
       small = subst (λ r. IfOk r IsSmall) c.in-Ok.is c.answer-answer.ensures.small;
       fetches = search rules;
       listings = search rules;
-      asked = record { untold = tt; counts = search rules; failed = λ no. absurd cc; steady = search rules };
+      asked = record {
+        untold = tt;
+        counts = omega (arith, steady);
+        failed = λ no. absurd cc;
+        steady = steady;
+      };
     })

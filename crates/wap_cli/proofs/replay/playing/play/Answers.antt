@@ -6,7 +6,7 @@ use Rattle.wap_world.proofs.SiteLemmas.Asking.{Stays-then}
 use Rattle.wap_context.specs.Sites.{site_of}
 use Rattle.wap_session.specs.Feeding.{State}
 use Rattle.wap_cli.specs.browse.Beginning.{begun_with}
-use Rattle.wap_cli.specs.prepared.Prepared.{shared_seen}
+use Rattle.wap_world.specs.site.Asking.{in_memory}
 use Rattle.wap_cli.specs.replay.Texts.{alone}
 use Rattle.wap_cli.proofs.PreparedLemmas.Fitting.{still}
 use Rattle.wap_cli.proofs.ReplayLemmas.Transcripts.{played_alone}
@@ -29,10 +29,10 @@ returns c =
     let pages = c.pages-shared.result in
     let one = c.feed.new.pages in
     let two = c.play.new.pages in
-    let both = played_alone pages (shared_seen one) (shared_seen two) begun c.in_ok-first.first
+    let both = played_alone pages (in_memory one) (in_memory two) begun c.in_ok-first.first
     c.args.keys.now c.new-session.result c.feed.new.self c.play.new.self c.in-Ok.lines
     c.in-Ok-play.lines (still pages one feed.plays.stays)
-    (still pages two (Stays-then (shared_seen pages) (shared_seen one) (shared_seen two)
+    (still pages two (Stays-then (in_memory pages) (in_memory one) (in_memory two)
     feed.plays.stays play.plays.stays))
     (c.new-session.ensures begun.url) c.in_ok-first.ensures feed.plays.leads feed.shown
     play.plays.leads in record {

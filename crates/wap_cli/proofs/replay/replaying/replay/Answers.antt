@@ -4,7 +4,7 @@ use Rattle.wap_base.specs.declared.key.Key.{Key}
 use Rattle.wap_keys.specs.declared.ending.Ending.{Ending}
 use Rattle.wap_keys.specs.lists.Read.{ReadsLists}
 use Rattle.wap_cli.specs.browse.Beginning.{begun_with}
-use Rattle.wap_cli.specs.replay.Outside.{Outside}
+use Rattle.wap_cli.specs.Devices.{Devices}
 use Rattle.wap_cli.proofs.ReplayLemmas.Ending.{wants, stops_at, stops_past, stops_short, worked}
 use Rattle.wap_cli.proofs.replay.replaying.replay.Goals as goal
 
@@ -20,12 +20,12 @@ returns-in-Err g c =
 
 pub returns-in-End : goal.returns-in-End
 returns-in-End g c =
-    let old : Outside = record {
+    let old : Devices = record {
       store = g.S.Store.seen c.args.store.now;
       source = g.I.Source.seen c.args.keys.now;
       sink = g.O.Sink.seen c.args.out.now;
     } in
-    let new : Outside = record {
+    let new : Devices = record {
       store = g.S.Store.seen c.replay_lists.new.store;
       source = g.I.Source.seen c.read_lists.new.source;
       sink = g.O.Sink.seen c.replay_lists.new.out;

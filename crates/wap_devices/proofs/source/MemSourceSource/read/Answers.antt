@@ -8,7 +8,7 @@ use Rattle.wap_devices.proofs.Transfers.{taken, given}
 use Rattle.wap_devices.proofs.source.MemSourceSource.read.Goals as goal
 
 -- what was left is what was read, and what is left now
-left_split : (c : goal.After-self-2-1)
+left_split : (c : goal.After-add_if)
     → c.args.self.now.left
     ≡ take c.min-count.result (c.copy_from_slice.new.self ++ drop c.min-count.result c.args.buffer.now)
     ++ drop (c.self.inside.at + c.min-count.result) c.self.inside.bytes
@@ -84,7 +84,7 @@ returns-clause-reads c =
       uncome = tt;
       buffer = tt;
       reads = ap (λ (s : Schedule). s.made) counted_is;
-      ends = c.ends_after-self-inside.ensures
+      ends = c.add_if.ensures
           ∙ ap (λ (s : SourceState). ends_after s.ends (Ok count)) c.self.view_is;
       counts = omega (arith, ap (λ (s : Schedule). s.faults) counted_is);
       failed = tt;

@@ -1,4 +1,4 @@
-use Rattle.std.proofs.Common.{rules, ◌≡◌, ◌∙◌, ◌∷◌, [], IfOk, subst, sym, ap, map}
+use Rattle.std.proofs.Common.{rules, ◌≡◌, ◌∙◌, ◌∷◌, [], IfOk, subst, sym, ap, map, arith}
 use Rattle.wap_devices.specs.Pages.{IsSmall}
 use Rattle.wap_devices.specs.Stores.{StoreSeen, Fetches, Agrees, Told, told}
 use Rattle.wap_devices.proofs.Telling.{told_page, page_right}
@@ -19,16 +19,16 @@ pub returns-in-Ok-clause-fetches : goal.returns-in-Ok-clause-fetches
 returns-in-Ok-clause-fetches g c =
     let name = c.args.name.now in
     let found = c.in-Ok.found in
-    let earlier = c.self-2.inside.answers.items in
-    let lists = map (λ names. names.items) c.self-2.inside.lists.items in
+    let earlier = c.self.inside.answers.items in
+    let lists = map (λ names. names.items) c.self.inside.lists.items in
     let known_is : Told earlier lists ≡ c.args.self.now.known =
-    ap (λ (s : StoreSeen). s.known) c.self-2.view_is ∙ c.count.ensures.known
-    ∙ ap (λ (s : StoreSeen). s.known) c.self.view_is in
+    ap (λ (s : StoreSeen). s.known) c.self.view_is in
+    let steady : c.add_if.new.self ≡ c.args.self.now.faults = search rules in
     let after : StoreSeen = record {
       known = Told c.and-self-inside.result.items lists;
-      faults = c.self-2.inside.faults;
-      fetches = c.self-2.inside.fetches;
-      listings = c.self-2.inside.listings;
+      faults = c.add_if.new.self;
+      fetches = c.add.new.self;
+      listings = c.self.inside.listings;
     } in
     subst (λ r. Fetches name c.args.self.now after r) (sym c.in-Ok.is) (record {
       told =
@@ -40,5 +40,10 @@ returns-in-Ok-clause-fetches g c =
       small = subst (λ r. IfOk r IsSmall) c.in-Ok.is c.page-answer.ensures.small;
       fetches = search rules;
       listings = search rules;
-      asked = record { untold = tt; counts = search rules; failed = λ no. absurd cc; steady = search rules };
+      asked = record {
+        untold = tt;
+        counts = omega (arith, steady);
+        failed = λ no. absurd cc;
+        steady = steady;
+      };
     })

@@ -5,14 +5,11 @@ use Rattle.wap_machine.specs.Hosts.{Gives, Fetches}
 use Rattle.wap_world.specs.site.Pages.{Pages as JudgedPages}
 use Rattle.wap_world.specs.site.Asking.{MayBe}
 use Rattle.wap_world.specs.scripting.Views.{viewing}
-use Rattle.wap_context.specs.host.Stages.{Stage, view_in, told, count_of, fetched_in}
-use Rattle.wap_context.specs.host.inside.Counting.{stays_rises}
+use Rattle.wap_context.specs.host.Stages.{Stage, view_in, told, fetched_in}
 use Rattle.wap_context.proofs.host.running.RunningHost.external.Goals as goal
 
 pub returns-clause-fetches : goal.returns-clause-fetches
-returns-clause-fetches g c =
-    stays_rises (g.P.Pages.seen c.args.pages.now) (g.P.Pages.seen c.find.new.pages)
-    c.find.ensures.serves.stays
+returns-clause-fetches g c = c.find.ensures.serves.stays.fetches
 
 pub returns-clause-told : goal.returns-clause-told
 returns-clause-told g c =
@@ -29,7 +26,7 @@ returns-clause-fetched g c =
     subst (λ (s : Stage). IsErrOf c.find.result Store → (judged : JudgedPages)
     → MayBe (g.P.Pages.seen c.find.new.pages) judged
     → Fetches (fetched_in (told s (g.P.Pages.seen c.args.pages.now) judged))
-    (count_of (g.P.Pages.seen c.find.new.pages).fetches)
+    (g.P.Pages.seen c.find.new.pages).fetches
     (fetched_in (viewing.external (told s (g.P.Pages.seen c.args.pages.now) judged)
     c.args.caller.now c.args.target.now c.args.function.now c.args.count
     c.args.depth).1))

@@ -6,14 +6,11 @@ use Rattle.wap_machine.specs.Hosts.{Gives, Fetches}
 use Rattle.wap_world.specs.site.Pages.{Pages as JudgedPages}
 use Rattle.wap_world.specs.site.Asking.{MayBe}
 use Rattle.wap_world.specs.scripting.Views.{viewing}
-use Rattle.wap_context.specs.host.Stages.{Stage, view_in, told, count_of, fetched_in}
-use Rattle.wap_context.specs.host.inside.Counting.{stays_rises}
+use Rattle.wap_context.specs.host.Stages.{Stage, view_in, told, fetched_in}
 use Rattle.wap_context.proofs.host.running.RunningHost.library.Goals as goal
 
 pub returns-clause-fetches : goal.returns-clause-fetches
-returns-clause-fetches g c =
-    stays_rises (g.P.Pages.seen c.args.pages.now) (g.P.Pages.seen c.call.new.pages)
-    c.call.ensures.serves.stays
+returns-clause-fetches g c = c.call.ensures.serves.stays.fetches
 
 pub returns-clause-told : goal.returns-clause-told
 returns-clause-told g c =
@@ -30,7 +27,7 @@ returns-clause-fetched g c =
     subst (λ (s : Stage). IsErrOf c.call.result Store → (judged : JudgedPages)
     → MayBe (g.P.Pages.seen c.call.new.pages) judged
     → Fetches (fetched_in (told s (g.P.Pages.seen c.args.pages.now) judged))
-    (count_of (g.P.Pages.seen c.call.new.pages).fetches)
+    (g.P.Pages.seen c.call.new.pages).fetches
     (fetched_in (viewing.library (told s (g.P.Pages.seen c.args.pages.now) judged)
     c.args.base.now (option_copied c.args.referer) c.args.library c.args.function
     c.args.arguments.items).1))
