@@ -1,20 +1,26 @@
--- Whatever reads calls is what the code reads them by, and so the sites of a store's pages are that
--- of the judged pages.
+-- Whatever reads calls and pushed bytes is what the code reads them by, and so the networks with a
+-- store's pages are that with the judged pages.
 use Rattle.std.proofs.Common.{◌≡◌, ℕ, List, Option, Some, None, refl, sym, ap, ◌∙◌}
 use Rattle.std.specs.Option.{option_map}
+use Rattle.std.specs.Prelude.{Result}
 use Rattle.wap_base.specs.Contents.{Contents}
 use Rattle.wap_parse.specs.declared.invocation.invocation.Invocation.{Invocation}
 use Rattle.wap_parse.specs.invocation.Calls.{IsCall}
 use Rattle.wap_parse.specs.invocation.Calculation.{call_of}
 use Rattle.wap_parse.proofs.InvocationLemmas.CallReading.{is_call, is_read}
-use Rattle.wap_world.specs.Sites.{Call}
+use Rattle.wap_push.specs.declared.indication.Indication.{Indication}
+use Rattle.wap_push.specs.declared.fault.PushFault.{PushFault}
+use Rattle.wap_push.specs.Pushes.{ReadsPushes, push_at}
+use Rattle.wap_push.proofs.Pushing.{read_so as read_push}
+use Rattle.wap_world.specs.Sites.{Call, Site}
 use Rattle.wap_world.specs.scripting.UnitSites.{unit_pages, units_site}
-use Rattle.wap_context.specs.Sites.{fragment_call}
+use Rattle.wap_context.specs.Sites.{fragment_call, site_of}
 use Rattle.wap_pages.specs.Judged.{judged}
 use Rattle.wap_site_laws.specs.pages.SourcePages.{ArePages}
 use Rattle.wap_site_laws.proofs.PagesLemmas.Judging.{site_judged}
 use Rattle.wap_cli.specs.Calls.{as_call, ReadsCalls}
-use Rattle.wap_cli.specs.Browsing.{PagesAndCalls, source_site}
+use Rattle.wap_cli.specs.Networks.{Network, network_of}
+use Rattle.wap_cli.specs.Browsing.{PagesAndReaders, AreReaders, source_network}
 
 -- ---- calls
 
@@ -54,13 +60,20 @@ pub one_reading : (call other : List ℕ → Option Call) → ReadsCalls call �
 one_reading call other reads reads_too =
     sym (same_calls call reads) ∙ same_calls other reads_too
 
--- ---- sites
+-- ---- networks
 
--- the site of a store's pages is that of the judged pages
-pub site_units : (one : PagesAndCalls) (contents : Contents) → ArePages contents one.pages
-    → ReadsCalls one.call
-    → source_site one ≡ units_site fragment_call (unit_pages (judged contents))
-site_units one contents are reads =
-    site_judged one.call contents one.pages are
-    ∙ ap (λ (call : List ℕ → Option Call). units_site call (unit_pages (judged contents)))
-    (sym (same_calls one.call reads))
+-- pushed bytes are read by calculation
+same_pushes : (push : List ℕ → Result Indication PushFault) → ReadsPushes push → push_at ≡ push
+same_pushes push reads = λ i bytes. read_push bytes (push bytes) (reads bytes) i
+
+-- the network with a store's pages is that with the judged pages
+pub network_units : (one : PagesAndReaders) (contents : Contents) → ArePages contents one.pages
+    → AreReaders one → source_network one ≡ network_of (unit_pages (judged contents))
+network_units one contents are reads =
+    let units = unit_pages (judged contents) in
+    ap {B = Network} (λ (site : Site). record { site = site; push = one.push })
+    (site_judged one.call contents one.pages are
+    ∙ ap (λ (call : List ℕ → Option Call). units_site call units)
+    (sym (same_calls one.call reads.calls)))
+    ∙ ap {B = Network} (λ (push : List ℕ → Result Indication PushFault).
+    record { site = site_of units; push = push }) (sym (same_pushes one.push reads.pushes))

@@ -18,7 +18,8 @@ use Rattle.wap_devices.proofs.Telling.{grew_nothing}
 use Rattle.wap_cli.specs.browse.Plays.{opened}
 use Rattle.wap_cli.proofs.BrowseLemmas.Exits.{nothing_browses}
 use Rattle.wap_cli.proofs.MemoryLemmas.Pages.{reason_remembers}
-use Rattle.wap_cli.proofs.ResumeLemmas.Fetching.{found_page, asked_grew}
+use Rattle.wap_pages.proofs.Fetching.{grew_asked}
+use Rattle.wap_cli.proofs.ResumeLemmas.Fetching.{found_page}
 use Rattle.wap_cli.proofs.ResumeLemmas.Going.{nothing_imaged, nothing_resumed}
 use Rattle.wap_cli.specs.prepare.Preparing.{Reports}
 use Rattle.wap_cli.proofs.PrepareLemmas.Ending.{nothing_done}
@@ -96,7 +97,7 @@ module _ (command : PageCommand) (name : List ℕ) (store store_after : StoreSee
     of_reason = of_reason;
     once = inr fetches.fetches;
     listings = fetches.listings;
-    kept = asked_grew name store store_after result fetches;
+    kept = grew_asked name store store_after result fetches;
     counts = fetches.asked.counts;
   }
 

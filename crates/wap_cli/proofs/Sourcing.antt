@@ -8,14 +8,10 @@ use Rattle.wap_base.specs.declared.key.Key.{Key}
 use Rattle.wap_base.specs.declared.key.Key.TheVariants.{Open}
 use Rattle.wap_keys.specs.Lines.{Keys, keys_of}
 use Rattle.wap_world.specs.site.Misses.{Cache}
-use Rattle.wap_world.specs.Sites.{Site}
 use Rattle.wap_world.specs.Steps.{Step}
 use Rattle.wap_world.specs.Sessions.{Begun, world_of}
-use Rattle.wap_push.specs.Pushes.{push_at}
 use Rattle.wap_world.specs.inboxes.Inboxes.{Stepped}
-use Rattle.wap_world.specs.Sessions.{session}
 use Rattle.wap_world.specs.scripting.UnitSites.{Pages, unit_pages}
-use Rattle.wap_context.specs.Sites.{site_of as units_over}
 use Rattle.wap_site_laws.proofs.ExchangeLemmas.Stores.{denied_stores}
 use Rattle.wap_pages.specs.Judged.{judged}
 use Rattle.wap_pages.specs.Caches.{seen_over}
@@ -27,9 +23,11 @@ use Rattle.wap_cli.specs.browse.Plays.{AreUnitPages as AreSeen, opened}
 use Rattle.wap_cli.specs.browse.Headline.{AtEnd, Ends, Browses, BrowsesSeen}
 use Rattle.wap_cli.proofs.BrowseLemmas.Forgetting.{browses_too}
 use Rattle.wap_cli.specs.Devices.{Devices, uncached}
-use Rattle.wap_cli.specs.Browsing.{PagesAndCalls, ArePagesAndCalls, source_site, opened_over}
+use Rattle.wap_cli.specs.Networks.{network_of}
+use Rattle.wap_cli.specs.resume.Saving.{opened_at}
+use Rattle.wap_cli.specs.Browsing.{PagesAndReaders, ArePagesAndReaders, source_network, opened_over}
 use Rattle.wap_cli.specs.Browsing.{WritesOver, BrowsesOver}
-use Rattle.wap_cli.proofs.Calling.{site_units}
+use Rattle.wap_cli.proofs.Calling.{network_units}
 
 -- ---- a session that was played to the end of its keys
 
@@ -44,25 +42,24 @@ end_at Are play old new taken given true (Ends.open_dialog so) = so
 -- ---- sources, and the units that they are judged to
 
 -- contents that may be a store's are judged to pages that may be seen over it
-pub units_of : (store : StoreSeen) (cache : Cache) (one : PagesAndCalls)
-    → ArePagesAndCalls store one
-    → (units : Pages) × AreSeen (seen_over store cache) units × (units_over units ≡ source_site one)
+pub units_of : (store : StoreSeen) (cache : Cache) (one : PagesAndReaders)
+    → ArePagesAndReaders store one → (units : Pages) × AreSeen (seen_over store cache) units
+    × (network_of units ≡ source_network one)
 units_of store cache one (contents, agrees, are, reads) = (
   unit_pages (judged contents),
   (judged contents, record { contents = contents; agrees = agrees; are = refl }, refl),
-  sym (site_units one contents are reads),
+  sym (network_units one contents are reads),
 )
 
 -- so keys come to the same over both
-opened_same : (store : StoreSeen) (cache : Cache) (begun : Begun) (one : PagesAndCalls)
-    → ArePagesAndCalls store one → (units : Pages) × AreSeen (seen_over store cache) units
+opened_same : (store : StoreSeen) (cache : Cache) (begun : Begun) (one : PagesAndReaders)
+    → ArePagesAndReaders store one → (units : Pages) × AreSeen (seen_over store cache) units
     × (opened begun units ≡ opened_over begun one)
 opened_same store cache begun one are =
     let found = units_of store cache one are in (
       found.0,
       found.1,
-      ap {B = List Key → Step}
-          (λ (site : Site) (keys : List Key). (session push_at site begun keys).step) found.2,
+      ap (opened_at begun) found.2,
     )
 
 module _ (begun : Begun) (capacity : ℕ) (old new : Devices) (status : Status) where
@@ -74,20 +71,22 @@ module _ (begun : Begun) (capacity : ℕ) (old new : Devices) (status : Status) 
 
   -- where all keys were played, what was written is what they come to over another store, too, that
   -- differs in scripts which nobody entered
-  writes_over : Browses (ArePagesAndCalls new.store) (opened_over begun) before after status
+  writes_over : Browses (ArePagesAndReaders new.store) (opened_over begun) before after status
       → (is_open : Bool) → status ≡ at_end is_open → (bytes : List ℕ)
       → MayGive old.source new.source bytes → WritesOver begun old new bytes
   writes_over so is_open is bytes may one contents others pages agrees reads among differ none =
       let keys = (keys_of bytes).keys in
       let end =
-      end_at (ArePagesAndCalls new.store) (opened_over begun) before after so.taken so.given is_open
-      (subst (Ends (ArePagesAndCalls new.store) (opened_over begun) before after so.taken so.given)
+      end_at (ArePagesAndReaders new.store) (opened_over begun) before after so.taken so.given
+      is_open
+      (subst (Ends (ArePagesAndReaders new.store) (opened_over begun) before after so.taken
+      so.given)
       is so.ends) in
       let given : keys ≡ so.given = ap (λ (k : Keys). k.keys) (end.all.all bytes may) in
-      let instead : PagesAndCalls = record one { pages = pages } in
+      let instead : PagesAndReaders = record one { pages = pages } in
       let same : opened_over begun one keys ≡ opened_over begun instead keys =
       ap (λ (stepped : Stepped). stepped.step)
-      (denied_stores one.call among contents others one.pages pages differ push_at
+      (denied_stores one.call among contents others one.pages pages differ one.push
       (Open begun.url ∷ keys) (record { world = world_of begun; pushes = [] }) none) in
       subst (λ (step : Step). Appends old.sink.taken new.sink.taken (bytes_of step))
       (ap (opened_over begun one) (sym given) ∙ same)
@@ -97,8 +96,8 @@ module _ (begun : Begun) (capacity : ℕ) (old new : Devices) (status : Status) 
   pub browses_over : BrowsesSeen (opened begun) before after status
       → BrowsesOver begun capacity old new status
   browses_over so =
-      let over : Browses (ArePagesAndCalls new.store) (opened_over begun) before after status =
-      browses_too (AreSeen after.pages) (opened begun) (ArePagesAndCalls new.store)
+      let browses : Browses (ArePagesAndReaders new.store) (opened_over begun) before after status =
+      browses_too (AreSeen after.pages) (opened begun) (ArePagesAndReaders new.store)
       (opened_over begun) (opened_same new.store (record { names = []; capacity = capacity }) begun)
       before after status so in
-      record { browses = over; denied = writes_over over }
+      record { browses = browses; denied = writes_over browses }

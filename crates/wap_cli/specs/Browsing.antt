@@ -1,17 +1,19 @@
 -- The headline: what browsing over a store comes to, where its pages are those that its contents
 -- are by the relations of bytes, and a source of a script means what its program means. This
 -- project's own.
-use Rattle.std.specs.Prelude.{◌≡◌, ℕ, Bool, false, List, Option}
+use Rattle.std.specs.Prelude.{◌≡◌, ℕ, Bool, false, List, Option, Result}
 use Rattle.wap_base.specs.Contents.{Contents}
 use Rattle.wap_devices.specs.Stores.{StoreSeen, Agrees}
 use Rattle.wap_devices.specs.Sources.{MayGive}
 use Rattle.wap_devices.specs.Transfer.{Appends}
 use Rattle.wap_base.specs.declared.key.Key.{Key}
 use Rattle.wap_keys.specs.Lines.{keys_of}
-use Rattle.wap_world.specs.Sites.{Call, Site}
+use Rattle.wap_world.specs.Sites.{Call}
 use Rattle.wap_world.specs.Steps.{Step}
-use Rattle.wap_world.specs.Sessions.{Begun, session}
-use Rattle.wap_push.specs.Pushes.{push_at}
+use Rattle.wap_world.specs.Sessions.{Begun}
+use Rattle.wap_push.specs.declared.indication.Indication.{Indication}
+use Rattle.wap_push.specs.declared.fault.PushFault.{PushFault}
+use Rattle.wap_push.specs.Pushes.{ReadsPushes}
 use Rattle.wap_world.specs.scripting.Sources.{AllPages, site_of}
 use Rattle.wap_site_laws.specs.exchange.Denial.{is_let_in, DifferInScripts}
 use Rattle.wap_site_laws.specs.programs.Programs.{Accepted, programs}
@@ -21,30 +23,38 @@ use Rattle.wap_cli.specs.browse.Endings.{at_end}
 use Rattle.wap_cli.specs.browse.Handling.{bytes_of}
 use Rattle.wap_cli.specs.browse.Headline.{Browses}
 use Rattle.wap_cli.specs.Calls.{ReadsCalls}
+use Rattle.wap_cli.specs.Networks.{Network}
+use Rattle.wap_cli.specs.resume.Saving.{opened_at}
 use Rattle.wap_cli.specs.Devices.{Devices, uncached}
 
 -- ---- pages, and what keys come to over them
 
--- what is browsed over a store: its pages, and what fragments of URLs call
-pub record PagesAndCalls : Type 0 where
+-- what is browsed over a store: its pages, what fragments of URLs call, and what pushed bytes are
+pub record PagesAndReaders : Type 0 where
   pub pages : AllPages Accepted
   pub call : List ℕ → Option Call
+  pub push : List ℕ → Result Indication PushFault
 
--- contents that may be those of a store are these pages, and fragments call what they spell
-abbrev pub ArePagesAndCalls : StoreSeen → PagesAndCalls → Type 0
-ArePagesAndCalls store one =
+-- fragments call what they spell, and pushed bytes are what they are read as
+pub record AreReaders (one : PagesAndReaders) : Type 0 where
+  pub calls : ReadsCalls one.call
+  pub pushes : ReadsPushes one.push
+
+-- contents that may be those of a store are these pages
+abbrev pub ArePagesAndReaders : StoreSeen → PagesAndReaders → Type 0
+ArePagesAndReaders store one =
     (contents : Contents) × Agrees store.known contents × ArePages contents one.pages
-    × ReadsCalls one.call
+    × AreReaders one
 
--- the site of these pages: a source comes to what its program means, and a unit to what its
+-- the network with these pages: a source comes to what its program means, and a unit to what its
 -- instructions mean
-abbrev pub source_site : PagesAndCalls → Site
-source_site one = site_of programs one.call one.pages
+abbrev pub source_network : PagesAndReaders → Network
+source_network one = record { site = site_of programs one.call one.pages; push = one.push }
 
 -- what keys come to where a session with an inbox begins so: its URL is opened before they are
 -- played
-abbrev pub opened_over : Begun → PagesAndCalls → List Key → Step
-opened_over begun one keys = (session push_at (source_site one) begun keys).step
+abbrev pub opened_over : Begun → PagesAndReaders → List Key → Step
+opened_over begun one keys = opened_at begun (source_network one) keys
 
 -- ---- scripts to which nobody was let in
 
@@ -53,8 +63,8 @@ opened_over begun one keys = (session push_at (source_site one) begun keys).step
 abbrev pub WritesOver : Begun → Devices → Devices → List ℕ → Type 0
 WritesOver begun old new bytes =
     let keys = (keys_of bytes).keys in
-    (one : PagesAndCalls) (contents others : Contents) (pages : AllPages Accepted)
-    → Agrees new.store.known contents → ReadsCalls one.call
+    (one : PagesAndReaders) (contents others : Contents) (pages : AllPages Accepted)
+    → Agrees new.store.known contents → AreReaders one
     → (among : List ℕ → Bool) → DifferInScripts among contents others one.pages pages
     → is_let_in among (opened_over begun one keys).tests ≡ false
     → Appends old.sink.taken new.sink.taken
@@ -68,7 +78,7 @@ pub record BrowsesOver (begun : Begun) (capacity : ℕ) (old new : Devices) (sta
     : Type 0 where
   -- what was read and written, what was asked for, and how it ended, over all pages that the
   -- contents may be, with which all agrees that the store told
-  pub browses : Browses (ArePagesAndCalls new.store) (opened_over begun) (uncached capacity old)
+  pub browses : Browses (ArePagesAndReaders new.store) (opened_over begun) (uncached capacity old)
       (uncached capacity new) status
   -- where all keys were played, scripts to which nobody was let in might have been any others
   pub denied : (is_open : Bool) → status ≡ at_end is_open

@@ -6,9 +6,8 @@ use Rattle.wap_base.specs.Texts.{AreDistinct}
 use Rattle.wap_devices.specs.Stores.{Held}
 use Rattle.wap_devices.specs.Sources.{Left, MayGive}
 use Rattle.wap_site_laws.specs.pages.SourcePages.{ArePages}
-use Rattle.wap_cli.specs.Calls.{ReadsCalls}
 use Rattle.wap_cli.specs.Devices.{Devices}
-use Rattle.wap_cli.specs.Browsing.{PagesAndCalls, ArePagesAndCalls}
+use Rattle.wap_cli.specs.Browsing.{PagesAndReaders, AreReaders, ArePagesAndReaders}
 
 -- at first the store holds these contents, of which no name stands twice, and the source these
 -- bytes
@@ -17,16 +16,16 @@ pub record HoldAll (contents : Contents) (bytes : List ℕ) (old : Devices) : Ty
   pub distinct : AreDistinct (names_of contents)
   pub left : old.source.coming ≡ Left bytes
 
--- the contents are these pages, and fragments call what they spell
-abbrev pub AreHeld : Contents → PagesAndCalls → Type 0
-AreHeld contents one = ArePages contents one.pages × ReadsCalls one.call
+-- the contents are these pages
+abbrev pub AreHeld : Contents → PagesAndReaders → Type 0
+AreHeld contents one = ArePages contents one.pages × AreReaders one
 
 -- all that is said over any pages and bytes that there may be is said over exactly these
 pub record AreBrowsed (contents : Contents) (bytes : List ℕ) (old new : Devices) : Type 0 where
   -- the store holds what it held: its pages are those of these contents, and no others
   pub held : new.store.known ≡ Held contents
-  pub pages : (one : PagesAndCalls) → AreHeld contents one → ArePagesAndCalls new.store one
-  pub no_others : (one : PagesAndCalls) → ArePagesAndCalls new.store one → AreHeld contents one
+  pub pages : (one : PagesAndReaders) → AreHeld contents one → ArePagesAndReaders new.store one
+  pub no_others : (one : PagesAndReaders) → ArePagesAndReaders new.store one → AreHeld contents one
   -- the source may give these bytes, and no others; it holds those that weren't taken
   pub may : MayGive old.source new.source bytes
   pub left : new.source.coming ≡ Left may.rest

@@ -6,6 +6,7 @@ pub mod InMemory
 pub mod Replaying
 pub mod SavedSessions
 pub mod Calls
+pub mod Networks
 pub mod Devices
 pub mod Here
 pub mod Answers

@@ -15,6 +15,7 @@ ghost use Rattle.wap_site_laws.specs.pages.SourcePages.{ArePages};
 ghost use Rattle.wap_context.specs.Sites.{fragment_call};
 ghost use Rattle.wap_cli.specs.browse.Handling.{bytes_of};
 ghost use Rattle.wap_cli.specs.browse.Plays.{opened, HaveNoPush};
+ghost use Rattle.wap_cli.specs.Networks.{over};
 ghost use Rattle.wap_cli.specs.resume.Saving.{opened_at, EndsAt, EndsIn, IsWhole};
 ghost use Rattle.wap_cli.specs.resume.Resuming.{resumed_at, resumed};
 ghost use Rattle.wap_cli.specs.resume_laws.Stores.{AgreeBut};
@@ -52,21 +53,21 @@ pub fn saved_sessions_go_on_over_two_stores()
 pub fn saved_sessions_go_on_over_sources()
     ensures one_store { (begun : Begun) (contents : Contents) (pages : AllPages Accepted)
         (first others : List Key) (parts : ContextParts) → AreDistinct (names_of contents)
-        → ArePages contents pages → let site = site_of programs fragment_call pages in
-        EndsAt begun site first parts → IsWhole parts (opened_at begun site first).world
-        → HaveNoPush first → bytes_of (opened_at begun site (first ++ others))
-        ≡ bytes_of (opened_at begun site first)
-        ++ bytes_of (resumed_at parts begun.budget site others) }
+        → ArePages contents pages → let network = over (site_of programs fragment_call pages) in
+        EndsAt begun network first parts → IsWhole parts (opened_at begun network first).world
+        → HaveNoPush first → bytes_of (opened_at begun network (first ++ others))
+        ≡ bytes_of (opened_at begun network first)
+        ++ bytes_of (resumed_at parts begun.budget network others) }
     ensures two_stores { (begun : Begun) (contents later : Contents) (name : List ℕ)
         (pages other_pages : AllPages Accepted) (first others : List Key) (parts : ContextParts)
         → AreDistinct (names_of contents) → AgreeBut name contents later
         → ArePages contents pages → ArePages later other_pages
-        → let site = site_of programs fragment_call pages in
-        let other_site = site_of programs fragment_call other_pages in
-        EndsAt begun site first parts → IsWhole parts (opened_at begun site first).world
+        → let network = over (site_of programs fragment_call pages) in
+        let other = over (site_of programs fragment_call other_pages) in
+        EndsAt begun network first parts → IsWhole parts (opened_at begun network first).world
         → HaveNoPush first
-        → is_asked (is_same_text name) (opened_at begun site (first ++ others)).asked ≡ false
-        → bytes_of (opened_at begun site (first ++ others))
-        ≡ bytes_of (opened_at begun site first)
-        ++ bytes_of (resumed_at parts begun.budget other_site others) }
+        → is_asked (is_same_text name) (opened_at begun network (first ++ others)).asked ≡ false
+        → bytes_of (opened_at begun network (first ++ others))
+        ≡ bytes_of (opened_at begun network first)
+        ++ bytes_of (resumed_at parts begun.budget other others) }
 {}

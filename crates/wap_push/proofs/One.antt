@@ -29,7 +29,8 @@ under id entries = lookup (is_at (text_cmp id)) entries
 
 -- the first entry is found under its key
 at_head : (x : Entry) (xs : List Entry) → under x.0 (x ∷ xs) ≡ Some x.1
-at_head x xs = lookup_head (is_at (text_cmp x.0)) x xs (ap is_eq (tied_itself nat_list_cmp_total x.0))
+at_head x xs = lookup_head (is_at (text_cmp x.0)) x xs
+    (ap is_eq (tied_itself nat_list_cmp_total x.0))
 
 module _ (x y : Entry) (xs ys : List Entry) (s : IsStrictlySortedBy text_cmp (keys_of (x ∷ xs)))
     (t : IsStrictlySortedBy text_cmp (keys_of (y ∷ ys)))
@@ -40,7 +41,8 @@ module _ (x y : Entry) (xs ys : List Entry) (s : IsStrictlySortedBy text_cmp (ke
       absurd (cc (
         at_head x xs,
         h x.0,
-        lookup-none (is_at (text_cmp x.0)) (y ∷ ys) (none_below_head nat_list_cmp_total x.0 y ys t p),
+        lookup-none (is_at (text_cmp x.0)) (y ∷ ys)
+            (none_below_head nat_list_cmp_total x.0 y ys t p),
       ))
   by_heads Equal p = p
   by_heads Greater p =

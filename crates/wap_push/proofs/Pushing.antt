@@ -16,7 +16,8 @@ use Rattle.wap_push.specs.declared.fault.PushFault.TheVariants as fault
 use Rattle.wap_push.specs.Fields.{elements_of, created_of, identifier_of}
 use Rattle.wap_push.specs.Indications.{is_si, is_info, IsBody, IsIndication, IsRefused}
 use Rattle.wap_push.specs.Calculation.{is_none, body_in, named, dated, indication_in, indication_of}
-use Rattle.wap_push.specs.Pushes.{indications, IsPush, IsNoPush, push_of, push_at, push_error}
+use Rattle.wap_push.specs.Pushes.{indications, IsNoPush, IsReadAs, push_of, push_at}
+use Rattle.wap_push.specs.Pushes.{push_error}
 use Rattle.wap_push.proofs.Readings.{body_found, indication_named, nameless}
 
 -- ---- a document that is an indication is read as it
@@ -38,6 +39,19 @@ in_body document body root child =
     ap (λ (b : Bool).
     cond b (indication_in (body_in (elements_of document.root.kids))) (Err fault.Root)) root
     ∙ ap indication_in (body_again document body child)
+
+indication_again : (document : Document) (pushed : Indication) → IsIndication document pushed
+    → indication_of document ≡ Ok pushed
+indication_again document pushed is =
+    in_body document is.body is.root is.child ∙ ap (dated is.body) is.created
+    ∙ ap (named is.body pushed.created) is.id
+    ∙ (λ i. Ok (record {
+      id = pushed.id;
+      href = sym is.href i;
+      created = pushed.created;
+      action = sym is.action i;
+      text = sym is.text i;
+    }))
 
 -- ---- and one that is none is refused
 
@@ -117,33 +131,43 @@ push_fails bytes why (IsNoPush.no_indication document other spelled refused) =
     ap push_of (document_again indications bytes document spelled)
     ∙ refused_again document why refused
 
-abbrev IsRead : List ℕ → Result Indication PushFault → Type 0
-IsRead bytes (Ok pushed) = IsPush bytes pushed
-IsRead bytes (Err why) = IsNoPush bytes why
-
 read_indication : (bytes : List ℕ) (document : Document) (read : Result Indication PushFault)
-    → typed_at indications bytes ≡ Ok document → Judged document read → IsRead bytes read
+    → typed_at indications bytes ≡ Ok document → Judged document read → IsReadAs bytes read
 read_indication bytes document (Ok pushed) is judged =
-    record { document = document; spelled = document_takes indications bytes document is; is = judged }
+    record {
+      document = document;
+      spelled = document_takes indications bytes document is;
+      is =
+          judged;
+    }
 read_indication bytes document (Err why) is judged =
     IsNoPush.no_indication document why (document_takes indications bytes document is) judged
 
 read_document : (bytes : List ℕ) (read : Result Document DocFault)
-    → typed_at indications bytes ≡ read → IsRead bytes (push_of read)
+    → typed_at indications bytes ≡ read → IsReadAs bytes (push_of read)
 read_document bytes (Ok document) is =
     read_indication bytes document (indication_of document) is (judged document)
 read_document bytes (Err why) is =
     IsNoPush.no_document why (document_stops indications bytes why is)
 
-is_read : (bytes : List ℕ) → IsRead bytes (push_at bytes)
+-- bytes are read as what they are
+pub is_read : (bytes : List ℕ) → IsReadAs bytes (push_at bytes)
 is_read bytes = read_document bytes (typed_at indications bytes) refl
+
+-- and as nothing else
+pub read_so : (bytes : List ℕ) (read : Result Indication PushFault) → IsReadAs bytes read
+    → push_at bytes ≡ read
+read_so bytes (Ok pushed) is =
+    ap push_of (document_again indications bytes is.document is.spelled)
+    ∙ indication_again is.document pushed is.is
+read_so bytes (Err why) is = push_fails bytes why is
 
 -- and a fault is the first
 pub refused_of : (result : Result Indication PushFault) (bytes : List ℕ)
     → Meets fault.NoMemory (λ pushed. pushed) result (push_at bytes)
     → IfErr result (λ why. why ≢ fault.NoMemory → IsNoPush bytes why)
 refused_of (Ok pushed) bytes meets = tt
-refused_of (Err why) bytes meets = λ other. subst (IsRead bytes) (meets other) (is_read bytes)
+refused_of (Err why) bytes meets = λ other. subst (IsReadAs bytes) (meets other) (is_read bytes)
 
 pub first_of : (result : Result Indication PushFault) (bytes : List ℕ)
     → Meets fault.NoMemory (λ pushed. pushed) result (push_at bytes)

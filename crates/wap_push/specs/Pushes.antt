@@ -34,6 +34,15 @@ pub data IsNoPush (bytes : List ℕ) : PushFault → Type 0 where
       → IsDocumentOf indications bytes document → IsRefused document why
       → IsNoPush bytes why
 
+-- they are this indication, or none for this first reason
+abbrev pub IsReadAs : List ℕ → Result Indication PushFault → Type 0
+IsReadAs bytes (Ok pushed) = IsPush bytes pushed
+IsReadAs bytes (Err why) = IsNoPush bytes why
+
+-- all bytes are read as what they are
+abbrev pub ReadsPushes : (List ℕ → Result Indication PushFault) → Type 0
+ReadsPushes push = (bytes : List ℕ) → IsReadAs bytes (push bytes)
+
 -- ---- the same by calculation
 
 -- the indication of a document, if there is one

@@ -1,5 +1,5 @@
 -- How often a store is asked, up to the key at which it fails.
-use Rattle.std.proofs.Common.{◌≡◌, ◌+◌, List, ◌++◌, Option, Some, ap, arith}
+use Rattle.std.proofs.Common.{◌≡◌, ◌+◌, List, ◌++◌, Option, Some, ap, ◌∙◌, arith}
 use Rattle.std.specs.Prelude.{IfSome, option_map}
 use Rattle.wap_world.specs.site.Misses.{Cache, Asked, after_all, misses}
 use Rattle.wap_world.specs.site.Asking.{Seen, RoseBy, Asks, Fails}
@@ -18,6 +18,7 @@ missed_after asked others all x y z is asks fails = if_some x.cache _ (λ cache 
     let first = some_fact x.cache
     (λ c. y.fetches ≡ x.fetches + misses asked c) cache known asks.fetches in
     let rose = some_fact y.cache
-    (λ c. RoseBy (misses others c) y.fetches z.fetches) (after_all asked cache) kept fails.fetches in
+    (λ c. RoseBy (misses others c) y.fetches z.fetches) (after_all asked cache) kept fails.fetches
+    in
     let both = ap (λ (l : List Asked). misses l cache) is ∙ misses-then asked others cache in
     (omega (arith, first, rose.0), omega (arith, first, rose.1, both)))

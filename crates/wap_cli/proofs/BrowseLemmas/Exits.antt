@@ -99,7 +99,7 @@ module _ (play : Play) (old last : Outside) (taken : List ℕ) (given : List Key
   ends_by is_open way.TooManyKeys read counts leaves =
       Ends.too_many_keys read.ends.0 (are_all way.TooManyKeys read (λ e. absurd cc) counts)
   ends_by is_open way.ReadFault read counts leaves =
-      Ends.read_fault counts.1 read.ends.1 played
+      Ends.read_fault counts read.ends.1 played
 
 -- all keys that were given were played, and no more are
 pub ended_browses : (play : Play) (old now : Outside) (reader after : Reading) (state : State)
@@ -306,7 +306,7 @@ module _ (play : Play) (given : List Key) (key : Key) (taken : List ℕ) (old : 
         wrote = wrote_before pages (play pages) given key (moved_of old) now state nears new.sink
             so.unwritten;
         asked = missed_there pages (play pages) given key (moved_of old) now state nears new
-            (so.missed judged may nears.over) so.stays;
+            (so.missed judged may nears.over);
       })))
   stop_browses status (Stops.at_sink so) =
       stopped_by WriteFault so.stays

@@ -24,6 +24,7 @@ use Rattle.wap_session.specs.Feeding.{State, Plays, beginning}
 use Rattle.wap_session.proofs.Playing.{plays_more}
 use Rattle.wap_cli.specs.declared.made.playing.Played.{Played as Came}
 use Rattle.wap_cli.specs.declared.made.making.Tour.{Tour}
+use Rattle.wap_cli.specs.Networks.{over}
 use Rattle.wap_cli.specs.made.Making.{made_begun, made_keys, made_report, first_url, onward}
 use Rattle.wap_cli.specs.made.Making.{value_in, made_line}
 use Rattle.wap_cli.specs.made.inside.Counting.{accepted_in}
@@ -116,7 +117,7 @@ is_tour n pages names listed keys given first second third tour paged named list
 
 -- the lines on it
 pub report_is : (n : ℕ) (tour : Tour) → IsTour n tour
-    → report_of tour ≡ made_report n (made_site n)
+    → report_of tour ≡ made_report n (over (made_site n))
 report_is n tour so =
     ap₂ (λ (a b : List ℕ). a ++ b)
     (ap (λ (m : ℕ). made_line (codes "pages") (decimal m)) so.pages)

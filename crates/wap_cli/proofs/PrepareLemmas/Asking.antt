@@ -19,7 +19,7 @@ pub record Asked (count : ℕ) (before after : StoreSeen) : Type 0 where
 
 pub none_asked : (store : StoreSeen) → Asked 0 store store
 none_asked store = record {
-  fetches = refl;
+  fetches = omega arith;
   listings = refl;
   known = grew_nothing store.known store.known refl;
   faults = refl;

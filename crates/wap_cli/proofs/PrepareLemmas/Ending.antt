@@ -29,7 +29,7 @@ within pages names more few all =
 -- no page was asked for
 pub none_asked : (before after : StoreSeen) → after.fetches ≡ before.fetches
     → AsksWithin before after
-none_asked before after is pages agrees = (0, omega arith, is)
+none_asked before after is pages agrees = (0, omega arith, omega (arith, is))
 
 -- what is said of one text is said of another
 pub works_as : (Tells TellsToo : (List ℕ → Type 0) → Type 0)

@@ -12,15 +12,15 @@ use Rattle.wap_keys.specs.declared.ending.Ending.TheVariants as ending
 use Rattle.wap_keys.specs.Read.{TakesAtMost, EndsAtMostOnce}
 use Rattle.wap_keys.specs.lists.Lists.{all_of, lists_of}
 use Rattle.wap_keys.specs.lists.Read.{AreRead, ReadsLists}
-use Rattle.wap_world.specs.Sites.{Site}
 use Rattle.wap_world.specs.Sessions.{Begun}
 use Rattle.wap_cli.specs.declared.status.Status.{Status}
 use Rattle.wap_cli.specs.declared.status.Status.TheVariants.{BadKey, TooManyKeys, KeyReadFault}
 use Rattle.wap_cli.specs.declared.status.Status.TheVariants.{NoMemory}
 use Rattle.wap_cli.specs.prepare.Working.{WorksOnAll}
 use Rattle.wap_cli.specs.Devices.{Devices}
+use Rattle.wap_cli.specs.Networks.{Network}
 use Rattle.wap_cli.specs.replay.Texts.{replayed}
-use Rattle.wap_cli.specs.replay.Headline.{CameTo, Tells, Ends, IsSiteOf, ReplaysSeen}
+use Rattle.wap_cli.specs.replay.Headline.{CameTo, Tells, Ends, IsNetworkOf, ReplaysSeen}
 use Rattle.wap_cli.specs.replay.inside.Jobs.{TellsOf}
 use Rattle.wap_cli.proofs.PrepareLemmas.Ending.{works_as}
 
@@ -110,10 +110,10 @@ module _ {A : Type 0} (lists_in : A → List (List Key)) (begun : Begun) (source
 tells_both : (begun : Begun) (old new : Devices) (lists : List (List Key))
     → ((bytes : List ℕ) → MayGive old.source new.source bytes → all_of (lists_of bytes) ≡ lists)
     → (Wrote : List ℕ → Type 0) → TellsOf begun lists new.store.known Wrote
-    → Tells (IsSiteOf new.store) begun old new Wrote
-tells_both begun old new lists same Wrote told site (contents, agrees, is) bytes may =
-    subst (λ (l : List (List Key)). Wrote (replayed site begun l)) (sym (same bytes may))
-    (subst (λ (s : Site). Wrote (replayed s begun lists)) (sym is) (told contents agrees))
+    → Tells (IsNetworkOf new.store) begun old new Wrote
+tells_both begun old new lists same Wrote told network (contents, agrees, is) bytes may =
+    subst (λ (l : List (List Key)). Wrote (replayed network begun l)) (sym (same bytes may))
+    (subst (λ (n : Network). Wrote (replayed n begun lists)) (sym is) (told contents agrees))
 
 -- the lists were played, or not
 pub worked : {A : Type 0} (lists_in : A → List (List Key)) (begun : Begun) (lists : A)
@@ -129,7 +129,7 @@ worked lists_in begun lists old new status reads works =
           (came_to old.source new.source (lists_in lists) ending.End read (λ e. absurd cc))
           (read.none_left refl)
           (works_as (TellsOf begun (lists_in lists) new.store.known)
-          (Tells (IsSiteOf new.store) begun old new)
+          (Tells (IsNetworkOf new.store) begun old new)
           (tells_both begun old new (lists_in lists) (read.all refl)) old.store new.store old.sink
           new.sink status works);
       few = reads.few;

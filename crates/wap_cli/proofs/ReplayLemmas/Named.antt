@@ -1,4 +1,4 @@
--- Pages by the names of a store, and the site that they are.
+-- Pages by the names of a store, and the network that they are.
 use Rattle.std.proofs.Common.{◌≡◌, ◌≢◌, ℕ, Bool, true, false, cond, List, [], ◌∷◌, map, Option}
 use Rattle.std.proofs.Common.{Some, None, refl, sym, ap, subst, ◌∙◌}
 use mathlib.Core.Path.{fun_ext}
@@ -20,11 +20,10 @@ use Rattle.wap_world.specs.declared.site.page.Page.{Page}
 use Rattle.wap_world.specs.declared.site.page.Page.TheVariants as page
 use Rattle.wap_pages.specs.Judged.{judged, page_of_bytes, page_where}
 use Rattle.wap_base.specs.declared.key.Key.{Key}
-use Rattle.wap_world.specs.Sites.{Site}
 use Rattle.wap_world.specs.Sessions.{Begun}
 use Rattle.wap_world.specs.scripting.UnitSites.{unit_page, unit_pages}
-use Rattle.wap_context.specs.Sites.{site_of}
-use Rattle.wap_cli.specs.replay.Texts.{replayed, site_of_store}
+use Rattle.wap_cli.specs.Networks.{Network, over, network_of}
+use Rattle.wap_cli.specs.replay.Texts.{replayed, network_of_store}
 use Rattle.wap_cli.specs.replay.inside.Jobs.{is_there, pages_named, TellsOf}
 use Rattle.wap_cli.proofs.ReplayLemmas.Sites.{same_site}
 
@@ -117,13 +116,15 @@ module _ (found : (name bytes : List ℕ) → page_of_bytes name bytes ≢ page.
       ∙ by_bytes name (page_named name contents)
       ∙ sym (under_judged name contents)
 
-  -- they are the site of the contents
-  pub named_site : site_of (unit_pages (pages_named contents names)) ≡ site_of_store contents
-  named_site =
-      same_site (unit_pages (pages_named contents names)) (unit_pages (judged contents)) (λ name.
+  -- they are the network of the contents
+  pub named_network : network_of (unit_pages (pages_named contents names))
+      ≡ network_of_store contents
+  named_network =
+      ap over
+      (same_site (unit_pages (pages_named contents names)) (unit_pages (judged contents)) (λ name.
       lookup-map_values unit_page (λ other. is_same_text other name) (pages_named contents names)
       ∙ ap (option_map unit_page) (same_page name)
-      ∙ sym (lookup-map_values unit_page (λ other. is_same_text other name) (judged contents)))
+      ∙ sym (lookup-map_values unit_page (λ other. is_same_text other name) (judged contents))))
 
 -- so what is written of lists over them is what is written over whatever pages the store may have
 pub tells_named : ((name bytes : List ℕ) → page_of_bytes name bytes ≢ page.Missing)
@@ -132,12 +133,12 @@ pub tells_named : ((name bytes : List ℕ) → page_of_bytes name bytes ≢ page
     → ((contents : Contents) → Agrees listed contents → IsPermutation (names_of contents) names)
     → Grew listed after → given ≡ names
     → ((contents : Contents) → Agrees after contents → pages ≡ pages_named contents given)
-    → (Wrote : List ℕ → Type 0) → Wrote (replayed (site_of (unit_pages pages)) begun lists)
+    → (Wrote : List ℕ → Type 0) → Wrote (replayed (network_of (unit_pages pages)) begun lists)
     → TellsOf begun lists after Wrote
 tells_named found listed after names given pages begun lists ascending all grew gives named Wrote
     wrote contents agrees =
-    subst (λ (site : Site). Wrote (replayed site begun lists))
-    (ap (λ (p : Pages). site_of (unit_pages p))
+    subst (λ (network : Network). Wrote (replayed network begun lists))
+    (ap (λ (p : Pages). network_of (unit_pages p))
     (named contents agrees ∙ ap (pages_named contents) gives)
-    ∙ named_site found contents names ascending
+    ∙ named_network found contents names ascending
     (all contents (agrees_before listed after grew contents agrees))) wrote

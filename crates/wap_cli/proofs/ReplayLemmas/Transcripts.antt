@@ -15,9 +15,10 @@ use Rattle.wap_world.specs.Steps.{Step}
 use Rattle.wap_world.specs.Sessions.{Begun, shown_by}
 use Rattle.wap_world.specs.scripting.UnitSites.{unit_pages, shelf_of}
 use Rattle.wap_context.specs.Browsers.{IsOver}
-use Rattle.wap_context.specs.Sites.{site_of, IfOver}
+use Rattle.wap_context.specs.Sites.{IfOver}
 use Rattle.wap_session.specs.Feeding.{State, beginning, Leads, ShowsOn}
-use Rattle.wap_cli.specs.replay.Texts.{alone}
+use Rattle.wap_cli.specs.Networks.{network_of}
+use Rattle.wap_cli.specs.resume.Saving.{opened_at}
 
 module _ (pages : Pages) (begun : Begun) (keys : List Key) (first last : State)
     (opened played : List (List ℕ))
@@ -26,11 +27,11 @@ module _ (pages : Pages) (begun : Begun) (keys : List Key) (first last : State)
     (goes_on : Leads keys (unit_pages pages) first last played) where
   -- its lines are those of the URL that is opened, and of its keys
   lines_are : opened ++ played
-      ≡ shown_by (alone (site_of (unit_pages pages)) begun keys)
+      ≡ shown_by (opened_at begun (network_of (unit_pages pages)) keys)
   lines_are = ap (λ (l : List (List ℕ)). opened ++ l) goes_on.tells ∙ shows keys
 
   -- it ends in a dialog where the last step does
-  open_is : is_some last.waiting ≡ (alone (site_of (unit_pages pages)) begun keys).is_open
+  open_is : is_some last.waiting ≡ (opened_at begun (network_of (unit_pages pages)) keys).is_open
   open_is = goes_on.asks_user ∙ sym (ap (λ (step : Step). step.is_open) (leads.on keys))
 
 -- the same, as the calls of a session say it, after each of which these may be the pages
@@ -40,8 +41,8 @@ pub played_alone : (P : Pages) (one two : Seen) (begun : Begun) (key : Key) (key
     → IfOver one state.browser (λ of. Leads (key ∷ []) of state first opened)
     → IfOver one state.browser (λ of. ShowsOn (key ∷ []) of state first opened)
     → IfOver two first.browser (λ of. Leads keys of first last played)
-    → (opened ++ played ≡ shown_by (alone (site_of (unit_pages P)) begun keys))
-    × (is_some last.waiting ≡ (alone (site_of (unit_pages P)) begun keys).is_open)
+    → (opened ++ played ≡ shown_by (opened_at begun (network_of (unit_pages P)) keys))
+    × (is_some last.waiting ≡ (opened_at begun (network_of (unit_pages P)) keys).is_open)
 played_alone P one two begun key keys state first last opened played now later begins opens leads
     shows goes_on =
     let of = unit_pages P in

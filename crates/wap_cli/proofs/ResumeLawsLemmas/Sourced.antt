@@ -16,6 +16,7 @@ use Rattle.wap_site_laws.proofs.PagesLemmas.Judging.{site_judged}
 use Rattle.wap_context.specs.Sites.{fragment_call}
 use Rattle.wap_cli.specs.browse.Handling.{bytes_of}
 use Rattle.wap_cli.specs.browse.Plays.{HaveNoPush}
+use Rattle.wap_cli.specs.Networks.{over}
 use Rattle.wap_cli.specs.resume.Saving.{opened_at, EndsAt, IsWhole}
 use Rattle.wap_cli.specs.resume.Resuming.{resumed_at}
 use Rattle.wap_cli.proofs.ResumeLemmas.Lasting.{goes_on}
@@ -36,17 +37,17 @@ module _ (begun : Begun) (first others : List Key) (parts : ContextParts)
   where
     -- keys go on over a site from where others end over one
     abbrev GoOn : Site → Site → Type 0
-    GoOn site later = bytes_of (opened_at begun site (first ++ others))
-        ≡ bytes_of (opened_at begun site first)
-        ++ bytes_of (resumed_at parts begun.budget later others)
+    GoOn site later = bytes_of (opened_at begun (over site) (first ++ others))
+        ≡ bytes_of (opened_at begun (over site) first)
+        ++ bytes_of (resumed_at parts begun.budget (over later) others)
 
     pub sourced_go_on : (pages : AllPages Accepted) → ArePages contents pages
-        → EndsAt begun (sourced pages) first parts
-        → IsWhole parts (opened_at begun (sourced pages) first).world
+        → EndsAt begun (over (sourced pages)) first parts
+        → IsWhole parts (opened_at begun (over (sourced pages)) first).world
         → GoOn (sourced pages) (sourced pages)
     sourced_go_on pages are =
-        subst (λ (site : Site). EndsAt begun site first parts
-        → IsWhole parts (opened_at begun site first).world → GoOn site site)
+        subst (λ (site : Site). EndsAt begun (over site) first parts
+        → IsWhole parts (opened_at begun (over site) first).world → GoOn site site)
         (sym (site_judged fragment_call contents pages are))
         (λ ends whole. goes_on begun (unit_pages (judged contents)) first others parts ends whole
         none (judged_have_cards contents distinct))
@@ -55,16 +56,17 @@ module _ (begun : Begun) (first others : List Key) (parts : ContextParts)
     pub sourced_go_on_over : (later : Contents) (name : List ℕ) → AgreeBut name contents later
         → (pages : AllPages Accepted) → ArePages contents pages
         → (other_pages : AllPages Accepted) → ArePages later other_pages
-        → EndsAt begun (sourced pages) first parts
-        → IsWhole parts (opened_at begun (sourced pages) first).world
-        → is_asked (is_same_text name) (opened_at begun (sourced pages) (first ++ others)).asked
+        → EndsAt begun (over (sourced pages)) first parts
+        → IsWhole parts (opened_at begun (over (sourced pages)) first).world
+        → is_asked (is_same_text name)
+        (opened_at begun (over (sourced pages)) (first ++ others)).asked
         ≡ false
         → GoOn (sourced pages) (sourced other_pages)
     sourced_go_on_over later name agree pages are other_pages are_other ends whole unasked =
         subst (GoOn (sourced pages)) (sym (site_judged fragment_call later other_pages are_other))
-        (subst (λ (site : Site). EndsAt begun site first parts
-        → IsWhole parts (opened_at begun site first).world
-        → is_asked (is_same_text name) (opened_at begun site (first ++ others)).asked ≡ false
+        (subst (λ (site : Site). EndsAt begun (over site) first parts
+        → IsWhole parts (opened_at begun (over site) first).world
+        → is_asked (is_same_text name) (opened_at begun (over site) (first ++ others)).asked ≡ false
         → GoOn site (unit_site later))
         (sym (site_judged fragment_call contents pages are))
         (λ ends whole unasked. goes_on_over (is_same_text name) (unit_pages (judged contents))

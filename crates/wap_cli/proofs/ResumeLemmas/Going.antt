@@ -1,6 +1,7 @@
 -- A command on what was saved, from its beginning to its end.
 use Rattle.std.specs.Prelude.{◌<◌}
 use Rattle.std.proofs.Common.{◌≡◌, ℕ, List, [], Option, Some, Ok, refl, subst, ◌∙◌, inl, inr}
+use Rattle.std.proofs.Common.{arith}
 use Rattle.std.specs.Option.{option_map}
 use Rattle.wap_base.specs.Contents.{Contents}
 use Rattle.wap_devices.specs.Stores.{StoreSeen, Agrees, Grew}
@@ -90,7 +91,7 @@ module _ (before after : StoreSeen) (capacity : ℕ) (source : SourceSeen) (sink
     capacity = refl;
     listings = fetched.listings;
     faults = fetched.counts;
-    fetches = (1, fetched.fetches);
+    fetches = let one = fetched.fetches in omega (arith, one);
   }
 
   -- it gave nothing
@@ -191,7 +192,8 @@ forget_images : (begun : Begun) (old new : Outside) (status : Status) (cache : O
 forget_images begun old new status cache same so = record {
   dropped = so.dropped;
   end = so.end;
-  plays = forget_cache (opened begun) (unshown nothing_dropped old) (unshown so.dropped new) so.end cache same
+  plays = forget_cache (opened begun) (unshown nothing_dropped old) (unshown so.dropped new) so.end
+      cache same
       so.plays;
   stops = so.stops;
   parts = so.parts;

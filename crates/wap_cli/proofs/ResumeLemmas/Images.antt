@@ -133,7 +133,8 @@ images_undone begun old new dropped status undone plays same = record {
   saves = λ is. absurd (undone is);
   of_reason = λ fault is.
       absurd
-      (unrefused (opened begun) (unshown nothing_dropped old) (unshown dropped new) status plays fault is);
+      (unrefused (opened begun) (unshown nothing_dropped old) (unshown dropped new) status plays
+      fault is);
   whole = λ is. absurd (undone is);
 }
 
@@ -141,7 +142,8 @@ images_undone begun old new dropped status undone plays same = record {
 pub images_done : (begun : Begun) (old new : Outside) (dropped : Dropped) (state : State)
     (context : Browser) (end status : Status) → end ≡ Done
     → BrowsesSeen (opened begun) (unshown nothing_dropped old) (unshown dropped new) end
-    → Rests (opened begun) (unshown nothing_dropped old) (unshown dropped new) state → context ≡ state.browser
+    → Rests (opened begun) (unshown nothing_dropped old) (unshown dropped new) state → context
+    ≡ state.browser
     → WritesImage (image_of (parts_of context.world) begun.budget) old.sink new.sink status
     → (status ≡ Done → IsWhole (parts_of context.world) context.world)
     → ImagesSeen begun old new status
@@ -151,7 +153,8 @@ images_done begun old new dropped state context end status done plays rests is w
       dropped = dropped;
       end = Done;
       plays =
-          subst (λ (s : Status). BrowsesSeen (opened begun) (unshown nothing_dropped old) after s) done plays;
+          subst (λ (s : Status). BrowsesSeen (opened begun) (unshown nothing_dropped old) after s)
+          done plays;
       stops = λ other. absurd (other refl);
       parts = parts_of state.browser.world;
       ends_in = λ so. ends_in begun (unshown nothing_dropped old) after state rests;
@@ -161,7 +164,8 @@ images_done begun old new dropped state context end status done plays rests is w
           image_remembers (parts_of context.world) begun.budget old.sink new.sink status written;
       whole = λ so bytes gives pages are.
           subst (λ (w : World). IsWhole (parts_of state.browser.world) w)
-          (stands_there begun (unshown nothing_dropped old) after state rests bytes gives pages are).world
+          (stands_there begun (unshown nothing_dropped old) after state rests bytes gives pages
+          are).world
           (subst (λ (browser : Browser). IsWhole (parts_of browser.world) browser.world) is
           (whole so));
     }

@@ -1,5 +1,6 @@
 -- What was saved leads back to the world in which it was saved.
-use Rattle.std.proofs.Common.{◌≡◌, ℕ, ◌<◌, Bool, true, false, List, [], ◌∷◌, ◌++◌, length, take, ◌-◌}
+use Rattle.std.proofs.Common.{◌≡◌, ℕ, ◌<◌, Bool, true, false, List, [], ◌∷◌, ◌++◌, length, take}
+use Rattle.std.proofs.Common.{◌-◌}
 use Rattle.std.proofs.Common.{Option, Some, None, refl, sym, ap, ◌∙◌, arith, slice_get}
 use Rattle.std.proofs.lemmas.Option.{slice_get_within}
 use Rattle.std.specs.Prelude.{is_some, nat_lt, if◌then◌else◌, map}
@@ -66,7 +67,8 @@ in_same : (world : World) (entry : Entry) (deck : Deck) → last_entry world ≡
     → is_some (place_in entry deck) ≡ true → with_last_in deck world ≡ world
 in_same world entry deck last some =
     let found = slice_get (cards_of deck) entry.card in
-    let below = is_below found (cards_of deck) entry.card refl (place_card entry deck found refl some)
+    let below = is_below found (cards_of deck) entry.card refl
+    (place_card entry deck found refl some)
     in
     let kept : in_deck deck entry ≡ entry =
     stays_in (nat_lt entry.card (length (cards_of deck))) entry deck refl below in

@@ -137,7 +137,8 @@ made_by parts turns seen pages browser may are made =
       world,
       if_some last (λ entry. (d : Deck) × (page_of (name_for entry.url) pages ≡ page.Deck d))
           (λ entry is.
-          let (d, answer) = some_fact last (λ e. (x : Deck) × (made.answer ≡ page.Deck x)) entry is deck in (
+          let (d, answer) = some_fact last (λ e. (x : Deck) × (made.answer ≡ page.Deck x)) entry is
+          deck in (
             d,
             sym (some_fact last (λ e. made.answer ≡ page_of (name_for e.url) pages) entry is found)
                 ∙ answer,
@@ -315,7 +316,8 @@ lacks_deck parts store cache later grew name why made asked cause =
     refused_by (record { world = saved_world parts; deck = None }) (saved_world parts) made.answer
     last made.is in
     let name_now = name_for entry.url in
-    let same : name_now ≡ name = names_same name_now name (sym (asked_entry parts entry is) ∙ asked) in
+    let same : name_now ≡ name = names_same name_now name (sym (asked_entry parts entry is) ∙ asked)
+    in
     record {
       name = name;
       asked = asked;

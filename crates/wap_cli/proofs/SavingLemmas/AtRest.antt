@@ -40,7 +40,8 @@ settled_off t is = cc is
 
 module _ (site : Site) (runs : ScriptsKeep (StandsOnCard site.shelf) site)
     (cards : HaveCards site.shelf) where
-  -- what the changes of a world keep, but for those in scripts, after which a world stands on a card
+  -- what the changes of a world keep, but for those in scripts, after which a world stands on a
+  -- card
   rests_kept : Kept (Resting site.shelf) (Stands site.shelf) Any site.shelf
   rests_kept =
       let kept = standing_kept site cards in record {

@@ -14,20 +14,20 @@ use Rattle.wap_world.specs.Shelves.{Shelved, refused_page}
 use Rattle.wap_world.specs.Shelves.{no_page}
 use Rattle.wap_make.specs.Folders.{folder, deck_count}
 use Rattle.wap_keys.specs.declared.words.numbers.TheConstants.{DEFAULT_SEED, DEFAULT_BUDGET}
-use Rattle.wap_push.specs.Pushes.{push_at}
 use Rattle.wap_world.specs.Sites.{Site}
-use Rattle.wap_world.specs.Sessions.{Begun, session, shown_by}
+use Rattle.wap_world.specs.Sessions.{Begun, shown_by}
 use Rattle.wap_site_laws.specs.pages.SourcePages.{ArePages}
-use Rattle.wap_cli.specs.Browsing.{PagesAndCalls, source_site}
-use Rattle.wap_cli.specs.Calls.{ReadsCalls}
+use Rattle.wap_cli.specs.Browsing.{PagesAndReaders, AreReaders, source_network}
+use Rattle.wap_cli.specs.Networks.{Network}
+use Rattle.wap_cli.specs.resume.Saving.{opened_at}
 use Rattle.wap_cli.specs.declared.status.Status.{Status}
 use Rattle.wap_cli.specs.Writing.{Writes}
 
 -- ---- pages
 
--- the folder is these pages, and fragments call what they spell
-abbrev pub AreMade : ℕ → PagesAndCalls → Type 0
-AreMade n one = ArePages (folder n) one.pages × ReadsCalls one.call
+-- the folder is these pages
+abbrev pub AreMade : ℕ → PagesAndReaders → Type 0
+AreMade n one = ArePages (folder n) one.pages × AreReaders one
 
 -- whether a page stands there that is accepted
 abbrev pub is_accepted_there : Shelved → Bool
@@ -62,18 +62,18 @@ made_begun = record {
 abbrev pub made_keys : ℕ → List Key
 made_keys n = replicate (deck_count n) onward
 
--- the lines of the session with these keys over a site
-abbrev pub lines_of : Site → List Key → List (List ℕ)
-lines_of site keys = shown_by (session push_at site made_begun keys).step
+-- the lines of the session with these keys over a network
+abbrev pub lines_of : Network → List Key → List (List ℕ)
+lines_of network keys = shown_by (opened_at made_begun network keys)
 
--- the lines over the folder, which has this site
-abbrev pub made_lines : ℕ → Site → List (List ℕ)
-made_lines n site = lines_of site (made_keys n)
+-- the lines over the folder, which has this network
+abbrev pub made_lines : ℕ → Network → List (List ℕ)
+made_lines n network = lines_of network (made_keys n)
 
 -- what one key more shows, which asks for the variables
-abbrev pub made_variables : ℕ → Site → List (List ℕ)
-made_variables n site =
-    drop (length (made_lines n site)) (lines_of site (made_keys n ++ Vars ∷ []))
+abbrev pub made_variables : ℕ → Network → List (List ℕ)
+made_variables n network =
+    drop (length (made_lines n network)) (lines_of network (made_keys n ++ Vars ∷ []))
 
 -- the beginning of the line of the variable that the script sets
 abbrev pub sum_mark : List ℕ
@@ -92,17 +92,17 @@ value_in (line ∷ lines) =
 abbrev pub made_line : List ℕ → List ℕ → List ℕ
 made_line word text = word ++ (codes " " ++ (text ++ codes "\n"))
 
-abbrev pub made_report : ℕ → Site → List ℕ
-made_report n site =
+abbrev pub made_report : ℕ → Network → List ℕ
+made_report n network =
     made_line (codes "pages") (decimal (length (folder n)))
-    ++ (made_line (codes "ok") (decimal (length (accepted_over site (names_of (folder n)))))
-    ++ (made_line (codes "lines") (decimal (length (made_lines n site)))
-    ++ made_line (codes "t") (value_in (made_variables n site))))
+    ++ (made_line (codes "ok") (decimal (length (accepted_over network.site (names_of (folder n)))))
+    ++ (made_line (codes "lines") (decimal (length (made_lines n network)))
+    ++ made_line (codes "t") (value_in (made_variables n network))))
 
 -- what there is to be written, by whatever pages the folder is
 abbrev pub TellsMade : ℕ → (List ℕ → Type 0) → Type 0
 TellsMade n Wrote =
-    (one : PagesAndCalls) → AreMade n one → Wrote (made_report n (source_site one))
+    (one : PagesAndReaders) → AreMade n one → Wrote (made_report n (source_network one))
 
 -- the sink, before and after, and how it ended
 abbrev pub Makes : ℕ → SinkSeen → SinkSeen → Status → Type 0

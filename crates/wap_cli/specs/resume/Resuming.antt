@@ -18,13 +18,12 @@ use Rattle.wap_pages.specs.declared.fault.PageFault.TheVariants.{Missing, Image,
 use Rattle.wap_pages.specs.Judged.{IsDeckPage, Refuses}
 use Rattle.wap_world.specs.Shelves.{Shelf}
 use Rattle.wap_world.specs.World.{World, last_entry, deck_at}
-use Rattle.wap_world.specs.Sites.{Site}
 use Rattle.wap_world.specs.Steps.{Step}
 use Rattle.wap_state.specs.Saved.{saved_world}
 use Rattle.wap_context.specs.Saved.{with_last_in, asked_for}
-use Rattle.wap_context.specs.Sites.{site_of}
 use Rattle.wap_cli.specs.Answers.{IsPageOf}
 use Rattle.wap_cli.specs.Memory.{is_of_memory}
+use Rattle.wap_cli.specs.Networks.{Network, network_of}
 use Rattle.wap_cli.specs.declared.status.Status.{Status}
 use Rattle.wap_cli.specs.declared.status.Status.TheVariants.{Refused, StoreFault, NoMemory}
 use Rattle.wap_cli.specs.browse.Outside.{Outside}
@@ -43,16 +42,16 @@ abbrev pub world_over : Shelf → World → World
 world_over shelf world = option_map_or (λ deck. with_last_in deck world)
     (option_and_then (λ entry. deck_at shelf entry.url) (last_entry world)) world
 
--- over a site the page of the current card is asked for, and then keys are played from this world;
--- of an inbox nothing was saved
-abbrev pub resumed_at : ContextParts → ℕ → Site → List Key → Step
-resumed_at parts turns site keys =
-    let step = played_at (world_over site.shelf (world_with parts turns)) site keys in
+-- over a network the page of the current card is asked for, and then keys are played from this
+-- world; of an inbox nothing was saved
+abbrev pub resumed_at : ContextParts → ℕ → Network → List Key → Step
+resumed_at parts turns network keys =
+    let step = played_at (world_over network.site.shelf (world_with parts turns)) network keys in
     record step { asked = asked_for parts ++ step.asked }
 
 -- the same over pages
 abbrev pub resumed : ContextParts → ℕ → Play
-resumed parts turns pages keys = resumed_at parts turns (site_of pages) keys
+resumed parts turns pages keys = resumed_at parts turns (network_of pages) keys
 
 -- ---- decks that are there, and why one isn't
 
@@ -136,25 +135,26 @@ asked_once name bytes outside = record outside {
   };
 }
 
--- a session goes on over these pages, which have this site, with what is there under a name, once
--- its image was fetched: from the outside before to the outside after, and the status
-pub record GoesOn {P : Type 0} (Are : P → Type 0) (site : P → Site) (name : List ℕ)
+-- a session goes on over these pages, which have this network, with what is there under a name,
+-- once its image was fetched: from the outside before to the outside after, and the status
+pub record GoesOn {P : Type 0} (Are : P → Type 0) (network : P → Network) (name : List ℕ)
     (old new : Outside) (status : Status) (saved : Saved) : Type 0 where
   pub there : IsThere new.pages.known name saved
-  pub browses : Browses Are (λ pages. resumed_at saved.0 saved.1 (site pages))
+  pub browses : Browses Are (λ pages. resumed_at saved.0 saved.1 (network pages))
       (asked_once name there.bytes old) new status
 
--- a session goes on over these pages, which have this site, with what was saved under a name, or
+-- a session goes on over these pages, which have this network, with what was saved under a name, or
 -- nothing is begun: from the outside before to the outside after, and the status
-pub data Resumes {P : Type 0} (Are : P → Type 0) (site : P → Site) (name : List ℕ)
+pub data Resumes {P : Type 0} (Are : P → Type 0) (network : P → Network) (name : List ℕ)
     (old new : Outside) (status : Status) : Type 0 where
-  goes_on : (saved : Saved) → GoesOn Are site name old new status saved
-      → Resumes Are site name old new status
+  goes_on : (saved : Saved) → GoesOn Are network name old new status saved
+      → Resumes Are network name old new status
   -- out of memory is no reason to refuse
   stops : Unbegun (Hinders new.pages.known name) old new status
       → ((fault : PageFault) → status ≡ Refused fault → is_of_memory fault ≡ false)
-      → Resumes Are site name old new status
+      → Resumes Are network name old new status
 
 -- the same over the pages that are seen
 abbrev pub ResumesSeen : List ℕ → Outside → Outside → Status → Type 0
-ResumesSeen name old new status = Resumes (AreUnitPages new.pages) site_of name old new status
+ResumesSeen name old new status =
+    Resumes (AreUnitPages new.pages) network_of name old new status

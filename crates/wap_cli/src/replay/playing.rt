@@ -6,9 +6,10 @@ ghost use Rattle.wap_base.specs.declared.key.Key.TheVariants.{Open};
 ghost use Rattle.wap_layout.specs.buffer.Written.{lines_bytes};
 ghost use Rattle.wap_world.specs.Sessions.{shown_by};
 ghost use Rattle.wap_world.specs.scripting.UnitSites.{unit_pages};
-ghost use Rattle.wap_context.specs.Sites.{site_of};
 ghost use Rattle.wap_cli.specs.browse.Beginning.{begun_with};
-ghost use Rattle.wap_cli.specs.replay.Texts.{header, alone, replayed};
+ghost use Rattle.wap_cli.specs.Networks.{network_of};
+ghost use Rattle.wap_cli.specs.resume.Saving.{opened_at};
+ghost use Rattle.wap_cli.specs.replay.Texts.{header, replayed};
 ghost use Rattle.wap_cli.specs.replay.inside.Jobs.{text_on};
 
 use crate::browse::{Beginning, add_lines, at_end};
@@ -64,9 +65,10 @@ fn play(
 ) -> Result<Played, NoMemory>
     requires { AreInRange begun.now.limits }
     ensures lines { IfOk result (λ list. list.opened ++ list.played
-        ≡ shown_by (alone (site_of (unit_pages pages.now)) (begun_with begun.now) keys.now)) }
+        ≡ shown_by
+        (opened_at (begun_with begun.now) (network_of (unit_pages pages.now)) keys.now)) }
     ensures ends { IfOk result (λ list. list.is_open
-        ≡ (alone (site_of (unit_pages pages.now)) (begun_with begun.now) keys.now).is_open) }
+        ≡ (opened_at (begun_with begun.now) (network_of (unit_pages pages.now)) keys.now).is_open) }
 {
     let first = opening(alloc, &begun.url)?;
     let mut shared = pages.pages();
@@ -187,7 +189,7 @@ pub(crate) fn play_lists<R: Threads + Sync, G: Gate + Sync>(
     requires some { 0 < workers }
     requires limits { AreInRange begun.limits }
     ensures { IfOk result (λ texts. flat_map (λ text. text.items) texts.items
-        ≡ replayed (site_of (unit_pages pages.now)) (begun_with begun) lists.items) }
+        ≡ replayed (network_of (unit_pages pages.now)) (begun_with begun) lists.items) }
 {
     let jobs = numbered(alloc, lists)?;
     let work = Playing {

@@ -4,7 +4,7 @@ ghost use Rattle.wap_base.specs.Limits.{AreInRange};
 ghost use Rattle.wap_cli.specs.prepare.Working.{WorksOnAll};
 ghost use Rattle.wap_cli.specs.Writing.{PutsTo};
 ghost use Rattle.wap_world.specs.scripting.UnitSites.{unit_pages};
-ghost use Rattle.wap_context.specs.Sites.{site_of};
+ghost use Rattle.wap_cli.specs.Networks.{network_of};
 ghost use Rattle.wap_cli.specs.replay.Texts.{replayed};
 ghost use Rattle.wap_cli.specs.browse.Beginning.{begun_with};
 ghost use Rattle.wap_cli.specs.replay.Headline.{ReplaysSeen};
@@ -38,7 +38,7 @@ fn play_all<R: Threads + Sync, O: Sink, G: Gate + Sync>(
 ) -> Status
     requires some { 0 < workers }
     requires limits { AreInRange begun.limits }
-    ensures { PutsTo (replayed (site_of (unit_pages pages.now)) (begun_with begun) lists.items)
+    ensures { PutsTo (replayed (network_of (unit_pages pages.now)) (begun_with begun) lists.items)
         (O.seen out.old) (O.seen out.new) result }
 {
     let Ok(texts) = play_lists(rt, alloc, pages, begun, lists, workers, gate) else {

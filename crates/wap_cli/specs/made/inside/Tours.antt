@@ -17,6 +17,7 @@ use Rattle.wap_context.specs.Sites.{site_of}
 use Rattle.wap_cli.specs.declared.made.playing.Played.{Played}
 use Rattle.wap_cli.specs.declared.made.making.Tour.{Tour}
 use Rattle.wap_cli.specs.made.Making.{made_begun, made_lines, made_variables}
+use Rattle.wap_cli.specs.Networks.{over}
 use Rattle.wap_cli.specs.made.Making.{accepted_over, value_in, made_line}
 
 -- the pages of the folder, as a browser judges them
@@ -47,8 +48,8 @@ pub record IsPlayed (site : Site) (keys : List Key) (came : Played) : Type 0 whe
 pub record IsTour (n : ℕ) (tour : Tour) : Type 0 where
   pub pages : tour.pages ≡ length (folder n)
   pub accepted : tour.accepted ≡ length (accepted_over (made_site n) (names_of (folder n)))
-  pub lines : tour.played.lines ≡ length (made_lines n (made_site n))
-  pub sum : tour.played.sum.items ≡ value_in (made_variables n (made_site n))
+  pub lines : tour.played.lines ≡ length (made_lines n (over (made_site n)))
+  pub sum : tour.played.sum.items ≡ value_in (made_variables n (over (made_site n)))
 
 -- the lines on it
 abbrev pub report_of : Tour → List ℕ

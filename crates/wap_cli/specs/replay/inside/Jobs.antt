@@ -11,8 +11,8 @@ use Rattle.wap_cli.specs.Answers.{page_of}
 use Rattle.wap_cli.specs.prepare.Fetching.{Job}
 use Rattle.wap_world.specs.Sessions.{Begun}
 use Rattle.wap_world.specs.scripting.UnitSites.{unit_pages}
-use Rattle.wap_context.specs.Sites.{site_of}
-use Rattle.wap_cli.specs.replay.Texts.{list_text, replayed, site_of_store}
+use Rattle.wap_cli.specs.Networks.{network_of}
+use Rattle.wap_cli.specs.replay.Texts.{list_text, replayed, network_of_store}
 
 -- ---- pages
 
@@ -46,9 +46,9 @@ pub record Stage : Type 0 where
 
 -- the text of a numbered list
 abbrev pub text_on : Stage → ℕ × List Key → List ℕ
-text_on stage one = list_text (site_of (unit_pages stage.pages)) stage.begun one
+text_on stage one = list_text (network_of (unit_pages stage.pages)) stage.begun one
 
 -- what there is to be written of lists, by whatever the pages of the store may be
 abbrev pub TellsOf : Begun → List (List Key) → Known → (List ℕ → Type 0) → Type 0
 TellsOf begun lists known Wrote =
-    (pages : Contents) → Agrees known pages → Wrote (replayed (site_of_store pages) begun lists)
+    (pages : Contents) → Agrees known pages → Wrote (replayed (network_of_store pages) begun lists)

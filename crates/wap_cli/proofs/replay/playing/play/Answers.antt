@@ -3,11 +3,11 @@ use Rattle.wap_world.specs.site.Pages.{Pages}
 use Rattle.wap_world.specs.Sessions.{shown_by}
 use Rattle.wap_world.specs.scripting.UnitSites.{unit_pages}
 use Rattle.wap_world.proofs.SiteLemmas.Asking.{Stays-then}
-use Rattle.wap_context.specs.Sites.{site_of}
 use Rattle.wap_session.specs.Feeding.{State}
 use Rattle.wap_cli.specs.browse.Beginning.{begun_with}
 use Rattle.wap_world.specs.site.Asking.{in_memory}
-use Rattle.wap_cli.specs.replay.Texts.{alone}
+use Rattle.wap_cli.specs.Networks.{network_of}
+use Rattle.wap_cli.specs.resume.Saving.{opened_at}
 use Rattle.wap_cli.proofs.PreparedLemmas.Fitting.{still}
 use Rattle.wap_cli.proofs.ReplayLemmas.Transcripts.{played_alone}
 use Rattle.wap_cli.proofs.replay.playing.play.Goals as goal
@@ -38,10 +38,10 @@ returns c =
     play.plays.leads in record {
       lines = both.0
           ∙ ap (λ (pages : Pages).
-          shown_by (alone (site_of (unit_pages pages)) begun c.args.keys.now))
+          shown_by (opened_at begun (network_of (unit_pages pages)) c.args.keys.now))
           c.pages-shared.ensures;
       ends = c.in_dialog.ensures.waits ∙ both.1
           ∙ ap (λ (pages : Pages).
-          (alone (site_of (unit_pages pages)) begun c.args.keys.now).is_open)
+          (opened_at begun (network_of (unit_pages pages)) c.args.keys.now).is_open)
           c.pages-shared.ensures;
     }

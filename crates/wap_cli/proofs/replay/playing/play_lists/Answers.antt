@@ -3,8 +3,8 @@ use Rattle.std.specs.List.{flat_map}
 use Rattle.std.specs.declared.alloc.Global.{Global}
 use Rattle.std.proofs.lemmas.Result.{IfOk-weaker}
 use Rattle.wap_world.specs.scripting.UnitSites.{unit_pages}
-use Rattle.wap_context.specs.Sites.{site_of}
 use Rattle.wap_cli.specs.browse.Beginning.{begun_with}
+use Rattle.wap_cli.specs.Networks.{network_of}
 use Rattle.wap_cli.specs.replay.Texts.{replayed}
 use Rattle.wap_cli.specs.replay.inside.Jobs.{Stage, text_on}
 use Rattle.wap_cli.proofs.PrepareLemmas.Entries.{all_there}
@@ -18,7 +18,8 @@ returns g c =
     let jobs = c.deref.result.now in
     IfOk-weaker c.all_answers.result _ (λ (texts : Vec (Vec ℕ Global) Global).
     flat_map (λ (text : Vec ℕ Global). text.items) texts.items
-    ≡ replayed (site_of (unit_pages c.args.pages.now)) (begun_with c.args.begun) c.args.lists.items)
+    ≡ replayed (network_of (unit_pages c.args.pages.now)) (begun_with c.args.begun)
+    c.args.lists.items)
     (λ texts same.
     texts_are (text_on stage) jobs texts.items
     (all_there (λ job (text : Vec ℕ Global). text.items ≡ text_on stage job) jobs texts.items

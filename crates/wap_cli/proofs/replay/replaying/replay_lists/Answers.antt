@@ -5,8 +5,8 @@ use Rattle.wap_cli.proofs.PrepareLemmas.Asking.{asks_over}
 use Rattle.wap_cli.proofs.PrepareLemmas.Ending.{list_fails, list_no_memory, page_fails, no_memory}
 use Rattle.wap_cli.proofs.PrepareLemmas.Ending.{ended}
 use Rattle.wap_world.specs.scripting.UnitSites.{unit_pages}
-use Rattle.wap_context.specs.Sites.{site_of}
 use Rattle.wap_cli.specs.browse.Beginning.{begun_with}
+use Rattle.wap_cli.specs.Networks.{network_of}
 use Rattle.wap_cli.specs.replay.Texts.{replayed}
 use Rattle.wap_cli.specs.replay.inside.Jobs.{TellsOf}
 use Rattle.wap_cli.proofs.ReplayLemmas.Named.{tells_named}
@@ -25,7 +25,7 @@ returns-in-Ok-prepare_pages g c =
     ended (TellsOf begun c.args.lists.items after.known)
     (λ (names : Vec (List ℕ) Global). names.items) store listed after
     (g.O.Sink.seen c.args.out.now) (g.O.Sink.seen c.play_all.new.out) names c.in-Ok.ensures
-    (replayed (site_of (unit_pages pages)) begun c.args.lists.items)
+    (replayed (network_of (unit_pages pages)) begun c.args.lists.items)
     (tells_named c.pages_are_judged.ensures.found listed.known after.known names.items
     c.deref.result.now pages begun c.args.lists.items c.in-Ok.ensures.ascending
     c.in-Ok.ensures.names asks.known c.deref.ensures.value c.in-Ok-prepare_pages.ensures.pages)

@@ -18,8 +18,8 @@ returns-in_default g c =
       source = g.I.Source.seen played.new.keys;
       sink = g.O.Sink.seen c.args.out.now;
     } in
-    images_undone (begun_with c.args.begun) old new played.new.out.taken.items played.result.0
-    (search rules) (rw c.new.ensures at played.ensures.browses) refl
+    images_undone (begun_with c.args.begun) old new played.new.out played.result.0
+    (search rules) (rw c.new-dropped.ensures at played.ensures.browses) refl
 
 pub returns : goal.returns
 returns g c =
@@ -35,10 +35,10 @@ returns g c =
       sink = g.O.Sink.seen c.save_context.new.out;
     } in
     let done : played.result.0 ≡ Done = search rules in
-    let rests = rw c.new.ensures at (played.ensures.rests done) in
-    images_done (begun_with c.args.begun) old new played.new.out.taken.items played.result.1
+    let rests = rw c.new-dropped.ensures at (played.ensures.rests done) in
+    images_done (begun_with c.args.begun) old new played.new.out played.result.1
     c.in-Some.context.now played.result.0 c.save_context.result done
-    (rw c.new.ensures at played.ensures.browses) rests
+    (rw c.new-dropped.ensures at played.ensures.browses) rests
     (context_there played.result.1 c.in-Some.context.now rests.waiting rests.ready
     c.in-Some.ensures)
     c.save_context.ensures.image c.save_context.ensures.whole

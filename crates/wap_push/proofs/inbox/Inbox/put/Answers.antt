@@ -1,5 +1,6 @@
 use Rattle.std.proofs.Common.{◌∙◌, sym}
-use Rattle.wap_push.proofs.NextWinners.{late_push, not_alert, keyed_after, winners_after, alert_where}
+use Rattle.wap_push.proofs.NextWinners.{late_push, not_alert, keyed_after, winners_after}
+use Rattle.wap_push.proofs.NextWinners.{alert_where}
 use Rattle.wap_push.proofs.inbox.Inbox.put.Goals as goal
 
 -- ---- a push that loses
