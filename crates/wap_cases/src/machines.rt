@@ -22,7 +22,12 @@ fn give_outcome(call: &mut Call, outcome: &Outcome) {
 
 /// Runs a machine, and gives what it came to, or why it failed.
 fn play(call: &mut Call, machine: Machine, host: &mut SmallHost) {
-    match machine.run(host, &mut FailingPages { asked: Count::new() }) {
+    match machine.run(
+        host,
+        &mut FailingPages {
+            asked: Count::new(),
+        },
+    ) {
         Ok(outcome) => give_outcome(call, &outcome),
         Err(fault) => call.give_named(&fault),
     }

@@ -29,7 +29,8 @@ use Rattle.wap_context.specs.inside.AtHand.{not_started, show_at, leave_and_set_
 use Rattle.wap_context.specs.inside.AtHand.{entered_at, begun_at, enter_at, arrive_at, arrive_if_at}
 use Rattle.wap_context.specs.inside.AtHand.{return_at, refused_at, with_deck_at}
 use Rattle.wap_state.specs.Scenes.{Line}
-use Rattle.wap_context.specs.inside.Moving.{PlaysAt, Moves, HasDeck, Answers, deck_answer, page_answer}
+use Rattle.wap_context.specs.inside.Moving.{PlaysAt, Moves, HasDeck, Answers, deck_answer}
+use Rattle.wap_context.specs.inside.Moving.{page_answer}
 use Rattle.wap_world.proofs.Entries.{last_pushed, earlier_url}
 use Rattle.wap_context.proofs.Plays.{history_kept, turns_kept, over_kept}
 

@@ -45,7 +45,8 @@ use Rattle.wap_context.specs.Sites.{fragment_call}
 use Rattle.wap_context.specs.Pausing.{Paused}
 use Rattle.wap_context.specs.inside.AtHand.{show_at}
 use Rattle.wap_context.specs.inside.Moving.{PlaysAt, Moves, Takes, next_in, waits_in}
-use Rattle.wap_context.specs.inside.Starting.{if_long, start_found, start_called, start_of, begun_with}
+use Rattle.wap_context.specs.inside.Starting.{if_long, start_found, start_called, start_of}
+use Rattle.wap_context.specs.inside.Starting.{begun_with}
 use Rattle.wap_context.specs.inside.Starting.{started_with, allowed_with, script_with, run_with}
 use Rattle.wap_context.specs.inside.Starting.{not_started_at, failed_at, end_at}
 use Rattle.wap_machine.specs.declared.machine.Outcome.TheVariants.{Fatal as Died}
@@ -104,7 +105,8 @@ module _ (unit : Unit) (string : ℕ) (base : Url) (referer : Option Url) (index
   many_enters given name one false is many starts =
       absurd (starts_not fatal.Arguments index arguments starts)
   many_enters given name one true is many starts =
-      let same = long_starts given arguments one index (list_any (is_too_long string) given) starts in
+      let same = long_starts given arguments one index (list_any (is_too_long string) given) starts
+      in
       let there = external_code unit one (index_named unit name) is in
       record {
         code = there.0;
@@ -175,7 +177,8 @@ module _ (seen : Seen) (old new : Browser) (before shown : List Line) (unit : Un
       → Takes (begun_with unit sets caller url index arguments) seen after old new before shown
       result → Takes Starting seen after old new before shown result
   start_begins after result found string index arguments is limit runs takes =
-      takes_from Starting (begun_with unit sets caller url index arguments) seen after old new before
+      takes_from Starting (begun_with unit sets caller url index arguments) seen after old new
+      before
       shown result
       (λ pages over keys.
       ap (λ (one : Start). started_with unit sets caller url one pages keys old.world)
@@ -212,13 +215,15 @@ module _ (seen : Seen) (old new : Browser) (before shown : List Line) (unit : Un
 
   pub script_denied : (went : Went) (b : Bool)
       → b ≡ may_enter url (entrance_in unit) caller → b ≡ false
-      → Moves (not_started_at fatal.Denied (place_held old) old.world) (λ shelf. IsOver shelf old) old
+      → Moves (not_started_at fatal.Denied (place_held old) old.world) (λ shelf. IsOver shelf old)
+      old
       new before shown (next_in went) → waits_in went ≡ None
       → Takes (script_with unit sets caller url) seen seen old new before shown (Ok went)
   script_denied went b is denied moves none =
       tested seen (Ok went) false (sym denied ∙ is)
       (takes_moves (Allowed false) seen old new before shown went
-      (not_started_at fatal.Denied (place_held old) old.world) (λ shelf. IsOver shelf old) moves none
+      (not_started_at fatal.Denied (place_held old) old.world) (λ shelf. IsOver shelf old) moves
+      none
       (λ judged may over. (
         over,
         not_started_is (shelf_of (unit_pages judged)) old over fatal.Denied,
@@ -267,7 +272,8 @@ module _ (unit : Unit) (sets : Pairs) (caller : Option Url) (url : Url) (index :
         (frames_is function arguments entered.code entered.found entered.many) in
         ap (λ (m : Stack). run_with m base first pages keys mid.world) machine_is
         ∙ ap (λ (f : List Line). run_with
-        (stack old.world.limits (started_at function arguments (code_at function))) base f pages keys
+        (stack old.world.limits (started_at function arguments (code_at function))) base f pages
+        keys
         mid.world) plays.plays.lines
         ∙ ap (λ (w : World). run_with
         (stack old.world.limits (started_at function arguments (code_at function))) base set.lines
@@ -288,7 +294,8 @@ module _ (unit : Unit) (sets : Pairs) (caller : Option Url) (url : Url) (index :
         → Takes (begun_with unit sets caller url index arguments) seen after old new before shown
         result
     begin_takes seen after new before shown result takes =
-        takes_by (begun_with unit sets caller url index arguments) (run_with machine base first) seen
+        takes_by (begun_with unit sets caller url index arguments) (run_with machine base first)
+        seen
         after old mid new before shown result (λ pages over. left_over (shelf_of pages) over)
         (λ pages over keys. begin_is pages keys)
         (omega (
@@ -321,7 +328,8 @@ pub answer_takes : (paused : Paused) (v : Value) (machine : Stack) (base : Url) 
     → Takes (Answers paused v) seen after old new before shown result
 answer_takes paused v machine base first seen after old new before shown result is base_is none
     takes =
-    takes_from (Answers paused v) (run_with machine base first) seen after old new before shown result
+    takes_from (Answers paused v) (run_with machine base first) seen after old new before shown
+    result
     (λ pages over keys.
     ap (λ (m : Stack). run_with m base first pages keys old.world) is
     ∙ ap (λ (b : Url). run_with (stack paused.limits (answered v paused.frames)) b first pages keys

@@ -168,7 +168,8 @@ Tasks one from pages keys world =
 task_behind : (pages : Pages) (seen now : Seen) (old new : Browser) (before shown : List Line)
     (task : Task) (from : Option Url) (went : Went)
     → Goes pages (λ keys. Tasks task from pages keys old.world) seen now new before shown went
-    → Behind pages (λ keys. pursued (Leads task from) pages keys old.world) seen now new before shown
+    → Behind pages (λ keys. pursued (Leads task from) pages keys old.world) seen now new before
+    shown
     went
 task_behind pages seen now old new before shown task from went goes =
     let one = goes_behind pages (λ keys. Tasks task from pages keys old.world) seen now new before
@@ -243,7 +244,8 @@ pub ends_asking : (rule : StepRule) (seen now : Seen) (old b : Browser) (before 
     → Going rule seen now old b before shown went
     → Pursues rule seen now old b before (Ok (Waiting shown dialog paused))
 ends_asking rule seen now old b before shown went dialog paused is so_far =
-    ends rule seen now old b before shown (AsksUser dialog paused) (Waiting shown dialog paused) refl
+    ends rule seen now old b before shown (AsksUser dialog paused) (Waiting shown dialog paused)
+    refl
     (λ pages keys world. refl) (subst (Going rule seen now old b before shown) is so_far)
 
 went_err : (err : RunErr) → ◌≡◌ {A = Result Did RunErr} (Err err) (Err Store)
@@ -364,7 +366,8 @@ then_ok rule seen now after old mid new before shown went (Ok did) first stays s
     {P = λ pages. Behind pages (λ keys. rule pages keys old.world) seen now mid before shown went}
     {Q = λ pages. Ends pages (λ keys. pursued went pages keys mid.world) now after new shown did}
     stays (λ pages behind. behind.over)
-    (λ pages behind ended. ends_after pages (λ keys. rule pages keys old.world) seen now after mid new
+    (λ pages behind ended. ends_after pages (λ keys. rule pages keys old.world) seen now after mid
+    new
     before shown went did behind ended)
     first.follows second
 then_ok rule seen now after old mid new before shown went (Err err) first stays second = tt

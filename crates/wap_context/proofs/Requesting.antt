@@ -513,7 +513,8 @@ module _ (seen : Seen) (old new : Browser) (before : List Line) where
   pub budget_onces : (mid : Browser) (rule : Rule) (shown : List Line) (next : Option Task)
       (went : Went) → next_in went ≡ option_map then_task next → waits_in went ≡ None
       → HasNone old mid
-      → ((pages : Pages) (keys : List Key) → refusing (shelf_of pages) keys refusals.Budget mid.world
+      → ((pages : Pages) (keys : List Key) → refusing (shelf_of pages) keys refusals.Budget
+      mid.world
       ≡ rule pages keys old.world)
       → Moves (refused_at refusals.Budget (place_held mid) mid.world)
       (λ shelf. IsOver shelf mid) mid new before shown (option_map then_task next)

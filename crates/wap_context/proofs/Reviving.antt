@@ -154,52 +154,53 @@ stands_over pages world last (page.Deck deck) site is answer =
     deck_over pages world last deck site is answer
 stands_over pages world last _ site is answer = tt
 
-module _ (parts : ContextParts) (last : Entry) (is : last_entry (saved_world parts) ≡ Some last) where
-  abbrev world : World
-  world = saved_world parts
+module _ (parts : ContextParts) (last : Entry) (is : last_entry (saved_world parts) ≡ Some last)
+  where
+    abbrev world : World
+    world = saved_world parts
 
-  asked_is : asked_for parts ≡ (name_for last.url, false) ∷ []
-  asked_is =
-      ap (λ (o : Option Entry). map (λ entry. (name_for entry.url, false)) (option_to_list o)) is
+    asked_is : asked_for parts ≡ (name_for last.url, false) ∷ []
+    asked_is =
+        ap (λ (o : Option Entry). map (λ entry. (name_for entry.url, false)) (option_to_list o)) is
 
-  revived_is : (answer : Page) → revived_on world answer ≡ revived parts answer
-  revived_is answer =
-      ap (λ (o : Option Entry). option_map_or (λ entry. revived_on world answer) o
-      (Context (bare world))) (sym is)
+    revived_is : (answer : Page) → revived_on world answer ≡ revived parts answer
+    revived_is answer =
+        ap (λ (o : Option Entry). option_map_or (λ entry. revived_on world answer) o
+        (Context (bare world))) (sym is)
 
-  made : (seen : Seen) (it : Revived) → IsReturned world last seen it
-      → ((pages : JudgedPages) → MayBe seen pages → AreSitePages pages) → IsRevived parts seen it
-  made seen it returned site = record {
-    answer = returned.answer;
-    found = λ pages may. subst (λ (o : Option Entry).
-        IfSome o (λ entry. returned.answer ≡ page_of (name_for entry.url) pages)) (sym is)
-        (returned.found pages may);
-    is = returned.is ∙ revived_is returned.answer;
-    over = λ pages may. subst (StandsOver (shelf_of (unit_pages pages))) (sym returned.is)
-        (stands_over pages world last returned.answer (site pages may) is
-        (returned.found pages may));
-  }
+    made : (seen : Seen) (it : Revived) → IsReturned world last seen it
+        → ((pages : JudgedPages) → MayBe seen pages → AreSitePages pages) → IsRevived parts seen it
+    made seen it returned site = record {
+      answer = returned.answer;
+      found = λ pages may. subst (λ (o : Option Entry).
+          IfSome o (λ entry. returned.answer ≡ page_of (name_for entry.url) pages)) (sym is)
+          (returned.found pages may);
+      is = returned.is ∙ revived_is returned.answer;
+      over = λ pages may. subst (StandsOver (shelf_of (unit_pages pages))) (sym returned.is)
+          (stands_over pages world last returned.answer (site pages may) is
+          (returned.found pages may));
+    }
 
-  made_if : (seen : Seen) (result : Result Revived RunErr)
-      → IfOk result (IsReturned world last seen)
-      → OnOk result ((pages : JudgedPages) → MayBe seen pages → AreSitePages pages)
-      → IfOk result (IsRevived parts seen)
-  made_if seen (Ok it) returned site = made seen it returned site
-  made_if seen (Err err) returned site = tt
+    made_if : (seen : Seen) (result : Result Revived RunErr)
+        → IfOk result (IsReturned world last seen)
+        → OnOk result ((pages : JudgedPages) → MayBe seen pages → AreSitePages pages)
+        → IfOk result (IsRevived parts seen)
+    made_if seen (Ok it) returned site = made seen it returned site
+    made_if seen (Err err) returned site = tt
 
-  pub revives_on : (before after : Seen) (result : Result Revived RunErr)
-      → Returns world last before after result → Revives parts before after result
-  revives_on before after result returns = record {
-    is = made_if after result returns.returned returns.site;
-    asks =
-        subst (λ (asked : List Question). OnOk result (Asks asked before after)) (sym asked_is)
-        returns.asks;
-    failed = λ e. (returns.missed e).rose;
-    missed =
-        subst (λ (asked : List Question). result ≡ Err Store → Fails asked before after)
-        (sym asked_is) returns.missed;
-    stays = returns.stays;
-  }
+    pub revives_on : (before after : Seen) (result : Result Revived RunErr)
+        → Returns world last before after result → Revives parts before after result
+    revives_on before after result returns = record {
+      is = made_if after result returns.returned returns.site;
+      asks =
+          subst (λ (asked : List Question). OnOk result (Asks asked before after)) (sym asked_is)
+          returns.asks;
+      failed = λ e. (returns.missed e).rose;
+      missed =
+          subst (λ (asked : List Question). result ≡ Err Store → Fails asked before after)
+          (sym asked_is) returns.missed;
+      stays = returns.stays;
+    }
 
 -- the same of the world that was made of the parts
 pub revives_state : (parts : ContextParts) (state : World) (found : Option Entry) (last : Entry)

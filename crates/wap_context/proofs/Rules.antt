@@ -31,7 +31,8 @@ use Rattle.wap_world.specs.Tasks.{refusing, card_for, in_context}
 use Rattle.wap_world.specs.Tasks.{arrive, arrive_if, try_deck, answered, return, returned}
 use Rattle.wap_context.specs.Browsers.{Browser, IsOver, place_held}
 use Rattle.wap_context.specs.inside.AtHand.{leave_and_set_at, refused_at, entered_at}
-use Rattle.wap_context.specs.inside.AtHand.{enter_at, arrive_at, arrive_if_at, try_deck_at, return_at}
+use Rattle.wap_context.specs.inside.AtHand.{enter_at, arrive_at, arrive_if_at, try_deck_at}
+use Rattle.wap_context.specs.inside.AtHand.{return_at}
 use Rattle.wap_context.specs.inside.AtHand.{answered_at, returned_at}
 use Rattle.wap_world.proofs.Entries.{last_pushed, earlier_url}
 use Rattle.wap_context.proofs.Places.{held_now}
@@ -122,7 +123,8 @@ module _ (shelf : Shelf) (browser : Browser) (over : IsOver shelf browser) where
 
   pub return_on : (sets : Pairs) (earlier : Entry) (deck : Deck)
       → deck_at shelf earlier.url ≡ Some deck → (keys : List Key)
-      → return shelf keys sets earlier w deck ≡ once_before keys (return_at sets earlier place w deck)
+      → return shelf keys sets earlier w deck
+      ≡ once_before keys (return_at sets earlier place w deck)
   return_on sets earlier deck has keys =
       return_leaves shelf sets earlier w deck keys
       ∙ ap (once_before keys) (return_is sets earlier deck has)

@@ -156,14 +156,16 @@ module _ (machine : Stack) (first : List Line) (seen after : Seen) (old : Browse
     at_hand : IsAtHand pages old.deck (last_entry old.world)
     at_hand = held_now (shelf_of pages) old over
 
-    is_kin : ComeToSame (Shows pages old.deck (counted_in seen) (last_entry old.world)) NoStep NoView
+    is_kin : ComeToSame (Shows pages old.deck (counted_in seen) (last_entry old.world)) NoStep
+        NoView
         end seen_end
         → IsKin (Shows pages old.deck (counted_in seen) (last_entry old.world)) end seen_end
     is_kin (inl kin) = kin
     is_kin (inr lost) = absurd (lost.0)
 
     both_ends : IsKin (Shows pages old.deck (counted_in seen) (last_entry old.world)) end seen_end
-    both_ends = is_kin ((views_run_alike pages old.deck (counted_in seen) (last_entry old.world) at_hand
+    both_ends = is_kin ((views_run_alike pages old.deck (counted_in seen) (last_entry old.world)
+        at_hand
         machine.limits).finishing machine.frames old.world.turns before view
         (record { is = refl; last = refl }))
 
@@ -269,7 +271,8 @@ module _ (machine : Stack) (first : List Line) (seen after : Seen) (old : Browse
 
 -- ---- what follows its end
 
-module _ (machine : Stack) (base : Url) (first : List Line) (seen after : Seen) (old mid new : Browser)
+module _ (machine : Stack) (base : Url) (first : List Line) (seen after : Seen)
+    (old mid new : Browser)
     (before line shown : List Line) (outcome : Outcome) (more : List Line) (went : Went)
     (added : line ≡ before ++ more)
     (moves : Moves (end_at base outcome (place_held mid) mid.world) (λ shelf. IsOver shelf mid) mid
@@ -278,7 +281,8 @@ module _ (machine : Stack) (base : Url) (first : List Line) (seen after : Seen) 
   where
     goes_to_end : (pages : Pages)
         → CameTo pages (run_of machine first pages old.world) seen after mid outcome more
-        → Goes pages (λ keys. run_with machine base first pages keys old.world) seen after new before
+        → Goes pages (λ keys. run_with machine base first pages keys old.world) seen after new
+        before
         shown went
     goes_to_end pages came =
         let shelf = shelf_of pages in
@@ -288,7 +292,8 @@ module _ (machine : Stack) (base : Url) (first : List Line) (seen after : Seen) 
         let did = after_step step (once_before step.keys tail) in
         let tail_is : end_at base outcome (place_now shelf step.world) step.world ≡ tail =
         ap (λ (w : World). end_at base outcome (place_now shelf w) w) (sym came.world)
-        ∙ ap (λ (p : Option Place). end_at base outcome p mid.world) (held_now shelf mid came.over) in
+        ∙ ap (λ (p : Option Place). end_at base outcome p mid.world) (held_now shelf mid came.over)
+        in
         let half : half_by machine.limits shelf base end.outcome end.turns end.state
         ≡ record { once = did; waiting = waits_by base outcome } =
         ap (λ (o : Meant). half_by machine.limits shelf base o end.turns end.state)
@@ -322,7 +327,8 @@ module _ (machine : Stack) (base : Url) (first : List Line) (seen after : Seen) 
 pub ended_ok : (machine : Stack) (base : Url) (first : List Line) (seen after : Seen)
     (old mid new : Browser) (before line shown : List Line) (outcome : Outcome) (more : List Line)
     (went : Went) → line ≡ before ++ more
-    → Moves (end_at base outcome (place_held mid) mid.world) (λ shelf. IsOver shelf mid) mid new line
+    → Moves (end_at base outcome (place_held mid) mid.world) (λ shelf. IsOver shelf mid) mid new
+    line
     shown (next_in went) → waits_in went ≡ waits_by base outcome
     → RunsTo machine first seen after old mid (Ok (outcome, more))
     → Takes (run_with machine base first) seen after old new before shown (Ok went)

@@ -21,7 +21,8 @@ use Rattle.wap_world.specs.World.{World}
 use Rattle.wap_world.specs.Steps.{quiet, after_step}
 use Rattle.wap_world.specs.Setting.{set_variables}
 use Rattle.wap_world.specs.Requests.{test, test_of}
-use Rattle.wap_world.specs.Starting.{is_too_long, not_started, prepared, ended_script, start_external}
+use Rattle.wap_world.specs.Starting.{is_too_long, not_started, prepared, ended_script}
+use Rattle.wap_world.specs.Starting.{start_external}
 use Rattle.wap_world.specs.Starting.{external_started, start_call, start_if}
 use Rattle.wap_world.specs.Tasks.{answered}
 use Rattle.wap_world.specs.scripting.Units.{entrance_in, external_in}
@@ -62,7 +63,8 @@ module _ (judged : JudgedPages) (unit : Unit) (name : List ℕ)
         (sym (unit_is name judged unit is) ∙ ap (unit_under pages) named)
 
     long_is : (index : ℕ) (arguments : List Value) (b : Bool)
-        → started_with unit sets caller url (cond b (Not fatal.TooLong) (Runs index arguments)) pages
+        → started_with unit sets caller url (cond b (Not fatal.TooLong) (Runs index arguments))
+        pages
         keys w
         ≡ cond b (not_started (shelf_of pages) keys fatal.TooLong w)
         (external_started (site_of pages) keys sets caller url w index arguments)

@@ -13,7 +13,8 @@ use Rattle.wap_world.specs.declared.site.page.Page.{Page}
 use Rattle.wap_world.specs.site.Pages.{Pages as JudgedPages, page_of, AreSitePages}
 use Rattle.wap_world.specs.site.Asking.{Seen, Stays, Asks, Fails}
 use Rattle.wap_world.specs.site.Misses.{Asked as Question}
-use Rattle.wap_world.proofs.SiteLemmas.Asking.{Asks-nil, Asks-then, Stays-same, Stays-then, Stays-may}
+use Rattle.wap_world.proofs.SiteLemmas.Asking.{Asks-nil, Asks-then, Stays-same, Stays-then}
+use Rattle.wap_world.proofs.SiteLemmas.Asking.{Stays-may}
 use Rattle.wap_world.specs.Shelves.{Shelf}
 use Rattle.wap_world.specs.World.{World}
 use Rattle.wap_world.specs.Steps.{Step, Once, Next, then_task, after_step}
@@ -92,7 +93,8 @@ goes_moves pages rule seen old new before shown went once IsSuch moves none such
   on = λ keys. is keys ∙ ap (λ (o : Option Waits). once_by pages once o keys) (sym none);
 }
 
-no_more : (old new : Browser) → new.world.turns ≡ old.world.turns → new.world.turns ≤ old.world.turns
+no_more : (old new : Browser) → new.world.turns ≡ old.world.turns
+    → new.world.turns ≤ old.world.turns
 no_more old new same = omega (arith, same)
 
 pub takes_moves : (rule : Rule) (seen : Seen) (old new : Browser) (before shown : List Line)
@@ -105,7 +107,8 @@ takes_moves rule seen old new before shown went once IsSuch moves none is = reco
   follows = λ judged may over.
       let pages = unit_pages judged in
       let so = is judged may over in
-      goes_moves pages (λ keys. rule pages keys old.world) seen old new before shown went once IsSuch
+      goes_moves pages (λ keys. rule pages keys old.world) seen old new before shown went once
+      IsSuch
       moves none so.0 so.1;
   steady = refl;
   missed = λ failed. absurd (cc);

@@ -90,7 +90,8 @@ gone_on paused ran pages keys world = onward (act (site_of pages))
 -- it goes on with an answer
 abbrev pub answer : Paused → Value → Pages → List Key → World → Step
 answer paused v = gone_on paused
-    (λ pages keys world. ran_of (resumed (uncounted paused.limits (keyed_host pages)) paused.frames v
+    (λ pages keys world. ran_of (resumed (uncounted paused.limits (keyed_host pages)) paused.frames
+    v
     world.turns (quiet keys (still (inside world)))))
 
 -- it is stopped

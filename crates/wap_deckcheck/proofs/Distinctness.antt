@@ -56,7 +56,8 @@ unfolding IsDistinct
 last_free [] last distinct = refl
 last_free (text ∷ texts) last distinct =
     ap (λ b. b || list_any (is_same_text last) texts)
-    (flips last text ∙ each_end (λ other. is_same_text text other ≡ false) texts last distinct.0)
+    (nat_list_eq_equiv.symm last text
+    ∙ each_end (λ other. is_same_text text other ≡ false) texts last distinct.0)
     ∙ last_free texts last distinct.1
 
 pub taken_no_more : (texts : List (List ℕ)) (last : Option (List ℕ))

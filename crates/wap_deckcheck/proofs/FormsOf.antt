@@ -26,7 +26,8 @@ other_tags tag a b c d e f g h = refl
 
 -- values have their forms where those of its element's forms do
 pub has_forms_by : (node : Node)
-    → has_forms node ≡ list_all (λ (form : AttrName × Form). all_have form.0 form.1 node) (forms_of node.tag)
+    → has_forms node ≡ list_all (λ (form : AttrName × Form). all_have form.0 form.1 node)
+    (forms_of node.tag)
 has_forms_by node = among forms where
   among : (some : List (Tag × AttrName × Form))
       → list_all (λ form. not (is_same_tag node.tag form.0) || all_have form.1 form.2 node) some
@@ -40,7 +41,8 @@ has_forms_by node = among forms where
         (map (λ form. (form.1, form.2)) (filter (λ form. is_same_tag node.tag form.0) some))
         → ((not same || all_have form.1 form.2 node)
         && list_all (λ form. not (is_same_tag node.tag form.0) || all_have form.1 form.2 node) some)
-        ≡ list_all (λ (form : AttrName × Form). all_have form.0 form.1 node) (map (λ form. (form.1, form.2))
+        ≡ list_all (λ (form : AttrName × Form). all_have form.0 form.1 node)
+        (map (λ form. (form.1, form.2))
         (cond same (form ∷ filter (λ form. is_same_tag node.tag form.0) some)
         (filter (λ form. is_same_tag node.tag form.0) some)))
     by_tag true e = ap (λ (b : Bool). all_have form.1 form.2 node && b) e

@@ -69,8 +69,8 @@ abbrev pub no_texts : Bool
 no_texts = false
 
 -- an element and its rule: the groups of elements that may stand in it, whether in this order, and
--- whether texts may; groups of which one element at most may; elements of which one at least has to;
--- and the attributes that it has to have
+-- whether texts may; groups of which one element at most may; elements of which one at least has
+-- to; and the attributes that it has to have
 abbrev pub rule : Tag → List (List Tag) → Bool → Bool → List (List Tag) → List Tag → List AttrName
     → Tag × Rule
 rule element groups in_order text once needs attributes = (

@@ -57,7 +57,8 @@ has_put_more prefix rest a b c count put wrote some = record {
   taken =
       Appends-then a.taken b.taken c.taken prefix (take count rest) put.taken wrote.bytes;
   untouched = λ none.
-      let empty : length (take count rest) ≡ 0 = ap length (second_nil prefix (take count rest) none) in
+      let empty : length (take count rest)
+      ≡ 0 = ap length (second_nil prefix (take count rest) none) in
       absurd (some (omega (arith, empty, length-take count rest, wrote.within)));
   faults = wrote.steady (omega (arith, some)) ∙ put.faults;
 }
@@ -178,7 +179,8 @@ module _ {X : Type 0} (f : X → List ℕ) (xs : List X) (i : ℕ) (d : X) (with
       ∙ ap (flat_map f) (take-append-drop (i + 1) xs)
 
 -- the texts of the first things of a list were put, and then that of the next
-pub puts_next : {X A : Type 0} {done : A} (f : X → List ℕ) (xs : List X) (i : ℕ) (d : X) → i < length xs
+pub puts_next : {X A : Type 0} {done : A} (f : X → List ℕ) (xs : List X) (i : ℕ) (d : X)
+    → i < length xs
     → (a b c : SinkSeen) → HasPut (flat_map f (take i xs)) a b
     → Puts (f (get_or xs i d)) b c (Ok done) → HasPut (flat_map f (take (i + 1) xs)) a c
 puts_next f xs i d within a b c put next = record {
@@ -194,7 +196,8 @@ puts_next f xs i d within a b c put next = record {
 }
 
 -- or that of the next was not put whole
-pub puts_next_fails : {X A B : Type 0} {fault : Failed} (f : X → List ℕ) (xs : List X) (i : ℕ) (d : X)
+pub puts_next_fails : {X A B : Type 0} {fault : Failed} (f : X → List ℕ) (xs : List X) (i : ℕ)
+    (d : X)
     → i < length xs → (a b c : SinkSeen) → HasPut (flat_map f (take i xs)) a b
     → Puts {A = A} (f (get_or xs i d)) b c (Err fault) → (result : Result B Failed)
     → IsErr result → Puts (flat_map f xs) a c result

@@ -27,7 +27,8 @@ module _ (a b c : SinkSeen) (p q r : State) (x y : List ℕ) (first : Gathers a 
         earlier.0,
         record {
           moved = one.moved ++ two.moved;
-          written = Appends-then a.taken b.taken c.taken one.moved two.moved one.written two.written;
+          written = Appends-then a.taken b.taken c.taken one.moved two.moved one.written
+              two.written;
           same =
               sym (append_assoc p.bytes x y) ∙ ap (λ (l : List ℕ). l ++ y) one.same
               ∙ append_assoc one.moved q.bytes y
@@ -60,7 +61,8 @@ module _ (a b c : SinkSeen) (p q r : State) (x y : List ℕ) (first : Gathers a 
             sym (append_assoc one.moved q.bytes y) ∙ ap (λ (l : List ℕ). l ++ y) (sym one.same)
             ∙ append_assoc p.bytes x y in (
               subst (AppendsPrefix a.taken c.taken) all
-                  (prefix_then a.taken b.taken c.taken one.moved (q.bytes ++ y) one.written broken.0),
+                  (prefix_then a.taken b.taken c.taken one.moved (q.bytes ++ y) one.written
+                  broken.0),
               omega arith,
             )
       ]

@@ -28,7 +28,8 @@ use Rattle.wap_lex.specs.Strings.{is_simple, IsEscape, AreItems, IsString, quote
 use Rattle.wap_grammar.specs.Strings.{named_by, is_octal, single, octal, hexadecimal, unicode}
 use Rattle.wap_grammar.specs.Strings.{IsWhole, StandFor, none, plain, inside_quotes, StandsForText}
 use Rattle.wap_grammar.specs.Unescaping.{unescaped, string_of}
-use Rattle.wap_grammar.proofs.Escapes.{octal_digit, no_backslash, parts, reads, read_before, whole_other}
+use Rattle.wap_grammar.proofs.Escapes.{octal_digit, no_backslash, parts, reads, read_before}
+use Rattle.wap_grammar.proofs.Escapes.{whole_other}
 use Rattle.wap_grammar.proofs.Escapes.{one_digit, scalars_after, text_scalars}
 
 -- ---- lists and tests
@@ -309,7 +310,8 @@ module _ (quote : ℕ) where
         (subst (AreItems quote) (sym left.2) found.4))
     by_test false so stands =
         subst (StandFor (c ∷ cs)) (rw so refl)
-        (plain c cs (unescaped cs) so (stands cs (omega (arith, few)) (after_character c cs so are)))
+        (plain c cs (unescaped cs) so (stands cs (omega (arith, few))
+        (after_character c cs so are)))
 
 -- ---- a string in a source
 

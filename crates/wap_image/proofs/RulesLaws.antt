@@ -187,7 +187,8 @@ vars_are bytes variables is =
     record {
       ordered = sorted_from_all_adjacent nat_list_cmp_total (keys_of variables) [] (λ k lt.
           let next : suc k ≡ k + 1 = omega arith in
-          subst (λ (n : ℕ). text_cmp (get_or (keys_of variables) k []) (get_or (keys_of variables) n [])
+          subst (λ (n : ℕ). text_cmp (get_or (keys_of variables) k [])
+          (get_or (keys_of variables) n [])
           ≡ Less) next (adjacent [] variables is.1.back row k (omega (arith, lt))));
       named = all_named [] variables is.1.back row;
       few = subst (λ (n : ℕ). n ≤ 1024) (sym is.1.second.1) (leb-true _ _ is.1.first.1);

@@ -438,7 +438,7 @@ judged_word line (Some w) found is_text =
 
 -- bytes that a test finds are no text are none
 pub not_utf8 : (bytes : List ℕ) → is_utf8 bytes ≡ false → IsUtf8 bytes → ⊥
-not_utf8 bytes none text = both_ways (is_utf8 bytes) none (is_utf8-from_IsUtf8 bytes text)
+not_utf8 bytes none utf8 = both_ways (is_utf8 bytes) none (is_utf8-from_IsUtf8 bytes utf8)
 
 judged_text : (line : List ℕ) (b : Bool) → is_utf8 line ≡ b → length line ≤ LINE_LIMIT
     → Judged line (key_at line)

@@ -93,7 +93,8 @@ digit_is c e =
     ∙ cond-true (is_ascii_digit c) digit (cond (eqb c 46) point (from_quote c)) e
 
 quote_others : (c : ℕ) → is_quote c ≡ true
-    → (is_white c ≡ false) × (begins_name c ≡ false) × (is_ascii_digit c ≡ false) × (eqb c 46 ≡ false)
+    → (is_white c ≡ false) × (begins_name c ≡ false) × (is_ascii_digit c ≡ false)
+    × (eqb c 46 ≡ false)
 quote_others c e = (
   grind (arith, nat_tests),
   grind (arith, nat_tests),
@@ -165,7 +166,8 @@ not_all : (digits : List ℕ) (c : ℕ) (rest : List ℕ) → is_ascii_digit c �
     → list_all is_ascii_digit (digits ++ c ∷ rest) ≡ false
 not_all [] c rest differs = and_left (is_ascii_digit c) (list_all is_ascii_digit rest) differs
 not_all (d ∷ digits) c rest differs =
-    and_right (is_ascii_digit d) (list_all is_ascii_digit (digits ++ c ∷ rest)) (not_all digits c rest differs)
+    and_right (is_ascii_digit d) (list_all is_ascii_digit (digits ++ c ∷ rest))
+    (not_all digits c rest differs)
 
 digit_no_x : (c : ℕ) → is_ascii_digit c ≡ true → is_x c ≡ false
 digit_no_x c e = grind (arith, nat_tests)

@@ -15,7 +15,8 @@ use Rattle.wap_lex.specs.Numbers.{AreDigits, IsInteger, decimal, octal, hexadeci
 use Rattle.wap_lex.specs.Numbers.{IsExponent, plain, signed, IsFloat, pointed, scaled}
 use Rattle.wap_lex.specs.Numbers.{both, is_x, is_e, is_sign}
 use Rattle.wap_lex.specs.Calculation.{more_by, hexadecimal_len, octal_or, integer_len, signed_len}
-use Rattle.wap_lex.specs.Calculation.{exponent_len, fraction_len, scaled_len, float_behind, float_len}
+use Rattle.wap_lex.specs.Calculation.{exponent_len, fraction_len, scaled_len, float_behind}
+use Rattle.wap_lex.specs.Calculation.{float_len}
 use Rattle.wap_lex.proofs.Runs.{run_all, run_over, run_length, run_first, run_more, run_until}
 use Rattle.std.proofs.lemmas.List.Sums.{prefix_len-le-length}
 use Rattle.wap_lex.proofs.WordReach.{Reaches, test_within}
@@ -95,7 +96,8 @@ integer_first first rest false e some =
     let digit = run_first is_ascii_digit first rest (subst (λ (n : ℕ). 0 < n) kept some) in
     let len = kept ∙ run_more is_ascii_digit first rest digit in
     subst (λ (n : ℕ). IsInteger (take n (first ∷ rest))) (sym len)
-    (decimal first (take (prefix_len is_ascii_digit rest) rest) digit e (run_all is_ascii_digit rest))
+    (decimal first (take (prefix_len is_ascii_digit rest) rest) digit e
+    (run_all is_ascii_digit rest))
 
 integer_takes : (bytes : List ℕ) → 0 < integer_len bytes
     → IsInteger (take (integer_len bytes) bytes)
@@ -135,8 +137,13 @@ integer_most text more (decimal first digits digit other all) =
     let kept =
     cond-false (eqb first 48) (octal_or (hexadecimal_len (digits ++ more)) (digits ++ more))
     (prefix_len is_ascii_digit (first ∷ (digits ++ more))) other in
-    omega
-    (arith, kept, run_more is_ascii_digit first (digits ++ more) digit, run_over is_ascii_digit digits more all)
+    omega (
+      arith,
+      kept,
+      run_more is_ascii_digit first (digits ++ more) digit,
+      run_over is_ascii_digit
+          digits more all,
+    )
 integer_most text more (octal digits all) =
     octal_most digits more (eqb (hexadecimal_len (digits ++ more)) 0) refl all
 integer_most text more (hexadecimal x digits is some all) =
@@ -195,18 +202,21 @@ exponent_takes (e ∷ rest) some =
           → is_e e ≡ true → IsExponent (e ∷ take (signed_len (c ∷ rest')) (c ∷ rest'))
       by_sign c rest' true s some' is =
           let run = prefix_len is_ascii_digit rest' in
-          let kept' = cond-true (is_sign c) (more_by 1 run) (prefix_len is_ascii_digit (c ∷ rest')) s in
+          let kept' = cond-true (is_sign c) (more_by 1 run) (prefix_len is_ascii_digit (c ∷ rest'))
+          s in
           let from' = more_from 1 run (subst (λ (n : ℕ). 0 < n) kept' some') in
           let len' : signed_len (c ∷ rest') ≡ suc run = omega (arith, kept', from'.1) in
           subst (λ (n : ℕ). IsExponent (e ∷ take n (c ∷ rest'))) (sym len') (signed e c (take run
-          rest') is s (omega (arith, run_length is_ascii_digit rest', from'.0)) (run_all is_ascii_digit rest'))
+          rest') is s (omega (arith, run_length is_ascii_digit rest', from'.0))
+          (run_all is_ascii_digit rest'))
       by_sign c rest' false s some' is =
           let kept' =
           cond-false (is_sign c) (more_by 1 (prefix_len is_ascii_digit rest'))
           (prefix_len is_ascii_digit (c ∷ rest')) s in
           subst (λ (n : ℕ). IsExponent (e ∷ take n (c ∷ rest'))) (sym kept')
           (plain e (take (prefix_len is_ascii_digit (c ∷ rest')) (c ∷ rest')) is (omega
-          (arith, run_length is_ascii_digit (c ∷ rest'), kept', some')) (run_all is_ascii_digit (c ∷ rest')))
+          (arith, run_length is_ascii_digit (c ∷ rest'), kept', some'))
+          (run_all is_ascii_digit (c ∷ rest')))
 
       signed_takes : (bytes : List ℕ) → 0 < signed_len bytes
           → IsExponent (e ∷ take (signed_len bytes) bytes)
@@ -246,7 +256,8 @@ exponent_most text more (signed e sign digits is sign_is some all) =
     let run = prefix_len is_ascii_digit (digits ++ more) in
     let over = run_over is_ascii_digit digits more all in
     let inner =
-    cond-true (is_sign sign) (more_by 1 run) (prefix_len is_ascii_digit (sign ∷ (digits ++ more))) sign_is
+    cond-true (is_sign sign) (more_by 1 run) (prefix_len is_ascii_digit (sign ∷ (digits ++ more)))
+    sign_is
     ∙ more_some 1 run (omega (arith, over, some)) in
     let len =
     cond-true (is_e e) (more_by 1 (signed_len (sign ∷ (digits ++ more)))) 0 is
@@ -262,15 +273,18 @@ exponent_first text (signed e sign digits is sign_is some all) = (e, sign ∷ di
 
 float_pointed : (whole rest : List ℕ) (b : Bool) → AreDigits whole
     → 0 < length whole + prefix_len is_ascii_digit rest
-    → nat_lt 0 (exponent_len (drop (prefix_len is_ascii_digit rest) rest)) ≡ b → IsFloat (whole ++ 46
-    ∷ take (prefix_len is_ascii_digit rest + exponent_len (drop (prefix_len is_ascii_digit rest) rest)) rest)
+    → nat_lt 0 (exponent_len (drop (prefix_len is_ascii_digit rest) rest)) ≡ b
+    → IsFloat (whole ++ 46
+    ∷ take (prefix_len is_ascii_digit rest + exponent_len
+    (drop (prefix_len is_ascii_digit rest) rest)) rest)
 float_pointed whole rest true all some e =
     let f = prefix_len is_ascii_digit rest in
     let scale = exponent_len (drop f rest) in
     let text = take-add f scale rest in
     subst (λ (l : List ℕ). IsFloat (whole ++ 46 ∷ l)) (sym text)
     (both whole (take f rest) (take scale (drop f rest)) all (run_all is_ascii_digit rest) (omega
-    (arith, some, run_length is_ascii_digit rest)) (exponent_takes (drop f rest) (ltb-true 0 scale e)))
+    (arith, some, run_length is_ascii_digit rest))
+    (exponent_takes (drop f rest) (ltb-true 0 scale e)))
 float_pointed whole rest false all some e =
     let f = prefix_len is_ascii_digit rest in
     let none : f + exponent_len (drop f rest) ≡ f =
@@ -353,7 +367,8 @@ float_len_at whole c rest all other =
 
 fraction_most : (whole : ℕ) (rest : List ℕ) → 0 < whole + prefix_len is_ascii_digit rest
     → fraction_len whole rest
-    ≡ whole + 1 + prefix_len is_ascii_digit rest + exponent_len (drop (prefix_len is_ascii_digit rest) rest)
+    ≡ whole + 1 + prefix_len is_ascii_digit rest + exponent_len
+    (drop (prefix_len is_ascii_digit rest) rest)
 fraction_most whole rest some =
     let f = prefix_len is_ascii_digit rest in
     cond-false (eqb (whole + f) 0) 0 (whole + 1 + f + exponent_len (drop f rest))
@@ -402,7 +417,8 @@ float_most text more (both whole fraction exponent all parts some fits) =
     let len = ap float_len regroup ∙ pointed_len whole rest all in
     let run =
     ap (λ (l : List ℕ). prefix_len is_ascii_digit (fraction ++ l)) begins
-    ∙ run_until is_ascii_digit fraction first.0 (first.1 ++ more) parts (digit_no_e first.0 first.2) in
+    ∙ run_until is_ascii_digit fraction first.0 (first.1 ++ more) parts (digit_no_e first.0 first.2)
+    in
     let far = fraction_most (length whole) rest (omega (arith, run, some)) in
     let behind =
     ap (λ (n : ℕ). exponent_len (drop n rest)) run
@@ -431,8 +447,10 @@ signed_within : (bytes : List ℕ) → signed_len bytes ≤ length bytes
 signed_within [] = omega arith
 signed_within (c ∷ rest) =
     let run = prefix_len is_ascii_digit rest in
-    test_within (is_sign c) (more_by 1 run) (prefix_len is_ascii_digit (c ∷ rest)) (suc (length rest))
-    (more_within 1 run (suc (length rest)) (omega (arith, prefix_len-le-length is_ascii_digit rest)))
+    test_within (is_sign c) (more_by 1 run) (prefix_len is_ascii_digit (c ∷ rest))
+    (suc (length rest))
+    (more_within 1 run (suc (length rest))
+    (omega (arith, prefix_len-le-length is_ascii_digit rest)))
     (prefix_len-le-length is_ascii_digit (c ∷ rest))
 
 exponent_within : (bytes : List ℕ) → exponent_len bytes ≤ length bytes
@@ -450,8 +468,13 @@ behind_within whole (c ∷ rest) =
     test_within (eqb c 46) (fraction_len whole rest) (scaled_len whole e)
     (whole + suc (length rest))
     (test_within (eqb (whole + f) 0) 0 (whole + 1 + f + scale) (whole + suc (length rest))
-    (omega arith) (omega
-    (arith, exponent_within (drop f rest), length-drop f rest, prefix_len-le-length is_ascii_digit rest)))
+    (omega arith) (omega (
+      arith,
+      exponent_within (drop f rest),
+      length-drop f rest,
+      prefix_len-le-length is_ascii_digit
+          rest,
+    )))
     (test_within (eqb whole 0 || eqb e 0) 0 (whole + e) (whole + suc (length rest)) (omega arith)
     (omega (arith, exponent_within (c ∷ rest))))
 

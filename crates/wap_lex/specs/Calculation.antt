@@ -82,7 +82,8 @@ float_behind whole (c ∷ rest) =
 
 -- of a float
 abbrev pub float_len : List ℕ → ℕ
-float_len bytes = let whole = prefix_len is_ascii_digit bytes in float_behind whole (drop whole bytes)
+float_len bytes = let whole = prefix_len is_ascii_digit bytes in
+    float_behind whole (drop whole bytes)
 
 -- of the digits of an escape by `u`, and its `u`
 abbrev pub unicode_len : List ℕ → ℕ

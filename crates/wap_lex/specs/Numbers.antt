@@ -25,7 +25,8 @@ is_sign c = (c == plus_sign) || (c == hyphen)
 
 -- decimal, the first digit other than 0; octal, after a 0; or hexadecimal, after 0x
 pub data IsInteger : List ℕ → Type 0 where
-  decimal : (first : ℕ) (digits : List ℕ) → is_ascii_digit first ≡ true → (first == digit_zero) ≡ false →
+  decimal : (first : ℕ) (digits : List ℕ) → is_ascii_digit first ≡ true → (first == digit_zero)
+      ≡ false →
       AreDigits digits →
       IsInteger (first ∷ digits)
   octal : (digits : List ℕ) → list_all is_octal_digit digits ≡ true →

@@ -15,12 +15,13 @@ abbrev pub cut_at : (List ℕ → List (List ℕ)) → ℕ → List ℕ → Opti
 cut_at pieces count s None = s ∷ []
 cut_at pieces count s (Some k) = take k s ∷ pieces (drop (k + count) s)
 
--- the pieces before, between and after the occurrences of a text that isn't empty: each is the first
--- one after the end of the one before. So many are cut at most.
+-- the pieces before, between and after the occurrences of a text that isn't empty: each is the
+-- first one after the end of the one before. So many are cut at most.
 abbrev pub pieces : ℕ → List ℕ → List ℕ → List (List ℕ)
 pieces zero t s = s ∷ []
 pieces (suc most) t s = cut_at (pieces most t) (length t) s (place_of t s)
 
--- a text with `new` in place of each occurrence of `old`, of which there are no more than characters
+-- a text with `new` in place of each occurrence of `old`, of which there are no more than
+-- characters
 abbrev pub replaced : List ℕ → List ℕ → List ℕ → List ℕ
 replaced old new s = join_by (λ piece. piece) new (pieces (length s) old s)

@@ -50,7 +50,8 @@ use Rattle.wap_verify.specs.declared.step.Way.{Way}
 use Rattle.wap_verify.specs.declared.fault.VerifyFault.{VerifyFault}
 use Rattle.wap_verify.specs.declared.fault.VerifyFault.TheVariants.{LoneShort}
 use Rattle.wap_verify.specs.CodePlaces.{values_taken, operand_fault, step_of, pair}
-use Rattle.wap_verify.specs.CodePlaces.{is_conditional_forward, jump_read, jump_by, pair_at, is_pair}
+use Rattle.wap_verify.specs.CodePlaces.{is_conditional_forward, jump_read, jump_by, pair_at}
+use Rattle.wap_verify.specs.CodePlaces.{is_pair}
 use Rattle.wap_verify.specs.CodePlaces.{fine_at, checked, instr_read, step_by, step_at}
 use Rattle.wap_verify.specs.Paths.{HasWay, Reaches}
 use Rattle.wap_verify.specs.Sound.{IsVerified}
@@ -69,7 +70,11 @@ use Rattle.wap_execution.specs.declared.action.Action.TheVariants.{Binary, Pop, 
 use Rattle.wap_execution.specs.declared.action.Action.TheVariants.{Pass}
 use Rattle.wap_execution.specs.Actions.{action_of}
 use Rattle.wap_execution.specs.Frames.{Function, Frame, code_at, code_of, constant_of, constant_at}
-use Rattle.wap_execution.specs.Effects.{Called, local, library, external, Effect, onward, back, calls, with_top, with_kept, with_arguments, with_count, jumps_at, stored, effect_of, is_decided, decided, is_jump_unless, pair_with, pair_by, effect_read, effect_with, effect_by, effect_at}
+use Rattle.wap_execution.specs.Effects.{Called, local, library, external, Effect, onward, back}
+use Rattle.wap_execution.specs.Effects.{calls, with_top, with_kept, with_arguments, with_count}
+use Rattle.wap_execution.specs.Effects.{jumps_at, stored, effect_of, is_decided, decided}
+use Rattle.wap_execution.specs.Effects.{is_jump_unless, pair_with, pair_by, effect_read}
+use Rattle.wap_execution.specs.Effects.{effect_with, effect_by, effect_at}
 use Rattle.wap_execution.specs.Running.{at_place}
 use Rattle.wap_machine.specs.declared.next.Next.{Next}
 use Rattle.wap_machine.specs.declared.next.Next.TheVariants.{Onward, Back, Call}

@@ -88,7 +88,8 @@ module _ {S : Type 0} (limits : Limits) (meaning : Hosting S) where
             (sym (nothing_is step (Ends (Fatal why)) goes))
 
     -- a turn was wanted, and there is none
-    pub turn_wanting : (frames : List Frame) (machine : Stack) → HasStepped limits frames (Turn machine)
+    pub turn_wanting : (frames : List Frame) (machine : Stack)
+        → HasStepped limits frames (Turn machine)
         → turns ≡ 0 → finished set frames turns state ≡ ended (fatal Budget) 0 state
     turn_wanting frames machine (at_end frame outer are place goes) none = absurd (cc goes)
     turn_wanting frames machine (done frame new outer what are stacked within acts goes) none =

@@ -233,10 +233,12 @@ module _ (bytes : List ℕ) where
       ap (λ (f : DocFault). fault.Document f)
       (err_same {A = Document} why why'
       (sym (document_fails bytes why refused) ∙ document_fails bytes why' refused'))
-  deck_faults _ _ (RefusesCheck.document why refused) (RefusesCheck.deck document why' spells first) =
+  deck_faults _ _ (RefusesCheck.document why refused)
+      (RefusesCheck.deck document why' spells first) =
       absurd (cc (sym (document_fails bytes why refused)
       ∙ document_again bytes document spells))
-  deck_faults _ _ (RefusesCheck.deck document why spells first) (RefusesCheck.document why' refused) =
+  deck_faults _ _ (RefusesCheck.deck document why spells first)
+      (RefusesCheck.document why' refused) =
       absurd (cc (sym (document_fails bytes why' refused)
       ∙ document_again bytes document spells))
   deck_faults _ _ (RefusesCheck.deck document why spells first)
@@ -263,7 +265,8 @@ module _ (bytes : List ℕ) where
       let same =
       ok_same {E = UnitFault} unit' unit
       (sym (unit_again bytes unit' spells') ∙ unit_again bytes unit spells) in
-      of_verify why why' (alike unit why why' found (subst (λ (u : Unit). IsFault u why') same found'))
+      of_verify why why' (alike unit why why' found
+      (subst (λ (u : Unit). IsFault u why') same found'))
 
   text_faults : (one other : PageFault) → RefusesText bytes one → RefusesText bytes other
       → one ≡ other
@@ -399,7 +402,11 @@ module _ (name bytes : List ℕ) where
   text_of : kind_of name ≡ kind.Words → (one : Page) → IsTextIn bytes one → (text : List ℕ)
       → one ≡ page.Words text → IsTextPage name bytes text
   text_of is one of text so =
-      record { kind = is; spells = of.spells ∙ ap (λ (t : List ℕ). Some t) (inner (sym of.is ∙ so)) }
+      record {
+        kind = is;
+        spells = of.spells
+            ∙ ap (λ (t : List ℕ). Some t) (inner (sym of.is ∙ so));
+      }
     where
       inner : page.Words of.text ≡ page.Words text → of.text ≡ text
       inner e = cc

@@ -192,7 +192,7 @@ module _ {done : List Key} {before mid after : Seen} {old now : State} {lines : 
     split = sym (append_assoc done (one ∷ []) rest);
     missed = asked_more one (λ asked. Fails asked before after)
         (λ asked. Fails asked mid after)
-        (λ asked others. Asks-fails asked others before mid after stays) stays next judged may
+        (λ asked others. Asks-fails asked others before mid after) stays next judged may
         over;
   }
 

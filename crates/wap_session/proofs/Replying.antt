@@ -117,7 +117,8 @@ module _ (pages : Pages) (one : Waits) (key : Key) (w : World)
       ≡ then_step (quiet [] scene) (resumed_step fragment_call pages one keys scene.world)
   passes_so keys =
       stay_means fragment_call pages one w key is keys
-      ∙ ap (λ (s : Scene). then_step (quiet [] s) (resumed_step fragment_call pages one keys s.world))
+      ∙ ap (λ (s : Scene). then_step (quiet [] s)
+      (resumed_step fragment_call pages one keys s.world))
       (apart (shelf_of pages) key w)
 
   -- and without these it is open

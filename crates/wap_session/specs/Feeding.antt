@@ -108,7 +108,8 @@ TurnsTo key pages old new =
     })
 
 -- keys lead from one session to another, and show these lines
-pub record Leads (keys : List Key) (pages : Pages) (old new : State) (lines : List (List ℕ)) : Type 0
+pub record Leads (keys : List Key) (pages : Pages) (old new : State) (lines : List (List ℕ)) : Type
+    0
   where
     -- it stands where the step of the keys leads, over the same pages
     pub world : new.browser.world ≡ (step_of pages keys old).world

@@ -1,6 +1,8 @@
 -- What is done to the history and the timer keeps the rules of worlds.
-use Rattle.std.proofs.Common.{◌≡◌, ◌⊎◌, inl, inr, ℕ, zero, suc, ◌≤◌, ◌<◌, ◌-◌, Bool, true, false, cond}
-use Rattle.std.proofs.Common.{List, [], ◌∷◌, ◌++◌, length, drop, Option, Some, None, Result, Ok, Err}
+use Rattle.std.proofs.Common.{◌≡◌, ◌⊎◌, inl, inr, ℕ, zero, suc, ◌≤◌, ◌<◌, ◌-◌, Bool, true, false}
+use Rattle.std.proofs.Common.{cond}
+use Rattle.std.proofs.Common.{List, [], ◌∷◌, ◌++◌, length, drop, Option, Some, None, Result, Ok}
+use Rattle.std.proofs.Common.{Err}
 use Rattle.std.proofs.Common.{refl, sym, ◌∙◌, subst, arith, length-append, length-take}
 use Rattle.std.specs.Prelude.{nat_lt, OnOk, OnErr}
 use Rattle.std.specs.List.{last_or}
@@ -143,7 +145,8 @@ module _ (limits : Limits) (history : List Entry) (timer : Timer)
   }
 
   -- less time than is left passes
-  pub keeps_counted : (time left : ℕ) → time < left → KeepsRules limits history (Running (left - time))
+  pub keeps_counted : (time left : ℕ) → time < left
+      → KeepsRules limits history (Running (left - time))
   keeps_counted time left less = keeps_running (left - time) (omega arith)
 
 -- the rules of the first world

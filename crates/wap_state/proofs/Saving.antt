@@ -1,6 +1,8 @@
 -- The parts of a world keep the rules of parts, and the world is made of them again.
-use Rattle.std.proofs.Common.{◌≡◌, ◌≢◌, ◌∙◌, ℕ, suc, ◌+◌, ◌≤◌, ◌<◌, Bool, true, false, not, ◌&&◌, cond}
-use Rattle.std.proofs.Common.{List, [], ◌∷◌, ◌++◌, length, map, refl, ap, sym, subst, arith, length-append}
+use Rattle.std.proofs.Common.{◌≡◌, ◌≢◌, ◌∙◌, ℕ, suc, ◌+◌, ◌≤◌, ◌<◌, Bool, true, false, not, ◌&&◌}
+use Rattle.std.proofs.Common.{cond}
+use Rattle.std.proofs.Common.{List, [], ◌∷◌, ◌++◌, length, map, refl, ap, sym, subst, arith}
+use Rattle.std.proofs.Common.{length-append}
 use Rattle.std.proofs.Common.{Option, Some, None, Result, Ok, Err, append_assoc, drop}
 use Rattle.std.specs.Prelude.{IfOk, OnOk, is_some, nat_lt, nat_le}
 use Rattle.std.specs.List.{All, AllByRecursion}
@@ -39,7 +41,8 @@ use Rattle.wap_world.specs.World.{World}
 use Rattle.wap_world.specs.History.{entry_of}
 use Rattle.wap_state.specs.page_urls.PageUrls.{is_http, IsPageUrl, IsPageEntry}
 use Rattle.wap_state.proofs.PageUrlsLemmas.Targets.{page_read}
-use Rattle.wap_state.specs.Saved.{saved_timer, timer_in, saved_entry, parts_of, timer_of, entry_with}
+use Rattle.wap_state.specs.Saved.{saved_timer, timer_in, saved_entry, parts_of, timer_of}
+use Rattle.wap_state.specs.Saved.{entry_with}
 use Rattle.wap_state.specs.Saved.{entries_of, generator_at, saved_world, IsAtRest}
 use Rattle.wap_state.specs.Standing.{KeepsRules}
 use Rattle.wap_state.proofs.Keeping.{time_same}
@@ -182,7 +185,8 @@ pub room_from : (limit : ℕ) (done : List Entry) (items rest : List (List ℕ �
     (card : ℕ) → length done + length items ≤ limit → items ≡ (text, card) ∷ rest
     → length done < limit
 room_from limit done items rest text card few next =
-    let one_more : length items ≡ suc (length rest) = ap (λ (l : List (List ℕ × ℕ)). length l) next in
+    let one_more : length items ≡ suc (length rest) = ap (λ (l : List (List ℕ × ℕ)). length l) next
+    in
     omega (arith, few, one_more)
 
 pub text_from : (items rest : List (List ℕ × ℕ)) (text : List ℕ) (card : ℕ)
@@ -211,7 +215,8 @@ entries_few (part ∷ parts) =
 -- the entry that was read is added to those before it
 pub entry_added : {A E : Type 0} (result : Result A E) (history after : List Entry) (limit card : ℕ)
     (text : List ℕ) (url : Url) (entry : Entry)
-    → OnOk result (after ≡ cond (nat_lt (length history) limit) history (drop 1 history) ++ entry ∷ [])
+    → OnOk result (after ≡ cond (nat_lt (length history) limit) history (drop 1 history)
+    ++ entry ∷ [])
     → entry ≡ entry_of url card → url_at text ≡ Ok url → url.fragment ≡ None
     → length history < limit → OnOk result (after ≡ history ++ entry_with card (url_at text))
 entry_added (Ok done) history after limit card text url entry pushed is read whole room =
@@ -236,7 +241,8 @@ pub room_next : (limit : ℕ) (items rest : List (List ℕ × ℕ)) (done after 
     (text : List ℕ) (card : ℕ) → length done + length items ≤ limit → items ≡ (text, card) ∷ rest
     → after ≡ done ++ entry_with card (url_at text) → length after + length rest ≤ limit
 room_next limit items rest done after text card few next is =
-    let one_more : length items ≡ suc (length rest) = ap (λ (l : List (List ℕ × ℕ)). length l) next in
+    let one_more : length items ≡ suc (length rest) = ap (λ (l : List (List ℕ × ℕ)). length l) next
+    in
     let as_many : length after ≡ length (done ++ entry_with card (url_at text)) =
     ap (λ (l : List Entry). length l) is in
     omega (
@@ -297,7 +303,8 @@ pub are_parts : (world : World) → KeepsRules world.limits world.history world.
 are_parts world rules pages vars = record {
   limits = rules.range;
   vars = vars;
-  few = subst (λ n. n ≤ world.limits.history) (sym (length-map world.history saved_entry)) rules.few;
+  few = subst (λ n. n ≤ world.limits.history) (sym (length-map world.history saved_entry))
+      rules.few;
   urls = entries_text world.history pages;
   runs = λ tenths is. rules.runs tenths (timer_runs_in world.history world.timer tenths is);
   started = λ none.

@@ -41,7 +41,8 @@ use Rattle.wap_unit.specs.reading.UnitReading.{named_functions_at, functions_at,
 use Rattle.wap_unit.specs.reading.ByteReading.{byte_at, taken_at, number_at}
 use Rattle.wap_base.specs.formats.ByteReading.{in_turn, judged, made}
 use Rattle.wap_base.proofs.formats.Parts.{parts_of, headed, behind, alone, added}
-use Rattle.wap_base.proofs.formats.Readers.{Reads, reads_in_turn, reads_given, reads_judged, reads_made}
+use Rattle.wap_base.proofs.formats.Readers.{Reads, reads_in_turn, reads_given, reads_judged}
+use Rattle.wap_base.proofs.formats.Readers.{reads_made}
 use Rattle.wap_base.proofs.formats.Readers.{reads_failing, reads_unless, reads_as, reads_here}
 use Rattle.wap_base.proofs.formats.Readers.{reads_known}
 use Rattle.wap_base.proofs.formats.Steps

@@ -67,7 +67,8 @@ pub written_same : (bytes : List ℕ) → AreBytes bytes → Written bytes bytes
 written_same bytes are = record { are = are; short = omega arith }
 
 -- a byte is written, and what follows it
-pub written_behind : (byte : ℕ) (others bytes rest : List ℕ) → others ≡ byte ∷ rest → AreBytes others
+pub written_behind : (byte : ℕ) (others bytes rest : List ℕ) → others ≡ byte ∷ rest
+    → AreBytes others
     → Written rest bytes → Written others (byte ∷ bytes)
 written_behind byte others bytes rest spelled are behind =
     let one = behind.short in

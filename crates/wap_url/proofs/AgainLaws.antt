@@ -18,7 +18,8 @@ use Rattle.wap_base.specs.Cuts.{until, onward, after_one, begins_with}
 use Rattle.wap_url.specs.UrlParts.{Parts, spelled, followed_by, led_by, authority, is_port}
 use Rattle.wap_url.specs.UrlParts.{url_of, IsSplit, Fits, IsUrl, ends_word, may_be_scheme}
 use Rattle.wap_url.specs.UrlParts.{may_be_host, may_be_port, may_be_path}
-use Rattle.wap_url.specs.Calculation.{is_stop, front, has_bad_char, has_scheme, scheme_of, after_scheme}
+use Rattle.wap_url.specs.Calculation.{is_stop, front, has_bad_char, has_scheme, scheme_of}
+use Rattle.wap_url.specs.Calculation.{after_scheme}
 use Rattle.wap_url.specs.Calculation.{begins_with_slashes, authority_of, after_authority, host_in}
 use Rattle.wap_url.specs.Calculation.{port_in, host_of, port_of, tail_of, parts_of, passes_if_there}
 use Rattle.wap_url.specs.Calculation.{fault_of, unless, url_at}

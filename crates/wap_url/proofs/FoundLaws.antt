@@ -17,8 +17,10 @@ use Rattle.wap_base.specs.Cuts.{until, onward, after_one, begins_with}
 use Rattle.wap_url.specs.UrlParts.{Parts, spelled, followed_by, led_by, authority, is_port}
 use Rattle.wap_url.specs.UrlParts.{url_of, IsSplit, Fits, IsUrl, ends_word, may_be_scheme}
 use Rattle.wap_url.specs.UrlParts.{may_be_host, may_be_port, may_be_path}
-use Rattle.wap_url.specs.Calculation.{is_stop, front, fragment_of, has_bad_char, has_scheme, scheme_of}
-use Rattle.wap_url.specs.Calculation.{after_scheme, begins_with_slashes, authority_of, after_authority}
+use Rattle.wap_url.specs.Calculation.{is_stop, front, fragment_of, has_bad_char, has_scheme}
+use Rattle.wap_url.specs.Calculation.{scheme_of}
+use Rattle.wap_url.specs.Calculation.{after_scheme, begins_with_slashes, authority_of}
+use Rattle.wap_url.specs.Calculation.{after_authority}
 use Rattle.wap_url.specs.Calculation.{host_in, port_in, tail_of, path_part, query_part, parts_with}
 use Rattle.wap_url.specs.Calculation.{parts_of, passes_if_there, fault_of, unless, url_at}
 use Rattle.wap_url.proofs.FrontLaws.{until-onward}

@@ -2,7 +2,8 @@
 use Rattle.std.proofs.Common.{◌≡◌, ℕ, List, Option, refl}
 use Rattle.std.specs.Option.{option_copied}
 use Rattle.wap_url.specs.declared.parts.Slices.{Slices}
-use Rattle.wap_url.specs.Calculation.{scheme_of, host_of, port_of, path_part, query_part, parts_with}
+use Rattle.wap_url.specs.Calculation.{scheme_of, host_of, port_of, path_part, query_part}
+use Rattle.wap_url.specs.Calculation.{parts_with}
 use Rattle.wap_url.specs.inside.Slices.{parts_in}
 
 pub slices_are : (front : List ℕ) (slices : Slices) (fragment : Option (List ℕ))

@@ -69,7 +69,8 @@ reads_version =
 reads_numbered : (kind : DocumentType) (number : ℕ)
     → formats.Reads (unless (is_numbered kind number) doc.PublicId
     (given (Numbered number)))
-    (λ bytes identifier. Given (Numbered number) bytes identifier × (is_numbered kind number ≡ true))
+    (λ bytes identifier. Given (Numbered number) bytes identifier
+    × (is_numbered kind number ≡ true))
     (λ end left found. (is_numbered kind number ≡ false) × (found ≡ doc.PublicId))
 reads_numbered kind number =
     formats.reads_so

@@ -24,7 +24,8 @@ use Rattle.wap_wbxml.specs.reading.ByteReading.{Reading, some, told}
 use Rattle.wap_wbxml.specs.Places.{Input}
 use Rattle.wap_wbxml.specs.reading.Fronts.{lead_at}
 use Rattle.wap_wbxml.specs.reading.BodyReading.{no_token, as_short, leaf_at, instruction_at}
-use Rattle.wap_wbxml.specs.reading.BodyReading.{attributes_at, tag_at, when, ElementReader, kid_from}
+use Rattle.wap_wbxml.specs.reading.BodyReading.{attributes_at, tag_at, when, ElementReader}
+use Rattle.wap_wbxml.specs.reading.BodyReading.{kid_from}
 use Rattle.wap_wbxml.specs.reading.BodyReading.{next_kid, kids_at, element_by, element_at}
 use Rattle.wap_wbxml.specs.Refusals.{Refusal, Anything, RefusedThen}
 use Rattle.wap_wbxml.specs.Refusal.{RefusedLead, RefusedUnless, RefusedTag, RefusedWhen}

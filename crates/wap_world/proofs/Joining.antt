@@ -55,6 +55,7 @@ pub onward_after : (f : List Key → World → Next → Step) (step : Step) (onc
     → onward f (after_step step once) ≡ then_step step (onward f once)
 onward_after f step once = by once.next
   where
-    by : (o : Option Next) → go_on f (then_step step once.step) o ≡ then_step step (go_on f once.step o)
+    by : (o : Option Next) → go_on f (then_step step once.step) o
+        ≡ then_step step (go_on f once.step o)
     by None = refl
     by (Some next) = joined_assoc step once.step (f once.step.keys once.step.world next)

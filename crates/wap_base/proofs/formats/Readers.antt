@@ -6,9 +6,11 @@ use Rattle.std.proofs.Common.{inl, inr}
 use Rattle.wap_base.specs.Outcome.{◌>>=◌}
 use Rattle.wap_base.proofs.Choices.{bind_ok, bind_err, ok_same}
 use Rattle.wap_base.specs.formats.Sequences.{InTurn, Then, Passing, Made, MadeIf}
-use Rattle.wap_base.specs.formats.Refusal.{Refusal, Never, RefusesInTurn, RefusesUnless, RefusesPassing}
+use Rattle.wap_base.specs.formats.Refusal.{Refusal, Never, RefusesInTurn, RefusesUnless}
+use Rattle.wap_base.specs.formats.Refusal.{RefusesPassing}
 use Rattle.wap_base.specs.formats.Refusal.{RefusesMadeIf}
-use Rattle.wap_base.specs.formats.ByteReading.{Reader, in_turn, given, judged, failing, unless, passing}
+use Rattle.wap_base.specs.formats.ByteReading.{Reader, in_turn, given, judged, failing, unless}
+use Rattle.wap_base.specs.formats.ByteReading.{passing}
 use Rattle.wap_base.specs.formats.ByteReading.{made, value_or, made_if}
 use Rattle.wap_base.proofs.formats.Parts.{parts_of, alone, added}
 

@@ -151,13 +151,15 @@ module _ {E : Type 0} (short too_long : ℕ → E) where
 
   -- where none is read, it is refused
   number_stops : (end : ℕ) (bytes : List ℕ) (found : E)
-      → number_at short too_long end bytes ≡ Err found → RefusesNumber short too_long end bytes found
+      → number_at short too_long end bytes ≡ Err found → RefusesNumber short too_long end bytes
+      found
   unfolding number_at
   number_stops end bytes found e = number_err end bytes (mb_at bytes 0) found refl e
 
   -- where it is refused, none is read
   number_fails : (end : ℕ) (bytes : List ℕ) (found : E)
-      → RefusesNumber short too_long end bytes found → number_at short too_long end bytes ≡ Err found
+      → RefusesNumber short too_long end bytes found → number_at short too_long end bytes
+      ≡ Err found
   unfolding number_at
   number_fails end bytes found (inl inside) =
       ap (numbered short too_long end bytes) (mb_fails_short bytes 0 inside.0)

@@ -36,7 +36,12 @@ escape_bytes : (spelling : List ℕ) (c : ℕ) → Escapes spelling c → len_ut
 escape_bytes spelling v (single c is) = omega (arith, named_bytes c)
 escape_bytes spelling v (octal digits is) =
     let p = parts digits is in
-    omega (arith, two_bytes (numeral 8 digits) (omega (arith, p.low)), utf8_len-bounds digits, p.some)
+    omega (
+      arith,
+      two_bytes (numeral 8 digits) (omega (arith, p.low)),
+      utf8_len-bounds digits,
+      p.some,
+    )
 escape_bytes spelling v (hexadecimal a b are) =
     let one = and_parts (is_ascii_hexdigit a) (is_ascii_hexdigit b && true) are in
     let two = and_parts (is_ascii_hexdigit b) true one.1 in

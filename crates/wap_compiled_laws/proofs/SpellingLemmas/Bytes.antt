@@ -31,7 +31,8 @@ row_fits {row} {a} {b} {c} some few room = (
   omega (arith, few, low_part-below row.count row.a a some room.a_fits),
   bytes_both (slot_bytes row.a a) (slot_bytes row.b b ++ slot_bytes row.c c)
       (slot_fits row.count a row.a room.a_fits)
-      (bytes_both (slot_bytes row.b b) (slot_bytes row.c c) (slot_fits row.count b row.b room.b_fits)
+      (bytes_both (slot_bytes row.b b) (slot_bytes row.c c)
+      (slot_fits row.count b row.b room.b_fits)
       (slot_fits row.count c row.c room.c_fits)),
 )
 

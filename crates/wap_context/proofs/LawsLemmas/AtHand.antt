@@ -12,7 +12,8 @@ use Rattle.wap_world.specs.session_laws.Standing.{StandsOnCard}
 use Rattle.wap_context.specs.Browsers.{Browser, IsOver, place_held}
 
 -- a place is one of a deck
-of_deck : (entry : Entry) (deck : Option Deck) → is_some (option_and_then (place_in entry) deck) ≡ true
+of_deck : (entry : Entry) (deck : Option Deck) → is_some (option_and_then (place_in entry) deck)
+    ≡ true
     → is_some deck ≡ true
 of_deck entry None is = is
 of_deck entry (Some deck) is = refl

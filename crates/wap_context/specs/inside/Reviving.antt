@@ -1,5 +1,5 @@
--- A world whose current card is known, and the page of this card that is asked for. Contracts inside
--- the crate cite it. This project's own.
+-- A world whose current card is known, and the page of this card that is asked for. Contracts
+-- inside the crate cite it. This project's own.
 use Rattle.std.specs.Prelude.{◌≡◌, false, [], ◌∷◌, IfOk, OnOk, Result, Err}
 use Rattle.wap_base.specs.declared.fault.RunErr.{RunErr}
 use Rattle.wap_base.specs.declared.fault.RunErr.TheVariants.{Store}

@@ -1,5 +1,6 @@
--- How a go or an open starts a script of a unit that is known, and what follows its end at the place
--- at hand. Contracts inside the crate cite it; those of its public calls don't. This project's own.
+-- How a go or an open starts a script of a unit that is known, and what follows its end at the
+-- place at hand. Contracts inside the crate cite it; those of its public calls don't. This
+-- project's own.
 use Rattle.std.specs.Prelude.{◌≡◌, ℕ, Bool, true, false, ◌==◌, if◌then◌else◌, List, [], ◌∷◌, length}
 use Rattle.std.specs.Prelude.{Option, Some, None, IfOk, OnOk, ◌≤◌, Result, Err, ◌<◌}
 use Rattle.std.specs.Option.{option_and_then}

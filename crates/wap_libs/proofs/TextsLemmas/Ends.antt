@@ -83,7 +83,8 @@ pub before_last : (c : ℕ) (s rest : List ℕ) → IsUtf8 s → IsUtf8 rest →
     → chars s ≡ chars rest ++ c ∷ []
 before_last c s rest us ur same =
     sym (chars_from_encodes (chars rest ++ c ∷ []) s us (encodes-append (chars rest) (c ∷ [])
-    ∙ ap₂ (λ a b. a ++ b) (encodes-chars rest ur) (Rattle.std.proofs.Common.append-nil (encode_utf8 c))
+    ∙ ap₂ (λ a b. a ++ b) (encodes-chars rest ur)
+    (Rattle.std.proofs.Common.append-nil (encode_utf8 c))
     ∙ sym same))
 
 pub before_smaller : (c : ℕ) (s rest : List ℕ) → s ≡ rest ++ encode_utf8 c → length rest < length s

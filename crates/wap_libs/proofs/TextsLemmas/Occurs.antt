@@ -282,7 +282,8 @@ text_of_char c s (Some (i, j)) low (free, at) =
     let split = drop_at_char c s i j at low in
     let inside : i < length s = omega (arith, ap length split, length-drop i s) in (
       λ k early rest same.
-          NoCharPasses-char c (take i s) k free low (omega (arith, length-take-le i s (omega arith)))
+          NoCharPasses-char c (take i s) k free low
+          (omega (arith, length-take-le i s (omega arith)))
           (get_or-take i s k 0 early ∙ at_place s k c rest same),
       record {
         split = split;

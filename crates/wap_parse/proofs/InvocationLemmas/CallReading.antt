@@ -19,7 +19,8 @@ use Rattle.wap_grammar.specs.reading.TokenReading.{Reading, span_of, expect_at, 
 use Rattle.wap_grammar.proofs.Firsts.{expect_ok, id_ok}
 use Rattle.wap_parse.specs.declared.invocation.invocation.Invocation.{Invocation}
 use Rattle.wap_parse.specs.invocation.Calls.{AreArguments, SpellsCall, call, is_spaced, IsCall}
-use Rattle.wap_parse.specs.invocation.Calculation.{arguments_at, ended, call_at, spelled_by, call_of}
+use Rattle.wap_parse.specs.invocation.Calculation.{arguments_at, ended, call_at, spelled_by}
+use Rattle.wap_parse.specs.invocation.Calculation.{call_of}
 use Rattle.wap_parse.proofs.InvocationLemmas.ArgumentReading.{reads_closed}
 
 -- ---- tokens

@@ -1,6 +1,8 @@
 -- A reference that is joined to the URL of a page comes to that of a page.
-use Rattle.std.proofs.Common.{◌≡◌, ◌⊎◌, inl, inr, ℕ, zero, suc, ◌-◌, ◌≤◌, Bool, true, false, ◌&&◌, ◌==◌, cond}
-use Rattle.std.proofs.Common.{List, [], ◌∷◌, ◌++◌, length, map, take, fold, refl, ap, sym, ◌∙◌, subst}
+use Rattle.std.proofs.Common.{◌≡◌, ◌⊎◌, inl, inr, ℕ, zero, suc, ◌-◌, ◌≤◌, Bool, true, false, ◌&&◌}
+use Rattle.std.proofs.Common.{◌==◌, cond}
+use Rattle.std.proofs.Common.{List, [], ◌∷◌, ◌++◌, length, map, take, fold, refl, ap, sym, ◌∙◌}
+use Rattle.std.proofs.Common.{subst}
 use Rattle.std.proofs.Common.{Some, None, Option, IfSome, IsSome, option_map, decimal, arith}
 use Rattle.std.specs.Prelude.{is_some, is_none, codes}
 use Rattle.std.specs.Option.{option_map_or}
@@ -16,8 +18,10 @@ use Rattle.wap_url.specs.Segments.{segments, path_of, all_but_last}
 use Rattle.wap_url.specs.inside.Segments.{folder_of}
 use Rattle.wap_url.specs.UrlParts.{may_be_scheme, may_be_host, may_be_port, may_be_path, is_port}
 use Rattle.wap_url.specs.Printing.{IsNormal}
-use Rattle.wap_url.specs.Joining.{is_here, is_above, is_dot_segment, kept_with, end_of, without_dots}
-use Rattle.wap_url.specs.Joining.{resolved, resolved_path, lead_segments, merged_path, target, rooted}
+use Rattle.wap_url.specs.Joining.{is_here, is_above, is_dot_segment, kept_with, end_of}
+use Rattle.wap_url.specs.Joining.{without_dots}
+use Rattle.wap_url.specs.Joining.{resolved, resolved_path, lead_segments, merged_path, target}
+use Rattle.wap_url.specs.Joining.{rooted}
 use Rattle.wap_url.specs.Joining.{joined}
 use Rattle.wap_url.proofs.BackLaws.{slash_first}
 use Rattle.wap_url.proofs.JoinLaws.{path-lead, resolved_at_root}
@@ -273,7 +277,8 @@ fine-lead base all =
 
 fine-merged : (base r : Url) → Fine base.path → Fine r.path → Fine (merged_path base r)
 fine-merged base r one other =
-    either Fine (begins_with is_slash r.path) r.path (path_of (lead_segments base ++ segments r.path))
+    either Fine (begins_with is_slash r.path) r.path
+    (path_of (lead_segments base ++ segments r.path))
     other (ap (list_all may_be_path) (path-lead (lead_segments base) r.path)
     ∙ all-append may_be_path (folder_of (lead_segments base)) r.path
     (fine-folder (lead_segments base) (fine-lead base one)) other)

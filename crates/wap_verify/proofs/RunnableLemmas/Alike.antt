@@ -130,7 +130,8 @@ module _ (unit : Unit) (index : ℕ) (code : Code) where
       both_of_depths split found other one
       (underflow at values step split within reached is few same)
   alike_in found other one (depths at some more split within first second apart same) =
-      both_of_depths split found other one (depths at some more split within first second apart same)
+      both_of_depths split found other one (depths at some more split within first second apart
+      same)
   alike_in found other (underflow at values step split within reached is few same) two =
       both_of_depths split found other
       (underflow at values step split within reached is few same) two

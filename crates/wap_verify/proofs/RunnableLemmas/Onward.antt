@@ -19,7 +19,8 @@ use Rattle.wap_verify.specs.declared.step.Step.{Step}
 use Rattle.wap_verify.specs.declared.fault.VerifyFault.{VerifyFault}
 use Rattle.wap_verify.specs.declared.fault.VerifyFault.TheVariants as fault
 use Rattle.wap_verify.specs.CodePlaces.{values_taken, operand_fault, step_of, pair}
-use Rattle.wap_verify.specs.CodePlaces.{is_conditional_forward, jump_read, jump_by, pair_at, is_pair}
+use Rattle.wap_verify.specs.CodePlaces.{is_conditional_forward, jump_read, jump_by, pair_at}
+use Rattle.wap_verify.specs.CodePlaces.{is_pair}
 use Rattle.wap_verify.specs.CodePlaces.{fine_at, checked, instr_read, step_by, step_at}
 use Rattle.wap_verify.specs.inside.Work.{GoesOn}
 
@@ -35,7 +36,8 @@ read_within row code at instr inside is =
       | inl short ↦ absurd (cc short.1)
       | inr enough ↦
           subst (IsWithin at (length code)) (ok_same (read row code at) instr enough.1)
-          (let fits : size row ≤ length code - at = ltb-false (length code - at) (size row) enough.0 in
+          (let fits : size row ≤ length code - at = ltb-false (length code - at) (size row) enough.0
+          in
           (omega arith, omega arith))
     ]
 

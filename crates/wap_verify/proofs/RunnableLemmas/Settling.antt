@@ -118,7 +118,8 @@ module _ (unit : Unit) (index : ℕ) (function : Code) where
         let parts =
         and_parts (leb step.takes values)
         (agrees state left (way_on step) && agrees middle left step.jump) may in
-        let ways = and_parts (agrees state left (way_on step)) (agrees middle left step.jump) parts.1 in
+        let ways = and_parts (agrees state left (way_on step)) (agrees middle left step.jump)
+        parts.1 in
         visited unit index function state at values step here (leb-true step.takes values parts.0)
         (agreed state left (way_on step) ways.0) (agreed middle left step.jump ways.1)
 
@@ -168,7 +169,8 @@ module _ (unit : Unit) (index : ℕ) (function : Code) where
     works (suc fuel) state so more b is =
         by_last (λ after. works fuel after) (last_of state.pending) (parted state.pending) is
       where
-        by_visit : Work fuel → (rest : List Stand) (at values : ℕ) → state.pending ≡ rest ++ (at, values) ∷ []
+        by_visit : Work fuel → (rest : List Stand) (at values : ℕ) → state.pending
+            ≡ rest ++ (at, values) ∷ []
             → (step : Step)
             → (here : Here unit index function (without_last state rest) at values step)
             → (may : Bool) → may_follow (without_last state rest) values step ≡ may
@@ -198,7 +200,8 @@ module _ (unit : Unit) (index : ℕ) (function : Code) where
             let within =
             kept_within unit index function (without_last state rest) at values sane kept in
             let stands =
-            stands_reached unit index function split at values (sane.reached at values kept) within in
+            stands_reached unit index function split at values (sane.reached at values kept) within
+            in
             by_visit further rest at values pops stands.0 (record {
               split = split;
               sane = sane;

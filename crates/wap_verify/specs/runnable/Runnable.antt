@@ -1,7 +1,8 @@
 -- Whether a unit may be run, as a test that goes as the verifier goes: a walk over the instructions
 -- of each function, the targets of its jumps, and one number of values for each place. A law says
 -- that exactly the verified units pass it. This project's own.
-use Rattle.std.specs.Prelude.{◌≡◌, ◌⊎◌, ℕ, zero, suc, ◌+◌, ◌-◌, ◌==◌, nat_lt, nat_le, Bool, true, false, ◌&&◌}
+use Rattle.std.specs.Prelude.{◌≡◌, ◌⊎◌, ℕ, zero, suc, ◌+◌, ◌-◌, ◌==◌, nat_lt, nat_le, Bool, true}
+use Rattle.std.specs.Prelude.{false, ◌&&◌}
 use Rattle.std.specs.Prelude.{if◌then◌else◌, List, [], ◌∷◌, length, replicate, slice_set}
 use Rattle.std.specs.Prelude.{Option, Some, None, is_none, option_map, Result, Ok, Err}
 use Rattle.std.specs.List.{list_all}

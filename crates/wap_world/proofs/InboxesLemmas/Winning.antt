@@ -212,7 +212,8 @@ module _ (pushes : List Indication) where
   }
 
   -- and no others are
-  pub exactly : (winners : List Indication) → HaveWinners pushes winners ↔ (winners ≡ winners_of pushes)
+  pub exactly : (winners : List Indication)
+      → HaveWinners pushes winners ↔ (winners ≡ winners_of pushes)
   exactly winners = (
     λ have. one pushes winners (winners_of pushes) have calculated,
     λ is. subst (HaveWinners pushes) (sym is) calculated,

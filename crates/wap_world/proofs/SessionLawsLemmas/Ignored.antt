@@ -72,7 +72,8 @@ pub ignores_type : (site : Site) (keys : List Key) (world : World) (place : Plac
 unfolding react
 ignores_type site keys world place n text here none =
     ap
-    (at_card keys (renewed world) (λ p. quiet keys (type_text site.shelf n text p (renewed world)))) here
+    (at_card keys (renewed world) (λ p. quiet keys (type_text site.shelf n text p (renewed world))))
+    here
     ∙ ap (λ o. quiet keys (after_text site.shelf (record (renewed world) {
       vars = (enter_in world.vars text o).vars;
     }) (enter_in world.vars text o).answer)) none

@@ -27,7 +27,7 @@ then_by : (asked others : List Asked) (x y : Option Cache) (k l o : ℕ)
 then_by asked others None y k l o is first second = tt
 then_by asked others (Some cache) y k l o is first second =
     let rose = subst (λ (told : Option Cache). IfSome told (λ one. RoseBy (misses others one) l o))
-        is second in
+    is second in
     (omega (arith, first, rose.0), omega (arith, first, rose.1, misses-then asked others cache))
 
 -- some were asked for, and then the store failed at one of the others

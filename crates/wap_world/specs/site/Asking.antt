@@ -16,8 +16,8 @@ pub record Seen : Type 0 where
   pub fetches : ℕ
   pub listings : ℕ
 
--- what is seen of pages in memory: no bytes stand below them, so they can be no others, and there is
--- neither a cache nor a store that could fail or be asked
+-- what is seen of pages in memory: no bytes stand below them, so they can be no others, and there
+-- is neither a cache nor a store that could fail or be asked
 abbrev pub in_memory : Pages → Seen
 in_memory pages = record {
   known = Held [];

@@ -1,4 +1,5 @@
-use Rattle.std.proofs.Common.{◌++◌, take, drop, List, ℕ, Ok, Err, refl, sym, ap, ◌∙◌, subst, append_assoc}
+use Rattle.std.proofs.Common.{◌++◌, take, drop, List, ℕ, Ok, Err, refl, sym, ap, ◌∙◌, subst}
+use Rattle.std.proofs.Common.{append_assoc}
 use Rattle.std.proofs.lemmas.List.{take-append-drop}
 use Rattle.wap_devices.proofs.Putting.{has_put_more, puts_whole, puts_stopped}
 use Rattle.wap_devices.proofs.Putting.{some_from_length, none_from_length, unmoved_by_none}

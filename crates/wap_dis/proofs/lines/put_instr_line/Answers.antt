@@ -13,7 +13,8 @@ use Rattle.wap_dis.proofs.lines.put_instr_line.Goals as goal
 pub returns : goal.returns
 returns g c =
     let puts : List ℕ → Type 0 =
-    Gathers (g.O.Sink.seen c.args.out.now) (g.O.Sink.seen c.put_line.new.out) (state c.args.held.now)
+    Gathers (g.O.Sink.seen c.args.out.now) (g.O.Sink.seen c.put_line.new.out)
+    (state c.args.held.now)
     (state c.put_line.new.held) in
     let words : List Word =
     Name c.name_of.result ∷ Number c.from.result ∷ Number c.from-2.result

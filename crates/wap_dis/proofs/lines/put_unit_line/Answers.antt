@@ -11,7 +11,8 @@ returns g c =
     λ version charset. line (codes "unit")
     (codes "version" ∷ decimal version ∷ codes "charset" ∷ decimal charset ∷ []) in
     let puts : List ℕ → Type 0 =
-    Gathers (g.O.Sink.seen c.args.out.now) (g.O.Sink.seen c.put_line.new.out) (state c.args.held.now)
+    Gathers (g.O.Sink.seen c.args.out.now) (g.O.Sink.seen c.put_line.new.out)
+    (state c.args.held.now)
     (state c.put_line.new.held) in
     subst (λ (version : ℕ). puts (text version c.args.unit.now.charset)) c.from.ensures
     (subst (λ (charset : ℕ). puts (text c.from.result charset)) c.from-2.ensures c.put_line.ensures)

@@ -17,7 +17,8 @@ returns-then-at-code g c =
     ∙ ap (λ (l : List ℕ). so_far.text ++ l)
     (sym (code_end (length code - c.loop.counter) code c.loop.at (omega arith)))
     ∙ so_far.goes_on in
-    subst (λ (l : List ℕ). Gathers (g.O.Sink.seen c.args.out.now) (g.O.Sink.seen c.loop.out) (state c.args.held.now)
+    subst (λ (l : List ℕ). Gathers (g.O.Sink.seen c.args.out.now) (g.O.Sink.seen c.loop.out)
+    (state c.args.held.now)
     (state c.loop.held) l) whole so_far.puts
 
 pub returns-in-None : goal.returns-in-None
@@ -31,7 +32,8 @@ returns-in-None g c =
     ap (λ (k : ℕ). code_from k code c.loop.at) turns
     ∙ code_step left code c.loop.at None within (sym c.in-None.ensures) in
     subst (λ (l : List ℕ).
-    Gathers (g.O.Sink.seen c.args.out.now) (g.O.Sink.seen c.put_bytes.new.out) (state c.args.held.now)
+    Gathers (g.O.Sink.seen c.args.out.now) (g.O.Sink.seen c.put_bytes.new.out)
+    (state c.args.held.now)
     (state c.put_bytes.new.held) l)
     (ap (λ (l : List ℕ). so_far.text ++ l) (sym rest) ∙ so_far.goes_on)
     (gathers_then (g.O.Sink.seen c.args.out.now) (g.O.Sink.seen c.loop.out)
@@ -73,5 +75,6 @@ returns g c =
     ∙ ap (λ (l : List ℕ). so_far.text ++ l)
     (sym (ap (λ (k : ℕ). code_from k code c.loop.at) turns ∙ code_none code c.loop.at))
     ∙ so_far.goes_on in
-    subst (λ (l : List ℕ). Gathers (g.O.Sink.seen c.args.out.now) (g.O.Sink.seen c.loop.out) (state c.args.held.now)
+    subst (λ (l : List ℕ). Gathers (g.O.Sink.seen c.args.out.now) (g.O.Sink.seen c.loop.out)
+    (state c.args.held.now)
     (state c.loop.held) l) whole so_far.puts

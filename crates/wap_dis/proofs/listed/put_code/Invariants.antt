@@ -8,7 +8,8 @@ use Rattle.wap_dis.proofs.listed.put_code.Given as goal
 abbrev pub invariant-loop : goal.invariant-loop
 invariant-loop g l = record {
   text : List ℕ;
-  puts : Gathers (g.O.Sink.seen l.fn.out) (g.O.Sink.seen l.out) (state l.fn.held) (state l.held) text;
+  puts : Gathers (g.O.Sink.seen l.fn.out) (g.O.Sink.seen l.out) (state l.fn.held) (state l.held)
+      text;
   goes_on : text ++ code_from (length l.code - l.counter) l.code l.at
       ≡ code_from (length l.code) l.code 0;
 }

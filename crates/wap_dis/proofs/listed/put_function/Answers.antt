@@ -15,6 +15,7 @@ returns g c =
     (head_line c.args.unit.now c.args.index c.args.function.now)
     (code_from (length code) code 0) c.put_head_line.ensures
     (subst (λ (l : List ℕ).
-    Gathers (seen c.put_head_line.new.out) (seen c.put_code.new.out) (state c.put_head_line.new.held)
+    Gathers (seen c.put_head_line.new.out) (seen c.put_code.new.out)
+    (state c.put_head_line.new.held)
     (state c.put_code.new.held) (code_from (length l) l 0))
     c.as_slice.ensures c.put_code.ensures)

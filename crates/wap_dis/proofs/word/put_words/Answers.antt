@@ -18,13 +18,15 @@ loop-word-preserved g c =
     let none : Word = Name (record { ref_ptr = (0, 0); now = [] }) in
     let one : Word → List ℕ = λ w. spaced (word_bytes w) in
     let before =
-    subst (Gathers (seen c.args.out.now) (seen c.loop-word.out) (state c.args.held.now) (state c.loop-word.held))
+    subst (Gathers (seen c.args.out.now) (seen c.loop-word.out) (state c.args.held.now)
+    (state c.loop-word.held))
     (flat_map-map spaced word_bytes (take i words)) c.loop-word.invariant in
     let now =
     gathers_then (seen c.loop-word.out) (seen c.put.new.out) (seen c.put_word.new.out)
     (state c.loop-word.held) (state c.put.new.held) (state c.put_word.new.held) (32 ∷ [])
     (word_bytes (get_or words i none)) c.put.ensures c.put_word.ensures in
-    subst (Gathers (seen c.args.out.now) (seen c.put_word.new.out) (state c.args.held.now) (state c.put_word.new.held))
+    subst (Gathers (seen c.args.out.now) (seen c.put_word.new.out) (state c.args.held.now)
+    (state c.put_word.new.held))
     (sym (flat_map-map spaced word_bytes (take (i + 1) words)))
     (puts_at (seen c.args.out.now) (seen c.loop-word.out) (seen c.put_word.new.out)
     (state c.args.held.now) (state c.loop-word.held) (state c.put_word.new.held) none one words i

@@ -8,7 +8,8 @@ pub returns-in-Some : goal.returns-in-Some
 returns-in-Some c =
     c.is_lt.ensures ∙ ap is_lt c.cmp.ensures
     ∙ sym (after_last c.in-Some.field-0-1.now c.in-Some.last.now c.args.name.now)
-    ∙ ap (λ (l : List (List ℕ × List ℕ)). is_after l c.args.name.now) (sym c.in-Some.ensures.cases.0)
+    ∙ ap (λ (l : List (List ℕ × List ℕ)). is_after l c.args.name.now)
+    (sym c.in-Some.ensures.cases.0)
 
 pub returns-in-None : goal.returns-in-None
 returns-in-None c = after_nothing c.args.before.now c.args.name.now c.in-None.ensures.cases

@@ -270,5 +270,6 @@ returns-else-turn-2-clause-wants g c = λ budget.
 pub returns-else-turn-2-clause-grown : goal.returns-else-turn-2-clause-grown
 returns-else-turn-2-clause-grown g c = λ under may.
     let count = g.H.Host.fetched (g.H.Host.state c.args.host.now c.args.pages.now under) in
-    subst (Grows count) (sym (ap g.H.Host.fetched (c.turn-in-Ok-Call.ensures.state c.args.pages.now under)))
+    subst (Grows count) (sym (ap g.H.Host.fetched (c.turn-in-Ok-Call.ensures.state c.args.pages.now
+    under)))
     (grows_same count)

@@ -14,7 +14,8 @@ returns-in_err-unit-clause-refused c = λ why is.
 
 pub returns-in-Ok-clause-only : goal.returns-in-Ok-clause-only
 returns-in-Ok-clause-only c = λ one is verified.
-    ap Ok (ok_is one c.in_ok-unit.unit (c.in_ok-unit.ensures.only one is) ∙ sym c.in-Ok.ensures.kept)
+    ap Ok (ok_is one c.in_ok-unit.unit (c.in_ok-unit.ensures.only one is)
+    ∙ sym c.in-Ok.ensures.kept)
 
 pub returns-clause-only : goal.returns-clause-only
 returns-clause-only c = λ one is verified.

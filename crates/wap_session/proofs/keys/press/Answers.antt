@@ -46,7 +46,8 @@ returns-in-Pick-clause-acts g c = rw c.in-Pick.is c.follow_link.ensures
 pub returns-in-Pick-clause-taken : goal.returns-in-Pick-clause-taken
 returns-in-Pick-clause-taken g c = rw c.in-Pick.is (anyhow c.follow_link.result c.requires.own)
 
-pub returns-in_ok-enter_text-in-Enter-clause-acts : goal.returns-in_ok-enter_text-in-Enter-clause-acts
+pub returns-in_ok-enter_text-in-Enter-clause-acts :
+    goal.returns-in_ok-enter_text-in-Enter-clause-acts
 returns-in_ok-enter_text-in-Enter-clause-acts g c =
     let old = c.args.context.now in
     let new = c.enter_text.new.context in
@@ -64,7 +65,8 @@ pub returns-in-Choose-clause-acts : goal.returns-in-Choose-clause-acts
 returns-in-Choose-clause-acts g c = rw c.in-Choose.is c.choose_option.ensures
 
 pub returns-in-Choose-clause-taken : goal.returns-in-Choose-clause-taken
-returns-in-Choose-clause-taken g c = rw c.in-Choose.is (anyhow c.choose_option.result c.requires.own)
+returns-in-Choose-clause-taken g c =
+    rw c.in-Choose.is (anyhow c.choose_option.result c.requires.own)
 
 pub returns-in-Back-clause-acts : goal.returns-in-Back-clause-acts
 returns-in-Back-clause-acts g c = rw c.in-Back.is c.go_back.ensures
@@ -78,13 +80,15 @@ returns-in-Tick-clause-acts g c = rw c.in-Tick.is c.tick.ensures
 pub returns-in-Tick-clause-taken : goal.returns-in-Tick-clause-taken
 returns-in-Tick-clause-taken g c = rw c.in-Tick.is (anyhow c.tick.result c.requires.own)
 
-pub returns-in_err-enter_text-in-Enter-clause-acts : goal.returns-in_err-enter_text-in-Enter-clause-acts
+pub returns-in_err-enter_text-in-Enter-clause-acts :
+    goal.returns-in_err-enter_text-in-Enter-clause-acts
 returns-in_err-enter_text-in-Enter-clause-acts g c =
     Acts-wants _ (g.P.Pages.seen c.args.pages.now) (g.P.Pages.seen c.args.pages.now)
     c.args.context.now c.enter_text.new.context c.from_residual.result
     (Stays-same (g.P.Pages.seen c.args.pages.now)) c.from_residual.ensures.1
 
-pub returns-in_err-variable_lines-in-Vars-clause-acts : goal.returns-in_err-variable_lines-in-Vars-clause-acts
+pub returns-in_err-variable_lines-in-Vars-clause-acts :
+    goal.returns-in_err-variable_lines-in-Vars-clause-acts
 returns-in_err-variable_lines-in-Vars-clause-acts g c =
     Acts-wants _ (g.P.Pages.seen c.args.pages.now) (g.P.Pages.seen c.args.pages.now)
     c.args.context.now c.args.context.now c.from_residual-in_err-variable_lines-in-Vars.result
@@ -97,7 +101,8 @@ returns-in_err-ignore-in-Ok-clause-acts g c =
     c.args.context.now c.args.context.now c.from_residual-in_err-ignore-in-Ok.result
     (Stays-same (g.P.Pages.seen c.args.pages.now)) c.from_residual-in_err-ignore-in-Ok.ensures.1
 
-pub returns-in_ok-variable_lines-in-Vars-clause-acts : goal.returns-in_ok-variable_lines-in-Vars-clause-acts
+pub returns-in_ok-variable_lines-in-Vars-clause-acts :
+    goal.returns-in_ok-variable_lines-in-Vars-clause-acts
 returns-in_ok-variable_lines-in-Vars-clause-acts g c =
     rw c.in-Vars.is (Acts-shows
     (λ shelf world. record { world = world; lines = map variable_line world.vars })
@@ -165,7 +170,8 @@ returns-in_ok-take_push-in-Push-clause-own g c =
     winners_win (pushes_with c.args.inbox.now (push_at c.as_slice.result.now))
     c.take_push.new.inbox c.in_ok-take_push-in-Push.ensures.taken
 
-pub returns-in_err-entry_lines-in-Inbox-clause-acts : goal.returns-in_err-entry_lines-in-Inbox-clause-acts
+pub returns-in_err-entry_lines-in-Inbox-clause-acts :
+    goal.returns-in_err-entry_lines-in-Inbox-clause-acts
 returns-in_err-entry_lines-in-Inbox-clause-acts g c =
     Acts-wants _ (g.P.Pages.seen c.args.pages.now) (g.P.Pages.seen c.args.pages.now)
     c.args.context.now c.args.context.now c.from_residual-in_err-entry_lines-in-Inbox.result
@@ -173,7 +179,8 @@ returns-in_err-entry_lines-in-Inbox-clause-acts g c =
     c.from_residual-in_err-entry_lines-in-Inbox.ensures.1
 
 -- winners are the winners of themselves
-pub returns-in_ok-entry_lines-in-Inbox-clause-acts : goal.returns-in_ok-entry_lines-in-Inbox-clause-acts
+pub returns-in_ok-entry_lines-in-Inbox-clause-acts :
+    goal.returns-in_ok-entry_lines-in-Inbox-clause-acts
 returns-in_ok-entry_lines-in-Inbox-clause-acts g c =
     let winners = c.args.inbox.now in
     let lines = λ (all : List Indication). entry_lines 1 (inbox_of all) in

@@ -6,7 +6,8 @@ pub returns : goal.returns
 returns g c =
     rw (root_element g.B.Builder.makes c.args.input.now c.args.state.now c.args.lead
     c.args.bytes.now c.read_tag.new.state c.in_ok-token.token c.in_ok-token.rest.now
-    (rw c.go_to_tag_page.ensures at c.in_ok-token.ensures)) (rw c.root_tag-tag.ensures at c.read_node.ensures)
+    (rw c.go_to_tag_page.ensures at c.in_ok-token.ensures))
+    (rw c.root_tag-tag.ensures at c.read_node.ensures)
 
 pub returns-in_err-token : goal.returns-in_err-token
 returns-in_err-token g c =

@@ -17,7 +17,8 @@ returns-in_err-root g c =
     c.in_ok-version.ensures c.in_ok-identifier.ensures c.in_ok-charset.ensures
     c.in_ok-table.ensures c.in_ok-public.ensures
     c.new-input.ensures.total c.new-input.ensures.charset c.new-input.ensures.table
-    ∙ ap (told (makes.whole c.in_ok-version.version c.in_ok-public.public c.in_ok-charset.charset.0))
+    ∙ ap (told (makes.whole c.in_ok-version.version c.in_ok-public.public
+    c.in_ok-charset.charset.0))
     (c.in_err-root.ensures other))
 
 pub returns : goal.returns
@@ -30,6 +31,7 @@ returns g c =
     c.in_ok-version.ensures c.in_ok-identifier.ensures c.in_ok-charset.ensures
     c.in_ok-table.ensures c.in_ok-public.ensures
     c.new-input.ensures.total c.new-input.ensures.charset c.new-input.ensures.table
-    ∙ ap (told (makes.whole c.in_ok-version.version c.in_ok-public.public c.in_ok-charset.charset.0))
+    ∙ ap (told (makes.whole c.in_ok-version.version c.in_ok-public.public
+    c.in_ok-charset.charset.0))
     c.in_ok-root.ensures
     ∙ ap (λ whole. Ok (whole, c.in_ok-root.rest.now)) (sym c.whole.ensures)

@@ -78,7 +78,8 @@ add_next_kid-returns-in_ok-rest-in-Element g t c =
     (sym c.content_mark.ensures ∙ c.in-Element.is)
     ∙ ap (read_as (λ content. (true, content))) c.in_ok-rest-in-Element.ensures
 
-pub add_next_kid-returns-in_ok-add_instruction-in-Pi : goal.add_next_kid-returns-in_ok-add_instruction-in-Pi
+pub add_next_kid-returns-in_ok-add_instruction-in-Pi :
+    goal.add_next_kid-returns-in_ok-add_instruction-in-Pi
 add_next_kid-returns-in_ok-add_instruction-in-Pi g t c =
     let known = c.args.content.now in
     let makes = g.B.Builder.makes in
@@ -86,7 +87,8 @@ add_next_kid-returns-in_ok-add_instruction-in-Pi g t c =
     c.in_ok-lead.lead c.args.bytes.now c.in_ok-lead.rest.now
     (rw (c.total.ensures, c.tag_page.ensures) at c.in_ok-lead.ensures)
     (sym c.content_mark.ensures ∙ c.in-Pi.is)
-    ∙ ap (λ read. read_as (λ content. (true, content)) (read_as (makes.instruction_added known) read))
+    ∙ ap (λ read. read_as (λ content. (true, content))
+    (read_as (makes.instruction_added known) read))
     c.in_ok-instruction-in-Pi.ensures
     ∙ ap (λ content. Ok (
       ((true, content), c.read_instruction.new.state),

@@ -36,7 +36,8 @@ returns-in-None g c =
     c.args.self.now c.ask_back.new.self c.args.lines.now c.args.sets c.args.earlier
     (g.P.Pages.seen c.ask_back.new.pages) c.ask_back.new.lines c.in_ok-here.field-0
     c.ask_back.result (c.in_ok-here.ensures.is
-    ∙ ap (λ (u : Url). page_under u (place_held c.args.self.now)) c.url.ensures) c.in-None.is c.ask_back.ensures
+    ∙ ap (λ (u : Url). page_under u (place_held c.args.self.now)) c.url.ensures) c.in-None.is
+    c.ask_back.ensures
 
 pub returns-in_err-here : goal.returns-in_err-here
 returns-in_err-here g c =

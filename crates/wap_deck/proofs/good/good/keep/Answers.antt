@@ -61,7 +61,8 @@ invariant_of-result c =
     subst (λ (l : List ℕ).
     IsKept c.in_ok-names.names c.places-table.result.1 l c.in_ok-cards.cards c.as_slice.result.now)
     c.as_slice-whole.ensures c.in_ok-cards.ensures in
-    subst (IsKept c.in_ok-names.names c.places-table.result.1 c.in_ok-bytes.bytes c.in_ok-cards.cards)
+    subst (IsKept c.in_ok-names.names c.places-table.result.1 c.in_ok-bytes.bytes
+    c.in_ok-cards.cards)
     c.as_slice.ensures kept
 
 pub returns : goal.returns

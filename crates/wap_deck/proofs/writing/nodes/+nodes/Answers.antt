@@ -20,7 +20,8 @@ use Rattle.wap_deck.proofs.WritingLemmas.Told.{told_more, told_all, text_told, n
 use Rattle.wap_deck.proofs.WritingLemmas.Told.{level_of}
 use Rattle.wap_deck.proofs.writing.nodes.+nodes.Goals as goal
 
-pub write_content-returns-then-not-give_content-clause-written : goal.write_content-returns-then-not-give_content-clause-written
+pub write_content-returns-then-not-give_content-clause-written :
+    goal.write_content-returns-then-not-give_content-clause-written
 write_content-returns-then-not-give_content-clause-written t c =
     let names = c.args.table.now in
     let spell = kid_spelling names (element_spelling names c.args.levels) in
@@ -41,13 +42,15 @@ write_content-returns-clause-written t c =
     c.in_ok-write_items.ensures.written
     c.in_ok-push.ensures.ok
 
-pub write_item-returns-then-levels-eq0-clause-written : goal.write_item-returns-then-levels-eq0-clause-written
+pub write_item-returns-then-levels-eq0-clause-written :
+    goal.write_item-returns-then-levels-eq0-clause-written
 write_item-returns-then-levels-eq0-clause-written t c =
     let none : c.args.levels ≡ 0 = (let is = c.if-levels-eq0.true in omega arith) in
     none_written c.args.table.now c.args.levels c.args.item.now c.in-Node.node c.in-Node.is none
     c.args.output.now
 
-pub write_item-returns-in_ok-write_parts-in-Text-clause-written : goal.write_item-returns-in_ok-write_parts-in-Text-clause-written
+pub write_item-returns-in_ok-write_parts-in-Text-clause-written :
+    goal.write_item-returns-in_ok-write_parts-in-Text-clause-written
 write_item-returns-in_ok-write_parts-in-Text-clause-written t c =
     text_written c.args.table.now c.args.levels c.args.item.now c.in-Text.parts c.in-Text.is
     c.args.output.now c.write_parts.new.output
@@ -55,7 +58,8 @@ write_item-returns-in_ok-write_parts-in-Text-clause-written t c =
     ∙ ap (λ (parts : List Part). written (each part_spelling parts) c.args.output.now)
     c.as_slice.ensures)
 
-pub write_item-returns-in_ok-write_node-in-Node-clause-written : goal.write_item-returns-in_ok-write_node-in-Node-clause-written
+pub write_item-returns-in_ok-write_node-in-Node-clause-written :
+    goal.write_item-returns-in_ok-write_node-in-Node-clause-written
 write_item-returns-in_ok-write_node-in-Node-clause-written t c =
     let few : 0 < c.args.levels = (let some = c.if-levels-eq0.false in omega arith) in
     node_written c.args.table.now c.args.levels c.args.item.now c.in-Node.node c.in-Node.is few

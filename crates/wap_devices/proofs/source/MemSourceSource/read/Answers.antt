@@ -3,14 +3,16 @@ use Rattle.std.proofs.Common.{length, ap, sym, ◌∙◌, arith}
 use Rattle.wap_devices.specs.Fakes.{SourceState, Schedule, called}
 use Rattle.wap_devices.specs.Sources.{ends_after}
 use Rattle.wap_base.proofs.Choices.{ok_same}
-use Rattle.std.proofs.lemmas.List.{nil_from_length, length-take, length-drop, drop-drop, take_at, drop_at}
+use Rattle.std.proofs.lemmas.List.{nil_from_length, length-take, length-drop, drop-drop, take_at}
+use Rattle.std.proofs.lemmas.List.{drop_at}
 use Rattle.wap_devices.proofs.Transfers.{taken, given}
 use Rattle.wap_devices.proofs.source.MemSourceSource.read.Goals as goal
 
 -- what was left is what was read, and what is left now
 left_split : (c : goal.After-add_if)
     → c.args.self.now.left
-    ≡ take c.min-count.result (c.copy_from_slice.new.self ++ drop c.min-count.result c.args.buffer.now)
+    ≡ take c.min-count.result (c.copy_from_slice.new.self ++ drop c.min-count.result
+    c.args.buffer.now)
     ++ drop (c.self.inside.at + c.min-count.result) c.self.inside.bytes
 left_split c =
     let bytes = c.self.inside.bytes in
@@ -36,7 +38,8 @@ returns-clause-after c =
     let count = c.min-count.result in
     let left_is : c.split_at.result.1.now ≡ drop at bytes =
     c.split_at.ensures.back ∙ ap (drop at) c.as_slice.ensures in
-    let count_is : count ≡ min c.self.inside.piece (min (length c.args.buffer.now) (length (drop at bytes))) =
+    let count_is : count ≡ min c.self.inside.piece
+    (min (length c.args.buffer.now) (length (drop at bytes))) =
     c.min-count.ensures ∙ search (rules, c.min.ensures, left_is) in
     search (rules, given at count bytes, drop-drop count at bytes, count_is)
 
@@ -45,7 +48,8 @@ returns-clause-reads c =
     let bytes = c.self.inside.bytes in
     let at = c.self.inside.at in
     let count = c.min-count.result in
-    let room : count ≤ length c.args.buffer.now = omega (arith, c.min-count.ensures, c.min.ensures) in
+    let room : count ≤ length c.args.buffer.now = omega (arith, c.min-count.ensures, c.min.ensures)
+    in
     let left_is : c.split_at.result.1.now ≡ drop at bytes =
     c.split_at.ensures.back ∙ ap (drop at) c.as_slice.ensures in
     let copied : length c.copy_from_slice.new.self ≡ count =

@@ -27,4 +27,5 @@ returns-then-not-is_blank c =
 
 pub returns : goal.returns
 returns c =
-    c.in_default.ensures ∙ ap behind_blanks (sym c.in_default.ensures) ∙ c.loop-character.invariant.1
+    c.in_default.ensures ∙ ap behind_blanks (sym c.in_default.ensures)
+    ∙ c.loop-character.invariant.1

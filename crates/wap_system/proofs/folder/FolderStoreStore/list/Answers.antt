@@ -27,7 +27,8 @@ returns-in-Ok-clause-lists g c =
       names = λ pages agrees.
           names_right answers earlier found.items pages
           (subst (λ l. Agrees (Told answers l) pages) lists_are agrees);
-      ascending = subst (λ r. IfOk r (λ names. AreAscending names.items)) c.in-Ok.is c.names-answer.ensures;
+      ascending = subst (λ r. IfOk r (λ names. AreAscending names.items)) c.in-Ok.is
+          c.names-answer.ensures;
       fetches = search rules;
       listings = search rules;
       asked = record {

@@ -54,7 +54,8 @@ returns-in_err-browser-in-4-clause-serves g c =
     lacks_serves (λ view. library_call (shelf_of view.pages) (place_with view.deck) (fresh view)
     c.args.base.now (option_copied c.args.referer) c.args.library c.args.function
     c.args.arguments.items)
-    c.args.self.now c.browser.new.self (g.P.Pages.seen c.args.pages.now) c.from_residual-in_err-browser-in-4.result
+    c.args.self.now c.browser.new.self (g.P.Pages.seen c.args.pages.now)
+    c.from_residual-in_err-browser-in-4.result
     c.from_residual-in_err-browser-in-4.ensures.0 c.from_residual-in_err-browser-in-4.ensures.1
 
 pub returns-in_err-pure-in_default-clause-serves : goal.returns-in_err-pure-in_default-clause-serves
@@ -62,8 +63,10 @@ returns-in_err-pure-in_default-clause-serves g c =
     lacks_serves (λ view. library_call (shelf_of view.pages) (place_with view.deck) (fresh view)
     c.args.base.now (option_copied c.args.referer) c.args.library c.args.function
     c.args.arguments.items)
-    c.args.self.now c.pure.new.self (g.P.Pages.seen c.args.pages.now) c.from_residual-in_err-pure-in_default.result
-    c.from_residual-in_err-pure-in_default.ensures.0 c.from_residual-in_err-pure-in_default.ensures.1
+    c.args.self.now c.pure.new.self (g.P.Pages.seen c.args.pages.now)
+    c.from_residual-in_err-pure-in_default.result
+    c.from_residual-in_err-pure-in_default.ensures.0
+    c.from_residual-in_err-pure-in_default.ensures.1
 
 pub returns-in-3-clause-serves : goal.returns-in-3-clause-serves
 returns-in-3-clause-serves g c =

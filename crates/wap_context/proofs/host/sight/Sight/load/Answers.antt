@@ -8,7 +8,8 @@ use Rattle.wap_world.specs.scripting.Loading.{loaded}
 use Rattle.wap_world.specs.scripting.Hosting.{within, load_call}
 use Rattle.wap_world.specs.scripting.UnitSites.{shelf_of}
 use Rattle.wap_world.specs.scripting.Views.{fresh}
-use Rattle.wap_context.proofs.HostLemmas.Serving.{lacks_serves, serves_as, gave_serves, nothing_gave}
+use Rattle.wap_context.proofs.HostLemmas.Serving.{lacks_serves, serves_as, gave_serves}
+use Rattle.wap_context.proofs.HostLemmas.Serving.{nothing_gave}
 use Rattle.wap_context.proofs.HostLemmas.Loads.{load_is, after_url}
 use Rattle.wap_context.proofs.host.sight.Sight.load.Goals as goal
 
