@@ -1,2 +1,3 @@
 mod Crossing
+mod Histories
 pub mod Standing
