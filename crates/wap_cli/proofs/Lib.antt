@@ -1,4 +1,3 @@
-pub mod MemoryLemmas
 pub mod Writing
 pub mod Answering
 pub mod Serving

@@ -17,15 +17,14 @@ use Rattle.wap_pages.specs.declared.fault.PageFault.{PageFault}
 use Rattle.wap_devices.proofs.Telling.{grew_nothing}
 use Rattle.wap_cli.specs.browse.Plays.{opened}
 use Rattle.wap_cli.proofs.BrowseLemmas.Exits.{nothing_browses}
-use Rattle.wap_cli.proofs.MemoryLemmas.Pages.{reason_remembers}
 use Rattle.wap_pages.proofs.Fetching.{grew_asked}
 use Rattle.wap_cli.proofs.ResumeLemmas.Fetching.{found_page}
 use Rattle.wap_cli.proofs.ResumeLemmas.Going.{nothing_imaged, nothing_resumed}
 use Rattle.wap_cli.specs.prepare.Preparing.{Reports}
 use Rattle.wap_cli.proofs.PrepareLemmas.Ending.{nothing_done}
 use Rattle.wap_cli.proofs.ReplayLemmas.Over.{nothing_replayed}
-use Rattle.wap_cli.specs.Answers.{IsReasonOf, Answers, page_of}
-use Rattle.wap_cli.specs.Memory.{is_of_memory}
+use Rattle.wap_cli.specs.Answers.{Answers, page_of}
+use Rattle.wap_pages.specs.Memory.{is_of_memory}
 use Rattle.wap_cli.specs.Writing.{Writes}
 use Rattle.wap_cli.proofs.Writing.{writes_unrefused}
 use Rattle.wap_cli.specs.Devices.{Devices, uncached}
@@ -73,16 +72,17 @@ nothing_runs (Some (Replay one)) old =
 
 -- ---- what the store answered
 
--- a command that is refused has its reason
-reason_of : (command : PageCommand) (page : Option (List ℕ)) (before after : SinkSeen)
+-- a command that is refused isn't for want of memory
+fault_of : (command : PageCommand) (page : Option (List ℕ)) (before after : SinkSeen)
     (status : Status) → Answers command page before after status → (fault : PageFault)
-    → status ≡ Refused fault → IsReasonOf command page fault
-reason_of command page before after status (Answers.writes one text is puts) fault refused =
+    → status ≡ Refused fault → is_of_memory fault ≡ false
+fault_of command page before after status (Answers.writes one text is puts) fault refused =
     absurd (writes_unrefused (λ Wrote. Wrote text) before after one puts fault refused)
-reason_of command page before after status (Answers.refused found reason none same) fault refused =
+fault_of command page before after status (Answers.refused found reason plain none same) fault
+    refused =
     let is : found ≡ fault = cc in
-    subst (IsReasonOf command page) is reason
-reason_of command page before after status (Answers.no_memory same) fault refused = absurd cc
+    subst (λ (why : PageFault). is_of_memory why ≡ false) is plain
+fault_of command page before after status (Answers.no_memory same) fault refused = absurd cc
 
 module _ (command : PageCommand) (name : List ℕ) (store store_after : StoreSeen)
     (sink sink_after : SinkSeen) where
@@ -109,9 +109,7 @@ module _ (command : PageCommand) (name : List ℕ) (store store_after : StoreSee
   serves_page fetched status fetches answers =
       let page = page_of fetched in
       serves_by status (Ok fetched) fetches
-      (λ fault is. reason_remembers command page fault
-      (reason_of command page sink sink_after status answers fault is))
-      sink_after
+      (fault_of command page sink sink_after status answers) sink_after
       (ServesTo.answered status page (found_page store_after.known name fetched fetches.found)
       answers fetches.asked.steady fetches.fetches)
 

@@ -72,8 +72,7 @@ module _ {P Q : Type 0} (Are : P → Type 0) (network : P → Network) (AreToo :
       → Resumes Are network name old new status → Resumes AreToo network_too name old new status
   resumes_too name old new status (Resumes.goes_on saved so) =
       Resumes.goes_on saved (goes_on_too name old new status saved so)
-  resumes_too name old new status (Resumes.stops unbegun of_reason) =
-      Resumes.stops unbegun of_reason
+  resumes_too name old new status (Resumes.stops unbegun) = Resumes.stops unbegun
 
 -- ---- over the pages of a store
 

@@ -1,5 +1,5 @@
 -- What a command on one page comes to: verify, list, check, canon and compile. This project's own.
-use Rattle.std.specs.Prelude.{◌≡◌, ℕ, List, Option, Some, None, Result, Ok, Err, IfOk}
+use Rattle.std.specs.Prelude.{◌≡◌, ℕ, false, List, Option, Some, None, Result, Ok, Err, IfOk}
 use Rattle.wap_base.specs.Outcome.{Meets}
 use Rattle.wap_devices.specs.declared.store.Fetched.{Fetched}
 use Rattle.wap_devices.specs.declared.store.Fetched.TheVariants as fetched
@@ -15,6 +15,7 @@ use Rattle.wap_pages.specs.declared.fault.PageFault.TheVariants.{Missing}
 use Rattle.wap_cli.specs.inspect.Units.{IsVerifyLine, IsListing}
 use Rattle.wap_cli.specs.inspect.Documents.{IsCanonical, IsCheckLine}
 use Rattle.wap_cli.specs.inspect.Sources.{IsCompiled}
+use Rattle.wap_pages.specs.Memory.{is_of_memory, RefusesForFault}
 use Rattle.wap_pages.specs.Refusals.{RefusesUnit, RefusesVerify, RefusesDocument, RefusesCheck}
 use Rattle.wap_pages.specs.Refusals.{RefusesSource}
 use Rattle.wap_cli.specs.declared.status.Status.{Status}
@@ -47,6 +48,7 @@ pub record Finds (command : PageCommand) (bytes : List ℕ) (result : Result (Li
   -- or the reason
   pub refused : (fault : PageFault) → result ≡ Err (error.Refused fault)
       → IsReason command bytes fault
+  pub for_fault : RefusesForFault result
 
 -- the same, where the page may be missing
 abbrev pub IsTextOf : PageCommand → Option (List ℕ) → List ℕ → Type 0
@@ -72,8 +74,8 @@ pub data Answers (command : PageCommand) (page : Option (List ℕ)) (before afte
   -- it has a text, which was to be written
   writes : (status : Status) (text : List ℕ) → IsTextOf command page text
       → PutsTo text before after status → Answers command page before after status
-  -- it has none, for this reason
-  refused : (fault : PageFault) → IsReasonOf command page fault
+  -- it has none, for this reason, and not since memory ran out
+  refused : (fault : PageFault) → IsReasonOf command page fault → is_of_memory fault ≡ false
       → ((text : List ℕ) → ¬ IsTextOf command page text) → after ≡ before
       → Answers command page before after (Refused fault)
   -- memory ran out, and nothing was written

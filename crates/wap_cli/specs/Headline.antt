@@ -14,7 +14,7 @@ use Rattle.wap_cli.specs.declared.status.Status.{Status}
 use Rattle.wap_cli.specs.declared.status.Status.TheVariants.{Usage, Refused, StoreFault, NoMemory}
 use Rattle.wap_cli.specs.Statuses.{IsOrWants}
 use Rattle.wap_cli.specs.Answers.{IsPageOf, Answers}
-use Rattle.wap_cli.specs.Memory.{is_of_memory}
+use Rattle.wap_pages.specs.Memory.{is_of_memory}
 use Rattle.wap_cli.specs.Browsing.{BrowsesOver}
 use Rattle.wap_cli.specs.Devices.{Devices}
 use Rattle.wap_cli.specs.Replaying.{ReplaysOver}

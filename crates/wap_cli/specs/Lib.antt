@@ -10,7 +10,6 @@ pub mod Networks
 pub mod Devices
 pub mod Here
 pub mod Answers
-pub mod Memory
 pub mod Folders
 pub mod inspect
 pub mod prepare

@@ -1,5 +1,6 @@
 mod Bounds
 mod Causes
+mod Plain
 mod Firsts
 mod Limits
 mod Looping

@@ -1,7 +1,8 @@
 -- Why a source isn't compiled: what its tokens, its program, the names of this or the sizes of the
 -- unit are refused for. This project's own.
-use Rattle.std.specs.Prelude.{◌≡◌, ℕ, ◌<◌, ◌≤◌, List, length, take, slice_get, Some, Err}
+use Rattle.std.specs.Prelude.{◌≡◌, ◌≢◌, ℕ, ◌<◌, ◌≤◌, List, length, take, slice_get, Some, Err}
 use Rattle.std.specs.List.{All}
+use Rattle.wap_lex.specs.declared.fault.LexFault.TheVariants as lex
 use Rattle.wap_lex.specs.declared.token.Token.{Token}
 use Rattle.wap_lex.specs.Tokens.{AreTokens, IsRefused}
 use Rattle.wap_grammar.specs.declared.lexeme.Lexeme.{Lexeme}
@@ -17,6 +18,7 @@ use Rattle.wap_grammar.specs.reading.Programs.{program_at}
 use Rattle.wap_grammar.specs.declared.program.program.Function.{Function}
 use Rattle.wap_grammar.specs.declared.program.program.Program.{Program}
 use Rattle.wap_scope.specs.declared.fault.ScopeFault.{ScopeFault}
+use Rattle.wap_scope.specs.declared.fault.ScopeFault.TheVariants as scope
 use Rattle.wap_scope.specs.Scoped.{IsFault, IsScoped}
 use Rattle.wap_scope.specs.Faults.{faults, first_fault}
 use Rattle.wap_meaning.specs.compiled.Pool.{pool}
@@ -85,3 +87,10 @@ IsCompileFault src (Scope fault) = IsUnscoped src fault
 IsCompileFault src (TooManyConstants count) = NeedsMany src count
 IsCompileFault src (CodeTooLong function wide) = IsTooLong src function wide
 IsCompileFault src NoMemory = Unit {0}
+
+-- no fault in it says that memory ran out
+abbrev pub IsPlain : CompileFault → Type 0
+IsPlain (Lex fault) = fault ≢ lex.NoMemory
+IsPlain (Parse fault) = fault ≢ parse.NoMemory
+IsPlain (Scope fault) = fault ≢ scope.NoMemory
+IsPlain _ = Unit {0}

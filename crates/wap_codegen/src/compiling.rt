@@ -6,7 +6,7 @@ ghost use Rattle.wap_verify.specs.Sound.{IsVerified};
 ghost use Rattle.wap_grammar.specs.declared.program.program.Program.{Program};
 ghost use Rattle.wap_meaning.specs.compiled.Units.{compiled};
 ghost use Rattle.wap_meaning.specs.compiled.Accepted.{IsAccepted};
-ghost use Rattle.wap_codegen.specs.Faults.{IsCompileFault};
+ghost use Rattle.wap_codegen.specs.Faults.{IsCompileFault, IsPlain};
 ghost use Rattle.wap_codegen.specs.declared.fault.CompileFault.TheVariants as faults;
 
 use crate::CompileFault;
@@ -47,6 +47,8 @@ pub fn compile(alloc: Global, src: &[u8]) -> Result<Verified, CompileFault>
     // Each fault but out of memory is one of the source: what a layer refuses, or what is too many
     // or too long.
     ensures refused { IfErr result (IsCompileFault src.now) }
+    // Out of memory is said so, and not by a layer's fault.
+    ensures plain { IfErr result IsPlain }
 {
     let scoped = scoped_of(alloc, src)?;
     let unit = unit_of(alloc, scoped.program())?;

@@ -2,7 +2,7 @@
 ghost use Rattle.std.specs.Prelude.{◌≡◌, ◌<◌, ◌^◌, length, IfOk, IfErr};
 ghost use Rattle.wap_lex.specs.Tokens.{AreTokens};
 ghost use Rattle.wap_meaning.specs.compiled.Accepted.{IsSourceOf};
-ghost use Rattle.wap_codegen.specs.Faults.{IsCompileFault};
+ghost use Rattle.wap_codegen.specs.Faults.{IsCompileFault, IsPlain};
 
 use crate::CompileFault;
 use std::alloc::Global;
@@ -16,6 +16,7 @@ fn tokens_of(alloc: Global, src: &[u8]) -> Result<Vec<Token>, CompileFault>
     requires { length src.now < 2 ^ 31 }
     ensures found { IfOk result (λ tokens. AreTokens src.now tokens.items) }
     ensures fault { IfErr result (IsCompileFault src.now) }
+    ensures plain { IfErr result IsPlain }
 {
     match lex(alloc, src) {
         Ok(tokens) => Ok(tokens),
@@ -28,6 +29,7 @@ fn program_of(alloc: Global, src: &[u8], tokens: &[Token]) -> Result<Program, Co
     requires { AreTokens src.now tokens.now }
     ensures found { IfOk result (IsSourceOf src.now) }
     ensures fault { IfErr result (IsCompileFault src.now) }
+    ensures plain { IfErr result IsPlain }
 {
     match parse(alloc, src, tokens) {
         Ok(program) => Ok(program),
@@ -40,6 +42,7 @@ fn resolved(alloc: Global, src: &[u8], program: Program) -> Result<Scoped, Compi
     requires { IsSourceOf src.now program }
     ensures found { IfOk result (λ scoped. scoped ≡ program) }
     ensures fault { IfErr result (IsCompileFault src.now) }
+    ensures plain { IfErr result IsPlain }
 {
     match resolve(alloc, program) {
         Ok(scoped) => Ok(scoped),
@@ -52,6 +55,7 @@ pub(crate) fn scoped_of(alloc: Global, src: &[u8]) -> Result<Scoped, CompileFaul
     requires { length src.now < 2 ^ 31 }
     ensures found { IfOk result (λ scoped. IsSourceOf src.now scoped) }
     ensures fault { IfErr result (IsCompileFault src.now) }
+    ensures plain { IfErr result IsPlain }
 {
     let tokens = tokens_of(alloc, src)?;
     let program = program_of(alloc, src, tokens.as_slice())?;

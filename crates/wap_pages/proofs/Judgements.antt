@@ -62,9 +62,11 @@ use Rattle.wap_pages.specs.Judged.{page_where, AreBytes, IsDeckPage, IsUnitPage,
 use Rattle.wap_pages.specs.Judged.{IsScriptPage, IsTextPage, RefusesText}
 use Rattle.wap_pages.specs.Judged.{RefusesAs, Refuses, may_differ}
 use Rattle.wap_pages.specs.inside.Judging.{IsDeckIn, IsUnitIn, IsSourceIn, IsTextIn, IsPageAs}
+use Rattle.wap_pages.specs.Memory.{is_of_memory, RefusesForFault}
 use Rattle.wap_pages.specs.inside.Judging.{Judges, JudgesDeck}
 use Rattle.wap_pages.specs.Faults.{deck_error}
 use Rattle.wap_pages.proofs.Errors.{deck_cases}
+use Rattle.wap_pages.proofs.Memory.{deck_alone}
 use Rattle.wap_pages.proofs.Refusing.{by_deck}
 
 -- ---- documents
@@ -579,18 +581,28 @@ module _ (name bytes : List ℕ) where
   pub refused_judged : (answer : Result Page PageErr) → Judges (kind_of name) bytes answer
       → (why : PageFault) → answer ≡ Err (error.Refused why) → Refuses name bytes why
   refused_judged (Ok one) is why so = absurd cc
-  refused_judged (Err (error.Refused other)) is why so = subst (Refuses name bytes) same is
+  refused_judged (Err (error.Refused other)) is why so = subst (Refuses name bytes) same is.0
     where
       same : other ≡ why
       same = cc
   refused_judged (Err error.NoMemory) is why so = absurd cc
+
+  pub fault_judged : (answer : Result Page PageErr) → Judges (kind_of name) bytes answer
+      → RefusesForFault answer
+  fault_judged (Ok one) is why so = absurd cc
+  fault_judged (Err (error.Refused other)) is why so =
+      subst (λ (f : PageFault). is_of_memory f ≡ false) same is.1
+    where
+      same : other ≡ why
+      same = cc
+  fault_judged (Err error.NoMemory) is why so = absurd cc
 
   pub only_judged : (answer : Result Page PageErr) → Judges (kind_of name) bytes answer
       → (why : PageFault) → Refuses name bytes why → may_differ why ≡ false
       → Meets error.NoMemory (λ (one : Page). one) answer (Err (error.Refused why))
   only_judged (Ok one) is why refused alone = absurd (accepted_judged one is why refused)
   only_judged (Err (error.Refused other)) is why refused alone =
-      λ some. elim (one_fault why other refused is) [
+      λ some. elim (one_fault why other refused is.0) [
         | inl same ↦ ap (λ (f : PageFault). Err (error.Refused f)) same
         | inr both ↦ absurd (cc (sym both.0 ∙ alone))
       ]
@@ -637,12 +649,13 @@ judged_pages_fit contents distinct = record {
 
 -- ---- calls, step by step
 
--- bytes that aren't read as a document are no deck
-pub document_unread : (bytes : List ℕ) (why : PageErr)
-    → ((found : PageFault) → why ≡ error.Refused found → RefusesAs kind.Deck bytes found)
-    → Judges kind.Deck bytes (Err why)
-document_unread bytes (error.Refused found) is = is found refl
-document_unread bytes error.NoMemory is = tt
+-- bytes that aren't read are no page of the kind
+pub unread : (k : Kind) (bytes : List ℕ) (why : PageErr)
+    → ((found : PageFault) → why ≡ error.Refused found → RefusesAs k bytes found)
+    → ((found : PageFault) → why ≡ error.Refused found → is_of_memory found ≡ false)
+    → Judges k bytes (Err why)
+unread k bytes (error.Refused found) is for_fault = (is found refl, for_fault found refl)
+unread k bytes error.NoMemory is for_fault = tt
 
 -- what the deck of a document is judged, its bytes are
 pub document_read : (bytes : List ℕ) (document : Document) → IsDocument bytes document
@@ -651,22 +664,8 @@ pub document_read : (bytes : List ℕ) (document : Document) → IsDocument byte
 document_read bytes document spells (Ok one) is =
     record { document = document; spells = spells; deck = is }
 document_read bytes document spells (Err (error.Refused why)) is =
-    by_deck bytes document why spells is
+    (by_deck bytes document why spells is.0, is.1)
 document_read bytes document spells (Err error.NoMemory) is = tt
-
--- bytes that aren't read as a unit that may be run are no script
-pub unit_unread : (bytes : List ℕ) (why : PageErr)
-    → ((found : PageFault) → why ≡ error.Refused found → RefusesAs kind.Unit bytes found)
-    → Judges kind.Unit bytes (Err why)
-unit_unread bytes (error.Refused found) is = is found refl
-unit_unread bytes error.NoMemory is = tt
-
--- bytes that aren't compiled are no script
-pub source_unread : (bytes : List ℕ) (why : PageErr)
-    → ((found : PageFault) → why ≡ error.Refused found → RefusesAs kind.Source bytes found)
-    → Judges kind.Source bytes (Err why)
-source_unread bytes (error.Refused found) is = is found refl
-source_unread bytes error.NoMemory is = tt
 
 -- a deck that isn't good is refused for the first fault
 pub deck_refused_for : (deck : Deck) (why : DeckFault)
@@ -674,4 +673,4 @@ pub deck_refused_for : (deck : Deck) (why : DeckFault)
     → JudgesDeck deck (Err (deck_error why))
 deck_refused_for deck why is =
     deck_cases (λ (e : PageErr). JudgesDeck deck (Err e)) why (λ none. tt)
-    (λ some. IsDeckRefused.deck why (is some))
+    (λ some. (IsDeckRefused.deck why (is some), deck_alone why some))

@@ -1,5 +1,6 @@
 pub mod Errors
 mod Ends
+pub mod Memory
 pub mod Refusing
 pub mod Judgements
 mod Keeping

@@ -1,4 +1,5 @@
 pub mod Faults
+pub mod Memory
 pub mod Refusals
 pub mod Judged
 pub mod Printing

@@ -11,8 +11,7 @@ use wap_unit::UnitFault;
 use wap_verify::VerifyFault;
 use wap_wbxml::DocFault;
 
-/// Why a page is refused. A fault in it can say that memory ran out; neither `judge` nor the
-/// conversions below ever answer that.
+/// Why a page is refused. A fault in it can say that memory ran out; no call here answers that.
 #[derive(Debug, Drop, PartialEq, Eq)]
 pub enum PageFault {
     /// There is no such page.

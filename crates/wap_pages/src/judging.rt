@@ -2,6 +2,7 @@
 ghost use Rattle.std.specs.Prelude.{◌≡◌, ◌<◌, ◌^◌, false, length, IfOk, Err};
 ghost use Rattle.wap_base.specs.Outcome.{Meets};
 ghost use Rattle.wap_tokens.specs.markup.Normal.{IsNormal};
+ghost use Rattle.wap_pages.specs.Memory.{RefusesForFault};
 ghost use Rattle.wap_pages.specs.Judged.{page_of_bytes, Refuses, may_differ};
 ghost use Rattle.wap_pages.specs.inside.Judging.{Judges, JudgesDeck};
 ghost use Rattle.wap_pages.specs.declared.fault.PageErr.TheVariants as error;
@@ -24,6 +25,7 @@ pub fn judge(alloc: Global, name: &Text, bytes: &[u8]) -> Result<Page, PageErr>
         → ¬ Refuses name.now bytes.now fault) }
     ensures refused { (fault : PageFault) → result ≡ Err (error.Refused fault)
         → Refuses name.now bytes.now fault }
+    ensures for_fault { RefusesForFault result }
     ensures only { (fault : PageFault) → Refuses name.now bytes.now fault
         → may_differ fault ≡ false
         → Meets error.NoMemory (λ page. page) result (Err (error.Refused fault)) }

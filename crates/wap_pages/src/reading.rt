@@ -11,6 +11,7 @@ ghost use Rattle.wap_verify.specs.Sound.{IsVerified};
 ghost use Rattle.wap_grammar.specs.declared.program.program.Program.{Program};
 ghost use Rattle.wap_meaning.specs.compiled.Units.{compiled};
 ghost use Rattle.wap_meaning.specs.compiled.Accepted.{IsAccepted};
+ghost use Rattle.wap_pages.specs.Memory.{RefusesForFault};
 ghost use Rattle.wap_pages.specs.Refusals.{RefusesDocument, RefusesUnit, RefusesVerify};
 ghost use Rattle.wap_pages.specs.Refusals.{RefusesSource};
 ghost use Rattle.wap_pages.specs.declared.fault.PageErr.TheVariants as error;
@@ -31,6 +32,7 @@ pub fn document_in(alloc: Global, bytes: &[u8]) -> Result<Document, PageErr>
         → Meets error.NoMemory (λ document. document) result (Ok document) }
     ensures refused { (fault : PageFault) → result ≡ Err (error.Refused fault)
         → RefusesDocument bytes.now fault }
+    ensures for_fault { RefusesForFault result }
 {
     Ok(wap_wbxml::decode(alloc, bytes)?)
 }
@@ -44,6 +46,7 @@ pub fn deck_in(alloc: Global, bytes: &[u8]) -> Result<Deck, PageErr>
     ensures normal { IfOk result IsNormal }
     ensures refused { (fault : PageFault) → result ≡ Err (error.Refused fault)
         → RefusesDocument bytes.now fault }
+    ensures for_fault { RefusesForFault result }
 {
     Ok(read_deck(alloc, bytes)?)
 }
@@ -56,6 +59,7 @@ pub fn unit_in(alloc: Global, bytes: &[u8]) -> Result<Unit, PageErr>
         → Meets error.NoMemory (λ unit. unit) result (Ok unit) }
     ensures refused { (fault : PageFault) → result ≡ Err (error.Refused fault)
         → RefusesUnit bytes.now fault }
+    ensures for_fault { RefusesForFault result }
 {
     Ok(wap_unit::decode(alloc, bytes)?)
 }
@@ -68,6 +72,7 @@ pub fn verified_in(alloc: Global, bytes: &[u8]) -> Result<Verified, PageErr>
         → Meets error.NoMemory (λ verified. verified) result (Ok unit) }
     ensures refused { (fault : PageFault) → result ≡ Err (error.Refused fault)
         → RefusesVerify bytes.now fault }
+    ensures for_fault { RefusesForFault result }
 {
     let unit = unit_in(alloc, bytes)?;
     match verify(alloc, unit) {
@@ -85,6 +90,7 @@ pub fn compiled_in(alloc: Global, bytes: &[u8]) -> Result<Verified, PageErr>
         → Meets error.NoMemory (λ unit. unit) result (Ok (compiled p)) }
     ensures refused { (fault : PageFault) → result ≡ Err (error.Refused fault)
         → RefusesSource bytes.now fault }
+    ensures for_fault { RefusesForFault result }
 {
     Ok(compile(alloc, bytes)?)
 }

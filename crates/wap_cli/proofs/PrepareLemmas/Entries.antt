@@ -1,5 +1,5 @@
 -- What jobs came to is right for the pages of the store.
-use Rattle.std.proofs.Common.{◌≡◌, ℕ, false, List, [], ◌∷◌, map, Option, Some, None, Result, Ok}
+use Rattle.std.proofs.Common.{◌≡◌, ℕ, List, [], ◌∷◌, map, Result, Ok}
 use Rattle.std.proofs.Common.{refl, sym, ap, ap₂, subst, ◌∙◌, ◌+◌, ◌++◌, take, drop}
 use Rattle.std.proofs.Common.{length, append_assoc}
 use Rattle.std.specs.Prelude.{All, IfOk}
@@ -14,13 +14,10 @@ use Rattle.wap_base.specs.Texts.{AreAscending}
 use Rattle.wap_base.specs.declared.fault.NoMemory.{NoMemory}
 use Rattle.wap_devices.specs.Stores.{StoreSeen, Known, Grew, Lists}
 use Rattle.wap_devices.proofs.Telling.{agrees_before}
-use Rattle.wap_pages.specs.declared.fault.PageFault.{PageFault}
 use Rattle.wap_cli.specs.prepare.Reports.{Entry, AreEntries, IsVerdict, IsEntry}
 use Rattle.wap_cli.specs.Answers.{IsPageOf, page_of}
-use Rattle.wap_cli.specs.Memory.{is_of_memory}
 use Rattle.wap_cli.specs.prepare.Fetching.{Job, IsAnswered}
 use Rattle.wap_cli.specs.prepare.inside.Jobs.{IsRight}
-use Rattle.wap_cli.proofs.MemoryLemmas.Pages.{page_remembers}
 use Rattle.wap_cli.proofs.ResumeLemmas.Fetching.{page_later}
 
 -- answers that all are there are right for their jobs
@@ -51,17 +48,7 @@ same_names Right named (job ∷ jobs) (one ∷ all) right =
     ap₂ (λ (name : List ℕ) (names : List (List ℕ)). name ∷ names) (named job one right.0)
     (same_names Right named jobs all right.1)
 
-some_is : {one other : PageFault} → Some one ≡ Some other → one ≡ other
-some_is is = cc
-
--- no verdict is that memory ran out
-verdict_remembers : (name : List ℕ) (page : Option (List ℕ)) (fault : PageFault)
-    → IsVerdict name page (Some fault) → is_of_memory fault ≡ false
-verdict_remembers name None fault is =
-    subst (λ (why : PageFault). is_of_memory why ≡ false) (sym (some_is is)) refl
-verdict_remembers name (Some bytes) fault refuses = page_remembers name bytes fault refuses
-
--- and are right for the answers of the store
+-- they are right for the answers of the store
 entry_right : (known : Known) (job : Job) (entry : Entry) → IsAnswered known job
     → IsRight job entry → IsEntry known entry
 entry_right known job entry answered right = record {
@@ -70,10 +57,7 @@ entry_right known job entry answered right = record {
   verdict =
       subst (λ (name : List ℕ). IsVerdict name (page_of job.1) entry.1) (sym right.name)
       right.verdict;
-  of_reason = λ fault refused.
-      verdict_remembers job.0 (page_of job.1) fault
-      (subst (λ (verdict : Option PageFault). IsVerdict job.0 (page_of job.1) verdict) refused
-      right.verdict);
+  of_reason = right.for_fault;
 }
 
 pub all_right : (known : Known) (jobs : List Job) (entries : List Entry)

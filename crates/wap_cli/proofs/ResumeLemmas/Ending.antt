@@ -68,7 +68,8 @@ module _ (parts : ContextParts) (store mid : StoreSeen) (cache : Cache) (capacit
   pub missing_ends : Made (Ok what.Missing) → Ends (Refused page_fault.Missing)
   missing_ends made =
       ends_by (Refused page_fault.Missing) made.stays
-      (Fails.refused page_fault.Missing (lacks_missing parts mid cache made.is) made.asks.steady)
+      (Fails.refused page_fault.Missing (lacks_missing parts mid cache made.is) refl
+      made.asks.steady)
 
   -- the page is no deck: it was fetched anew, and judged
   pub refused_ends : (name : List ℕ) (last : StoreSeen) (status : Status)

@@ -71,16 +71,17 @@ module _ (name : List ℕ) (before after : StoreSeen) where
       → Hindered status
   unread_none bytes status fetches (inl is) =
       subst Hindered (sym is) Fails.no_memory
-  unread_none bytes status fetches (inr (why, is, refused)) =
+  unread_none bytes status fetches (inr (why, is, plain, refused)) =
       subst Hindered (sym is)
       (Fails.refused (page_fault.Image why)
-      (Hinders.refused bytes why (was_found bytes fetches) refused) fetches.asked.steady)
+      (Hinders.refused bytes why (was_found bytes fetches) refused) plain fetches.asked.steady)
 
   -- there is none
   pub missing_none : Fetches name before after (Ok fetched.Missing)
       → Hindered (Refused page_fault.Missing)
   missing_none fetches =
-      Fails.refused page_fault.Missing (Hinders.missing (was_missing fetches)) fetches.asked.steady
+      Fails.refused page_fault.Missing (Hinders.missing (was_missing fetches)) refl
+      fetches.asked.steady
 
   -- nothing is loaded
   pub loads_none : (status : Status) → Hindered status → IsFetched before after
@@ -111,20 +112,21 @@ module _ (name : List ℕ) (before after : StoreSeen) where
       → Undecked status
   deck_none bytes status fetches (inl is) =
       subst Undecked (sym is) Fails.no_memory
-  deck_none bytes status fetches (inr (inl (why, is, refused))) =
+  deck_none bytes status fetches (inr (inl (why, is, plain, refused))) =
       subst Undecked (sym is)
       (Fails.refused why
-      (IsCause.refused bytes why (was_found bytes fetches) refused) fetches.asked.steady)
+      (IsCause.refused bytes why (was_found bytes fetches) refused) plain fetches.asked.steady)
   deck_none bytes status fetches (inr (inr (is, accepted))) =
       subst Undecked (sym is)
       (Fails.refused page_fault.NotDeck
-      (IsCause.accepted bytes (was_found bytes fetches) accepted) fetches.asked.steady)
+      (IsCause.accepted bytes (was_found bytes fetches) accepted) refl fetches.asked.steady)
 
   -- there is none any more
   pub deck_gone : Fetches name before after (Ok fetched.Missing)
       → Undecked (Refused page_fault.Missing)
   deck_gone fetches =
-      Fails.refused page_fault.Missing (IsCause.missing (was_missing fetches)) fetches.asked.steady
+      Fails.refused page_fault.Missing (IsCause.missing (was_missing fetches)) refl
+      fetches.asked.steady
 
 -- ---- what a fetch comes to
 

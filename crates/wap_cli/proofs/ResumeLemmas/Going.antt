@@ -16,11 +16,10 @@ use Rattle.wap_pages.specs.Caches.{CachedPages, seen_over}
 use Rattle.wap_world.specs.Sessions.{Begun, world_of}
 use Rattle.wap_state.specs.Saved.{parts_of}
 use Rattle.wap_cli.specs.declared.status.Status.{Status}
-use Rattle.wap_cli.specs.declared.status.Status.TheVariants.{Refused, NoMemory}
+use Rattle.wap_cli.specs.declared.status.Status.TheVariants.{NoMemory}
 use Rattle.wap_cli.specs.browse.Outside.{Outside}
 use Rattle.wap_cli.specs.browse.Plays.{opened}
 use Rattle.wap_cli.specs.browse.Headline.{BrowsesSeen}
-use Rattle.wap_cli.proofs.MemoryLemmas.Pages.{hinders_remember}
 use Rattle.wap_cli.proofs.BrowseLemmas.Exits.{nothing_browses}
 use Rattle.wap_cli.proofs.BrowseLemmas.Forgetting.{may_too, with_cache, forget_cache, fresh_over}
 use Rattle.wap_cli.proofs.BrowseLemmas.Forgetting.{outside_over, over_fresh}
@@ -55,25 +54,16 @@ unbegun_same Cause old =
 
 pub nothing_resumed : (name : List ℕ) (old : Outside) → ResumesSeen name old old NoMemory
 nothing_resumed name old =
-    Resumes.stops (unbegun_same (Hinders old.pages.known name) old) (λ fault is. absurd cc)
+    Resumes.stops (unbegun_same (Hinders old.pages.known name) old)
 
 -- ---- causes that nothing is begun
-
--- what is refused has its cause
-cause_of : (Cause : PageFault → Type 0) (before after : ℕ) (status : Status)
-    → Fails Cause before after status → (fault : PageFault) → status ≡ Refused fault → Cause fault
-cause_of Cause before after status (Fails.refused found cause same) fault is =
-    let found_is : found ≡ fault = cc in
-    subst Cause found_is cause
-cause_of Cause before after status (Fails.store_fault rose) fault is = absurd cc
-cause_of Cause before after status Fails.no_memory fault is = absurd cc
 
 -- one cause is another, and a count is as it was before
 pub fails_as : (Cause Other : PageFault → Type 0) → ((why : PageFault) → Cause why → Other why)
     → (before now after : ℕ) → now ≡ before → (status : Status) → Fails Cause now after status
     → Fails Other before after status
-fails_as Cause Other turn before now after is status (Fails.refused why cause same) =
-    Fails.refused why (turn why cause) (same ∙ is)
+fails_as Cause Other turn before now after is status (Fails.refused why cause plain same) =
+    Fails.refused why (turn why cause) plain (same ∙ is)
 fails_as Cause Other turn before now after is status (Fails.store_fault rose) =
     Fails.store_fault (subst (λ (count : ℕ). count < after) is rose)
 fails_as Cause Other turn before now after is status Fails.no_memory = Fails.no_memory
@@ -123,8 +113,6 @@ module _ (name : List ℕ) (before mid after : StoreSeen) (capacity : ℕ)
   resumes_none none fetched =
       Resumes.stops
       (unbegun_by before mid capacity source sink (Hinders mid.known name) status none fetched)
-      (λ fault is. hinders_remember mid.known name fault
-      (cause_of (Hinders mid.known name) before.faults mid.faults status none fault is))
 
   -- after the fetch the store is as it was, but that it was asked once more, and told the bytes
   fetched_is : (saved : Saved) (loads : Loads name before mid (Ok saved))
@@ -173,8 +161,6 @@ module _ (name : List ℕ) (before mid after : StoreSeen) (capacity : ℕ)
         unread = unbegun.unread;
         unwritten = unbegun.unwritten;
       })
-      (λ fault is. hinders_remember after.known name fault
-      (cause_of (Hinders after.known name) before.faults after.faults status ends fault is))
 
   pub resumes_by : (saved : Saved) → Loads name before mid (Ok saved)
       → Continues saved now new status → ResumesSeen name old new status

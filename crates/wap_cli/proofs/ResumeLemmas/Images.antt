@@ -26,7 +26,7 @@ use Rattle.wap_push.specs.Pushes.{push_at}
 use Rattle.wap_world.specs.Sessions.{played}
 use Rattle.wap_session.specs.Feeding.{State, context_at_rest, step_of}
 use Rattle.wap_context.specs.Browsers.{Browser}
-use Rattle.wap_cli.specs.Memory.{is_of_memory}
+use Rattle.wap_pages.specs.Memory.{is_of_memory}
 use Rattle.wap_cli.specs.saving.Saving.{image_of}
 use Rattle.wap_cli.specs.declared.status.Status.{Status}
 use Rattle.wap_cli.specs.declared.status.Status.TheVariants.{Done, Refused}

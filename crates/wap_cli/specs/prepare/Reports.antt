@@ -16,7 +16,7 @@ use Rattle.wap_pages.specs.declared.kind.Kind.TheVariants as kind
 use Rattle.wap_pages.specs.Judged.{kind_of, Refuses}
 use Rattle.wap_pages.specs.Printing.{page_text}
 use Rattle.wap_cli.specs.Answers.{IsPageOf}
-use Rattle.wap_cli.specs.Memory.{is_of_memory}
+use Rattle.wap_pages.specs.Memory.{is_of_memory}
 
 -- ---- what a page is judged
 
@@ -25,6 +25,10 @@ abbrev pub IsVerdict : List ℕ → Option (List ℕ) → Option PageFault → T
 IsVerdict name (Some bytes) (Some fault) = Refuses name bytes fault
 IsVerdict name (Some bytes) None = (fault : PageFault) → ¬ Refuses name bytes fault
 IsVerdict name None verdict = verdict ≡ Some Missing
+
+-- which is no fault that says that memory ran out
+abbrev pub IsForFault : Option PageFault → Type 0
+IsForFault verdict = (fault : PageFault) → verdict ≡ Some fault → is_of_memory fault ≡ false
 
 -- a name, and what its page is judged
 abbrev pub Entry : Type 0
@@ -36,7 +40,7 @@ pub record IsEntry (known : Known) (entry : Entry) : Type 0 where
   pub page : Option (List ℕ)
   pub is : IsPageOf known entry.0 page
   pub verdict : IsVerdict entry.0 page entry.1
-  pub of_reason : (fault : PageFault) → entry.1 ≡ Some fault → is_of_memory fault ≡ false
+  pub of_reason : IsForFault entry.1
 
 -- the entries of all pages, in the order of the UTF-8 bytes of their names
 pub record AreEntries (known : Known) (entries : List Entry) : Type 0 where

@@ -22,7 +22,7 @@ use Rattle.wap_world.specs.Steps.{Step}
 use Rattle.wap_state.specs.Saved.{saved_world}
 use Rattle.wap_context.specs.Saved.{with_last_in, asked_for}
 use Rattle.wap_cli.specs.Answers.{IsPageOf}
-use Rattle.wap_cli.specs.Memory.{is_of_memory}
+use Rattle.wap_pages.specs.Memory.{is_of_memory}
 use Rattle.wap_cli.specs.Networks.{Network, network_of}
 use Rattle.wap_cli.specs.declared.status.Status.{Status}
 use Rattle.wap_cli.specs.declared.status.Status.TheVariants.{Refused, StoreFault, NoMemory}
@@ -111,8 +111,8 @@ pub data Hinders (known : Known) (name : List ℕ) : PageFault → Type 0 where
 -- a command ends that begins nothing, by the store's counts of faults: with each status, and with
 -- no other
 pub data Fails (Cause : PageFault → Type 0) (before after : ℕ) : Status → Type 0 where
-  -- for one of these causes
-  refused : (fault : PageFault) → Cause fault → after ≡ before
+  -- for one of these causes, and not since memory ran out
+  refused : (fault : PageFault) → Cause fault → is_of_memory fault ≡ false → after ≡ before
       → Fails Cause before after (Refused fault)
   store_fault : before < after → Fails Cause before after StoreFault
   no_memory : Fails Cause before after NoMemory
@@ -149,9 +149,7 @@ pub data Resumes {P : Type 0} (Are : P → Type 0) (network : P → Network) (na
     (old new : Outside) (status : Status) : Type 0 where
   goes_on : (saved : Saved) → GoesOn Are network name old new status saved
       → Resumes Are network name old new status
-  -- out of memory is no reason to refuse
   stops : Unbegun (Hinders new.pages.known name) old new status
-      → ((fault : PageFault) → status ≡ Refused fault → is_of_memory fault ≡ false)
       → Resumes Are network name old new status
 
 -- the same over the pages that are seen

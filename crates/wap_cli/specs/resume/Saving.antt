@@ -14,7 +14,7 @@ use Rattle.wap_world.specs.Steps.{Step, then_step}
 use Rattle.wap_world.specs.Sessions.{Begun, unpushed, session, played}
 use Rattle.wap_world.specs.scripting.UnitSites.{Pages}
 use Rattle.wap_state.specs.Saved.{parts_of, saved_world, IsAtRest}
-use Rattle.wap_cli.specs.Memory.{is_of_memory}
+use Rattle.wap_pages.specs.Memory.{is_of_memory}
 use Rattle.wap_cli.specs.Networks.{Network, network_of}
 use Rattle.wap_cli.specs.saving.Saving.{image_of}
 use Rattle.wap_cli.specs.declared.status.Status.{Status}

@@ -9,6 +9,7 @@ ghost use Rattle.wap_tokens.specs.markup.Normal.{IsNormal};
 ghost use Rattle.wap_keys.specs.declared.words.words.PageCommand.TheVariants as command;
 ghost use Rattle.wap_cli.specs.Answers.{Finds};
 ghost use Rattle.wap_cli.specs.inspect.Documents.{deck_line, IsDeckOf};
+ghost use Rattle.wap_pages.specs.Memory.{RefusesForFault};
 ghost use Rattle.wap_pages.specs.Refusals.{IsDeckRefused, RefusesCheck};
 ghost use Rattle.wap_pages.specs.declared.fault.PageErr.TheVariants as error;
 ghost use Rattle.wap_pages.specs.declared.fault.PageFault.{PageFault};
@@ -37,6 +38,7 @@ fn judge(alloc: Global, deck: &Deck) -> Result<(), PageErr>
     ensures only { IsGood deck.now → Meets error.NoMemory (λ none. none) result (Ok tt) }
     ensures refused { (fault : PageFault) → result ≡ Err (error.Refused fault)
         → IsDeckRefused deck.now fault }
+    ensures for_fault { RefusesForFault result }
 {
     judge_deck(alloc, deck)?;
     Ok(())
@@ -50,6 +52,7 @@ fn good_deck_in(alloc: Global, bytes: &[u8]) -> Result<Deck, PageErr>
         → Meets error.NoMemory (λ deck. deck) result (Ok (deck_of document)) }
     ensures refused { (fault : PageFault) → result ≡ Err (error.Refused fault)
         → RefusesCheck bytes.now fault }
+    ensures for_fault { RefusesForFault result }
 {
     let deck = deck_in(alloc, bytes)?;
     judge(alloc, &deck)?;

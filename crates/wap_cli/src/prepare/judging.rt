@@ -1,7 +1,7 @@
 //! Judging pages side by side.
 ghost use Rattle.std.specs.Prelude.{◌≡◌, ◌<◌, ◌^◌, Some, Ok, map, length, IfOk};
 ghost use Rattle.wap_devices.specs.Pages.{IsSmall};
-ghost use Rattle.wap_cli.specs.prepare.Reports.{IsVerdict};
+ghost use Rattle.wap_cli.specs.prepare.Reports.{IsVerdict, IsForFault};
 ghost use Rattle.wap_cli.specs.Answers.{page_of};
 ghost use Rattle.wap_cli.specs.prepare.inside.Jobs.{IsRight};
 
@@ -15,7 +15,8 @@ use wap_pages::{PageErr, PageFault, judge};
 /// The fault for which a page with these bytes is refused, or none.
 fn judge_bytes(alloc: Global, name: &Text, bytes: &[u8]) -> Result<Option<PageFault>, NoMemory>
     requires { length bytes.now < 2 ^ 31 }
-    ensures { IfOk result (IsVerdict name.now (Some bytes.now)) }
+    ensures verdict { IfOk result (IsVerdict name.now (Some bytes.now)) }
+    ensures for_fault { IfOk result IsForFault }
 {
     match judge(alloc, name, bytes) {
         Ok(_) => Ok(None),
@@ -27,7 +28,8 @@ fn judge_bytes(alloc: Global, name: &Text, bytes: &[u8]) -> Result<Option<PageFa
 /// The fault for which what a store answered is refused, or none.
 fn judge_page(alloc: Global, name: &Text, page: &Fetched) -> Result<Option<PageFault>, NoMemory>
     requires { IsSmall page.now }
-    ensures { IfOk result (IsVerdict name.now (page_of page.now)) }
+    ensures verdict { IfOk result (IsVerdict name.now (page_of page.now)) }
+    ensures for_fault { IfOk result IsForFault }
 {
     match page {
         Fetched::Found(bytes) => judge_bytes(alloc, name, bytes.as_slice()),

@@ -1,5 +1,5 @@
 -- What a call that judges answers. This project's own.
-use Rattle.std.specs.Prelude.{⊤, ◌≡◌, ℕ, List, Some, Result, Ok, Err}
+use Rattle.std.specs.Prelude.{⊤, ◌≡◌, ℕ, false, List, Some, Result, Ok, Err}
 use Rattle.wap_base.specs.Charsets.{text_in}
 use Rattle.wap_base.specs.declared.charset.Charset.TheVariants.{Utf8}
 use Rattle.wap_tokens.specs.declared.markup.document.Document.{Document}
@@ -19,6 +19,7 @@ use Rattle.wap_pages.specs.declared.kind.Kind.{Kind}
 use Rattle.wap_pages.specs.declared.kind.Kind.TheVariants as kind
 use Rattle.wap_pages.specs.declared.fault.PageErr.{PageErr}
 use Rattle.wap_pages.specs.declared.fault.PageErr.TheVariants.{Refused, NoMemory}
+use Rattle.wap_pages.specs.Memory.{is_of_memory}
 use Rattle.wap_pages.specs.Refusals.{IsDeckRefused}
 use Rattle.wap_pages.specs.Judged.{RefusesAs}
 
@@ -62,11 +63,11 @@ IsPageAs kind.Source bytes = IsSourceIn bytes
 -- the answer on bytes that are read as a page of a kind is right, unless memory runs out
 abbrev pub Judges : Kind → List ℕ → Result Page PageErr → Type 0
 Judges kind bytes (Ok one) = IsPageAs kind bytes one
-Judges kind bytes (Err (Refused why)) = RefusesAs kind bytes why
+Judges kind bytes (Err (Refused why)) = RefusesAs kind bytes why × (is_of_memory why ≡ false)
 Judges kind bytes (Err NoMemory) = ⊤
 
 -- so is the answer on a deck
 abbrev pub JudgesDeck : Deck → Result Page PageErr → Type 0
 JudgesDeck deck (Ok one) = IsDeck deck one
-JudgesDeck deck (Err (Refused why)) = IsDeckRefused deck why
+JudgesDeck deck (Err (Refused why)) = IsDeckRefused deck why × (is_of_memory why ≡ false)
 JudgesDeck deck (Err NoMemory) = ⊤

@@ -10,4 +10,4 @@ pub returns-in-Missing : goal.returns-in-Missing
 returns-in-Missing g c =
     let sink = g.O.Sink.seen c.args.out.now in
     subst (λ (page : Fetched). Answers c.args.command (page_of page) sink sink (Refused Missing))
-    (sym c.in-Missing.is) (Answers.refused Missing refl (λ text has. has) refl)
+    (sym c.in-Missing.is) (Answers.refused Missing refl refl (λ text has. has) refl)

@@ -22,4 +22,5 @@ returns-in-Err g c =
     (sym c.refused_by.ensures)
     (answers_error command.List c.args.bytes.now sink c.in-Err.error
     (λ fault is. c.in-Err.ensures.refused fault (ap Err is))
+    (λ fault is. c.in-Err.ensures.for_fault fault (ap Err is))
     (λ text is other. no_value is.0 c.in-Err.error (c.in-Err.ensures.only is.0 is.1 other)))

@@ -1,5 +1,5 @@
 -- Fetching what was saved, and finding the deck of its current card. This project's own.
-use Rattle.std.specs.Prelude.{◌≡◌, ◌⊎◌, ◌≤◌, ℕ, List, [], ◌∷◌, Some, None, Result, ◌+◌}
+use Rattle.std.specs.Prelude.{◌≡◌, ◌⊎◌, ◌≤◌, ℕ, false, List, [], ◌∷◌, Some, None, Result, ◌+◌}
 use Rattle.std.specs.Prelude.{IfOk, IfErr, OnOk}
 use Rattle.wap_base.specs.Contents.{Contents}
 use Rattle.wap_devices.specs.Stores.{Known, told, Agrees, StoreSeen, Grew}
@@ -11,6 +11,7 @@ use Rattle.wap_image.specs.Refusal.{IsRefused}
 use Rattle.wap_pages.specs.declared.fault.PageFault.{PageFault}
 use Rattle.wap_pages.specs.declared.fault.PageFault.TheVariants.{Missing, Image, NotDeck}
 use Rattle.wap_pages.specs.Judged.{Refuses}
+use Rattle.wap_pages.specs.Memory.{is_of_memory}
 use Rattle.wap_cli.specs.Answers.{IsPageOf}
 use Rattle.wap_cli.specs.declared.status.Status.{Status}
 use Rattle.wap_cli.specs.declared.status.Status.TheVariants.{Refused, NoMemory}
@@ -32,7 +33,8 @@ pub record IsFetched (before after : StoreSeen) : Type 0 where
 -- a command ends so whose bytes are no image
 abbrev pub IsUnread : List ℕ → Status → Type 0
 IsUnread bytes status = (status ≡ NoMemory)
-    ⊎ ((why : ImageFault) × (status ≡ Refused (Image why)) × IsRefused bytes why)
+    ⊎ ((why : ImageFault) × (status ≡ Refused (Image why)) × (is_of_memory (Image why) ≡ false)
+    × IsRefused bytes why)
 
 -- what was saved under a name is fetched, or why there is nothing
 pub record Loads (name : List ℕ) (before after : StoreSeen) (result : Result Saved Status) : Type 0
@@ -50,7 +52,8 @@ pub record Loads (name : List ℕ) (before after : StoreSeen) (result : Result S
 -- a command ends so whose page with these bytes is no deck
 abbrev pub IsDeckFault : List ℕ → List ℕ → Status → Type 0
 IsDeckFault name bytes status = (status ≡ NoMemory)
-    ⊎ ((why : PageFault) × (status ≡ Refused why) × Refuses name bytes why)
+    ⊎ ((why : PageFault) × (status ≡ Refused why) × (is_of_memory why ≡ false)
+    × Refuses name bytes why)
     ⊎ ((status ≡ Refused NotDeck) × ((why : PageFault) → ¬ Refuses name bytes why))
 
 -- why the page of a name is refused where it is no deck: unlike for a deck, it may be accepted

@@ -1,6 +1,7 @@
 use Rattle.std.proofs.Common.{sym, subst}
-use Rattle.wap_codegen.specs.Faults.{IsCompileFault}
+use Rattle.wap_codegen.specs.Faults.{IsCompileFault, IsPlain}
 use Rattle.wap_codegen.proofs.Causes.{parse_cause}
+use Rattle.wap_codegen.proofs.Plain.{plain_parse}
 use Rattle.wap_codegen.proofs.sources.program_of.Goals as goal
 
 pub returns-in-Err-clause-fault : goal.returns-in-Err-clause-fault
@@ -9,3 +10,7 @@ returns-in-Err-clause-fault c =
     (parse_cause c.args.src.now c.args.tokens.now c.requires c.in-Err.fault c.in-Err.ensures.only
     c.in-Err.ensures.syntax c.in-Err.ensures.nested c.in-Err.ensures.first
     c.in-Err.ensures.reads)
+
+pub returns-in-Err-clause-plain : goal.returns-in-Err-clause-plain
+returns-in-Err-clause-plain c =
+    subst IsPlain (sym c.from.ensures) (plain_parse c.in-Err.fault)

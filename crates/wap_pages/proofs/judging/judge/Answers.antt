@@ -1,7 +1,8 @@
 use Rattle.std.proofs.Common.{subst}
 use Rattle.wap_pages.specs.declared.kind.Kind.{Kind}
 use Rattle.wap_pages.specs.inside.Judging.{Judges}
-use Rattle.wap_pages.proofs.Judgements.{answer_page, answer_accepted, refused_judged, only_judged}
+use Rattle.wap_pages.proofs.Judgements.{answer_page, answer_accepted, refused_judged, fault_judged}
+use Rattle.wap_pages.proofs.Judgements.{only_judged}
 use Rattle.wap_pages.proofs.judging.judge.Goals as goal
 
 pub returns-clause-page : goal.returns-clause-page
@@ -25,5 +26,11 @@ returns-clause-refused c =
 pub returns-clause-only : goal.returns-clause-only
 returns-clause-only c =
     only_judged c.args.name.now c.args.bytes.now c.judge_by_kind.result
+    (subst (λ (k : Kind). Judges k c.args.bytes.now c.judge_by_kind.result)
+    c.of.ensures c.judge_by_kind.ensures)
+
+pub returns-clause-for_fault : goal.returns-clause-for_fault
+returns-clause-for_fault c =
+    fault_judged c.args.name.now c.args.bytes.now c.judge_by_kind.result
     (subst (λ (k : Kind). Judges k c.args.bytes.now c.judge_by_kind.result)
     c.of.ensures c.judge_by_kind.ensures)

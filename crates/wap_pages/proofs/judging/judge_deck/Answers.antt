@@ -6,7 +6,7 @@ use Rattle.wap_pages.specs.declared.fault.PageErr.{PageErr}
 use Rattle.wap_pages.specs.declared.kind.Kind.TheVariants as kind
 use Rattle.wap_pages.specs.inside.Judging.{Judges, JudgesDeck}
 use Rattle.wap_pages.proofs.Refusing.{by_document}
-use Rattle.wap_pages.proofs.Judgements.{document_unread, document_read}
+use Rattle.wap_pages.proofs.Judgements.{unread, document_read}
 use Rattle.wap_pages.proofs.judging.judge_deck.Goals as goal
 
 pub returns-in_err-deck : goal.returns-in_err-deck
@@ -14,8 +14,9 @@ returns-in_err-deck c =
     let left = err_from_is_err_and c.from_residual.result c.from_residual.ensures.1 in
     subst (λ (r : Result Page PageErr). Judges kind.Deck c.args.bytes.now r)
     (sym (left.1 ∙ ap Err left.2))
-    (document_unread c.args.bytes.now c.in_err-deck.field-0.0 (λ why is.
-    by_document c.args.bytes.now why (c.in_err-deck.ensures.refused why (ap Err is))))
+    (unread kind.Deck c.args.bytes.now c.in_err-deck.field-0.0 (λ why is.
+    by_document c.args.bytes.now why (c.in_err-deck.ensures.refused why (ap Err is)))
+    (λ why is. c.in_err-deck.ensures.for_fault why (ap Err is)))
 
 pub returns : goal.returns
 returns c =

@@ -4,7 +4,7 @@ use Rattle.wap_world.specs.declared.site.page.Page.{Page}
 use Rattle.wap_pages.specs.declared.fault.PageErr.{PageErr}
 use Rattle.wap_pages.specs.declared.kind.Kind.TheVariants as kind
 use Rattle.wap_pages.specs.inside.Judging.{Judges}
-use Rattle.wap_pages.proofs.Judgements.{unit_unread}
+use Rattle.wap_pages.proofs.Judgements.{unread}
 use Rattle.wap_pages.proofs.judging.judge_unit.Goals as goal
 
 pub returns-in_err-verified : goal.returns-in_err-verified
@@ -12,5 +12,6 @@ returns-in_err-verified c =
     let left = err_from_is_err_and c.from_residual.result c.from_residual.ensures.1 in
     subst (λ (r : Result Page PageErr). Judges kind.Unit c.args.bytes.now r)
     (sym (left.1 ∙ ap Err left.2))
-    (unit_unread c.args.bytes.now c.in_err-verified.field-0.0 (λ why is.
-    c.in_err-verified.ensures.refused why (ap Err is)))
+    (unread kind.Unit c.args.bytes.now c.in_err-verified.field-0.0
+    (λ why is. c.in_err-verified.ensures.refused why (ap Err is))
+    (λ why is. c.in_err-verified.ensures.for_fault why (ap Err is)))

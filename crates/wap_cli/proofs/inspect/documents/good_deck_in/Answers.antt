@@ -22,3 +22,16 @@ returns-in_err-judge-clause-refused c = λ why is.
     (subst (λ (deck : Deck). IsDeckRefused deck why) found.2
     (c.in_err-judge.ensures.refused why
     (ap Err (err_is _ (error.Refused why) (sym (left.1 ∙ ap Err left.2) ∙ is)))))
+
+pub returns-in_err-deck-clause-for_fault : goal.returns-in_err-deck-clause-for_fault
+returns-in_err-deck-clause-for_fault c = λ why is.
+    let left = err_from_is_err_and c.from_residual.result c.from_residual.ensures.1 in
+    c.in_err-deck.ensures.for_fault why
+    (ap Err (err_is _ (error.Refused why) (sym (left.1 ∙ ap Err left.2) ∙ is)))
+
+pub returns-in_err-judge-clause-for_fault : goal.returns-in_err-judge-clause-for_fault
+returns-in_err-judge-clause-for_fault c = λ why is.
+    let left = err_from_is_err_and c.from_residual-in_err-judge.result
+    c.from_residual-in_err-judge.ensures.1 in
+    c.in_err-judge.ensures.for_fault why
+    (ap Err (err_is _ (error.Refused why) (sym (left.1 ∙ ap Err left.2) ∙ is)))
