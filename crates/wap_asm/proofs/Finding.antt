@@ -1,10 +1,10 @@
 -- What is found in a list, where a test by pairs holds of it.
 use Rattle.std.proofs.Common.{◌≡◌, Bool, true, ◌&&◌, List, [], ◌∷◌, Some, None, ◌⊎◌}
-use Rattle.std.proofs.Common.{inl, inr, sym, ◌∙◌, ap, subst, find, arith, ℕ, ◌+◌, ◌<◌, ◌++◌}
+use Rattle.std.proofs.Common.{inl, inr, sym, ◌∙◌, ap, subst, find, ℕ, ◌+◌, ◌<◌, ◌++◌}
 use Rattle.std.proofs.Common.{length, take, filter, slice_index_or, Option, refl}
 use Rattle.std.specs.List.{list_all, last_or}
 use Rattle.std.proofs.lemmas.Bool.{cases_Bool, and_parts, cond-true, cond-false, both_ways}
-use Rattle.std.proofs.lemmas.Option.{same_Some}
+use Rattle.std.proofs.lemmas.Option.{same_Some, none-some}
 use Rattle.std.proofs.lemmas.List.Elements.{filter_more}
 use Rattle.wap_asm.specs.Exact.{Among}
 
@@ -12,9 +12,6 @@ use Rattle.wap_asm.specs.Exact.{Among}
 abbrev pub each_pair : {X : Type 0} → (X → X → Bool) → List X → Bool
 each_pair q [] = true
 each_pair q (x ∷ xs) = list_all (q x) xs && each_pair q xs
-
-none_some : {A : Type 0} (x : A) → None ≡ Some x → ⊥
-none_some x e = grind arith
 
 pub all_among : {X : Type 0} (p : X → Bool) (xs : List X) (x : X) → list_all p xs ≡ true
     → Among x xs → p x ≡ true
@@ -26,7 +23,7 @@ all_among p (y ∷ ys) x all (inr later) =
 
 pub found : {X : Type 0} (p : X → Bool) (xs : List X) (x : X) → find p xs ≡ Some x
     → (p x ≡ true) × Among x xs
-found p [] x e = absurd (none_some x e)
+found p [] x e = absurd (none-some x e)
 found p (y ∷ ys) x e =
     elim (cases_Bool (p y)) [
       | inl is ↦

@@ -7,7 +7,7 @@ use Rattle.std.specs.Option.{option_map_or}
 use Rattle.std.proofs.lemmas.Bool.{cases_Bool, and_parts, leb-true, cond-true, cond-false}
 use Rattle.std.proofs.lemmas.Bool.{true≢false}
 use Rattle.std.proofs.lemmas.Bool.Decides.{nat_tests}
-use Rattle.std.proofs.lemmas.Option.{same_Some}
+use Rattle.std.proofs.lemmas.Option.{same_Some, none-some}
 use Rattle.wap_unit.specs.declared.row.OpName.{OpName}
 use Rattle.wap_unit.specs.contracts.row.OpName.{the_type}
 use Rattle.wap_unit.specs.declared.row.Row.{Row}
@@ -98,16 +98,13 @@ among_filter p (y ∷ ys) x among =
           (inr rest.0, rest.1)
     ]
 
-none_some : {A : Type 0} (x : A) → None ≡ Some x → ⊥
-none_some x e = grind arith
-
 -- the longest is a row of the operation
 pub longest_among : (operation : OpName) (row : Row) → longest operation ≡ Some row
     → Among row rows × (row.operation ≡ operation)
 unfolding longest
 longest_among operation row e =
     elim (last_among None (filter (is_of operation) rows) row e) [
-      | inl never ↦ absurd (none_some row never)
+      | inl never ↦ absurd (none-some row never)
       | inr among ↦
           let it = among_filter (is_of operation) rows row among in
           (it.0, same_true the_type tt row.operation operation it.1)
@@ -190,7 +187,7 @@ grows_by operation d e None (Some row) h at_d at_e =
     let is : is_spelling operation d 0 0 row ≡ true =
     rw (true_same the_type row.operation operation it.1) fits in
     let least = shortest_some operation d 0 0 row it.0 is in
-    absurd (none_some least.0 (sym at_d ∙ least.1))
+    absurd (none-some least.0 (sym at_d ∙ least.1))
 grows_by operation d e (Some low) (Some row) h at_d at_e =
     let it = shortest_found operation e 0 0 row at_e in
     let fits : holds row d 0 0 ≡ true = holds_less d e (limit row.count row.a) _ h it.2 in

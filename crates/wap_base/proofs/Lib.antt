@@ -2,6 +2,8 @@ pub mod CharsetLaws
 pub mod Choices
 pub mod Utf8Order
 pub mod Orders
+pub mod Options
+pub mod Plain
 pub mod TextLaws
 pub mod Utf8Lengths
 pub mod Splits

@@ -10,10 +10,10 @@ use Rattle.std.proofs.lemmas.Str.{encode_ascii}
 use Rattle.wap_base.specs.Names.{begins_name, continues_name, is_name}
 
 -- nothing past ASCII is in a name
-past-continues : (c : ℕ) → 128 ≤ c → continues_name c ≡ false
+pub past-continues : (c : ℕ) → 128 ≤ c → continues_name c ≡ false
 past-continues c past = grind (arith, nat_tests)
 
-past-begins : (c : ℕ) → 128 ≤ c → begins_name c ≡ false
+pub past-begins : (c : ℕ) → 128 ≤ c → begins_name c ≡ false
 past-begins c past = grind (arith, nat_tests)
 
 -- a byte past ASCII comes first

@@ -41,7 +41,7 @@ carried-suc allowed number some =
     ap (λ (b : Bool). cond b [] (carried allowed (number / 128) ++ (128 + number % 128) ∷ []))
     (nonzero number some)
 
-carried-zero : (allowed : ℕ) → carried allowed 0 ≡ []
+pub carried-zero : (allowed : ℕ) → carried allowed 0 ≡ []
 carried-zero zero = refl
 carried-zero (suc allowed) = refl
 

@@ -1,10 +1,22 @@
--- Texts as lists of characters: when two are the same, and which comes first. This project's own.
-use Rattle.std.specs.Prelude.{ℕ, Bool, List, nat_eq, encode_utf8_all}
+-- Texts as lists of characters: their beginning, when two are the same, and which of two comes
+-- first. This project's own.
+use Rattle.std.specs.Prelude.{ℕ, Bool, true, false, List, [], ◌∷◌, Option, Some, None, nat_eq}
+use Rattle.std.specs.Prelude.{encode_utf8_all}
 use Rattle.std.specs.List.{IsDistinct}
 use Rattle.std.specs.List.Sorted.{IsStrictlySortedBy}
 use Rattle.std.specs.Ordering.{nat_cmp}
 use Rattle.std.specs.Cmp.Lexicographic.{pointwise, slice_cmp}
 use Rattle.std.specs.declared.cmp.Ordering.{Ordering}
+
+-- nothing is in it
+abbrev pub is_empty : {A : Type 0} → List A → Bool
+is_empty [] = true
+is_empty (x ∷ xs) = false
+
+-- what comes first, and what follows it
+abbrev pub first_of : {A : Type 0} → List A → Option (A × List A)
+first_of [] = None
+first_of (x ∷ xs) = Some (x, xs)
 
 abbrev pub is_same_text : List ℕ → List ℕ → Bool
 is_same_text = pointwise nat_eq

@@ -1,4 +1,3 @@
-pub mod DialogWords
 pub mod Shelves
 pub mod Serving
 pub mod Comings

@@ -1,4 +1,3 @@
-pub mod ScriptLineWords
 pub mod Places
 pub mod Standing
 pub mod Plays

@@ -8,7 +8,7 @@ use wap_execution::Fatal;
 use wap_layout::buffer::Lines;
 
 /// The line of a script that ends for a reason.
-#[tactic(auto, using(crate::proofs::ScriptLineWords::words))]
+#[tactic(auto, using(wap_base::proofs::Plain::words))]
 fn script_line(alloc: Global, why: &Fatal) -> Result<Text, NoMemory>
     ensures { IfOk result (λ line. line ≡ script_line why.now) }
 {

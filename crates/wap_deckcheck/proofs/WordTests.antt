@@ -7,7 +7,7 @@ use Rattle.std.specs.List.{list_any, list_all}
 use Rattle.std.specs.Str.{chars, bytes_eq}
 use Rattle.std.proofs.lemmas.Bool.{and_parts}
 use Rattle.wap_base.specs.Texts.{is_same_text}
-use Rattle.wap_tokens.proofs.Plain.{same-plain}
+use Rattle.wap_base.proofs.Plain.{same-plain}
 use Rattle.wap_deckcheck.specs.inside.Rows.{is_plain_word}
 
 pub words_told : (bytes text : List ℕ) (words : List (List ℕ)) → bytes ≡ encode_utf8_all text

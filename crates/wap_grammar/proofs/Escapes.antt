@@ -196,7 +196,7 @@ whole_other c more (d ∷ rest) other = rw other refl
 
 -- ---- digits of surrogates
 
-digit_small : (c : ℕ) → is_ascii_hexdigit c ≡ true → digit_value c ≤ 15
+pub digit_small : (c : ℕ) → is_ascii_hexdigit c ≡ true → digit_value c ≤ 15
 digit_small c is = grind (arith, common_steps)
 
 -- the first two of four digits are above those of surrogates, or below them

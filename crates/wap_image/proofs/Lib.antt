@@ -2,4 +2,3 @@ pub mod ItemLaws
 pub mod ImageLaws
 pub mod SpellingLaws
 pub mod RulesLaws
-pub mod SchemeWord

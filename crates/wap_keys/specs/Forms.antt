@@ -52,7 +52,7 @@ pub data Form : Type 0 where
 abbrev pub greatest_u16 : ℕ
 greatest_u16 = 65535
 
--- and of 32
+-- the greatest number of 32 bits
 abbrev pub greatest_u32 : ℕ
 greatest_u32 = 4294967295
 

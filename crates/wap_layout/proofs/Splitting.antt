@@ -5,7 +5,8 @@ use Rattle.std.proofs.lemmas.List.{at_drop_more, length_push}
 use Rattle.std.proofs.Math.Seq.{drop-length}
 use Rattle.std.specs.Prelude.{filter, not}
 use Rattle.std.specs.List.{onto_first}
-use Rattle.wap_layout.specs.Blanks.{is_empty, unless_empty}
+use Rattle.wap_base.specs.Texts.{is_empty}
+use Rattle.wap_layout.specs.Blanks.{unless_empty}
 
 -- the parts of a text whose first character passes a test or doesn't
 abbrev pub parted : Bool → ℕ → List (List ℕ) → List (List ℕ)

@@ -1,6 +1,7 @@
 -- Words, and the blanks between them (WAP-191, section 11.8.1).
-use Rattle.std.specs.Prelude.{ℕ, Bool, true, false, not, ◌||◌, ◌==◌, List, [], ◌∷◌, filter}
+use Rattle.std.specs.Prelude.{ℕ, Bool, not, ◌||◌, ◌==◌, List, [], ◌∷◌, filter}
 use Rattle.std.specs.List.{slice_split, join_with_byte}
+use Rattle.wap_base.specs.Texts.{is_empty}
 use Rattle.wap_base.specs.Ascii.{space, tab, carriage_return, line_feed}
 
 -- a space, a tab, a carriage return or a line feed, and no other character
@@ -10,11 +11,6 @@ is_blank c = (c == space || c == tab) || (c == carriage_return || c == line_feed
 -- a line feed, which ends a line of preformatted text
 abbrev pub is_line_feed : ℕ → Bool
 is_line_feed c = c == line_feed
-
--- the text has no characters
-abbrev pub is_empty : List ℕ → Bool
-is_empty [] = true
-is_empty (c ∷ text) = false
 
 -- the text alone, or nothing where it is empty
 abbrev pub unless_empty : List ℕ → List (List ℕ)

@@ -7,6 +7,7 @@ use Rattle.std.specs.List.{list_all, list_any}
 use Rattle.std.proofs.lemmas.Bool.{and_parts, and_from, and_left, and_right, cond-true}
 use Rattle.std.proofs.lemmas.Bool.{cond-false, or_from, or_left, or_right}
 use Rattle.std.proofs.lemmas.Bool.Decides.{nat_tests}
+use Rattle.wap_base.specs.Texts.{is_empty}
 use Rattle.wap_base.specs.Names.{begins_name, continues_name, is_name}
 use Rattle.wap_lex.specs.declared.first.First.{First}
 use Rattle.wap_lex.specs.declared.first.First.TheVariants.{White as white, Letter as letter}
@@ -19,7 +20,7 @@ use Rattle.wap_lex.specs.Characters.{is_octal_digit, is_white, is_quote}
 use Rattle.wap_lex.specs.Numbers.{AreDigits, IsInteger, decimal, octal, hexadecimal}
 use Rattle.wap_lex.specs.Numbers.{IsFloat, pointed, scaled, both, is_x, is_e}
 use Rattle.wap_lex.specs.Strings.{IsString, quoted}
-use Rattle.wap_lex.specs.Comments.{IsComment, line, block, is_nothing}
+use Rattle.wap_lex.specs.Comments.{IsComment, line, block}
 use Rattle.wap_lex.specs.Marks.{marks, is_mark}
 use Rattle.wap_lex.specs.Tokens.{IsShape}
 use Rattle.wap_lex.specs.ByFirst.{first_of}
@@ -38,7 +39,7 @@ abbrev pub shape_at : First → List ℕ → Shape
 shape_at white rest = shape.Blank
 shape_at letter rest = cond (list_any (λ c. eqb c 61) rest) shape.Mark shape.Word
 shape_at digit rest = cond (begins_x rest || list_all is_ascii_digit rest) shape.Integer shape.Float
-shape_at point rest = cond (is_nothing rest) shape.Mark shape.Float
+shape_at point rest = cond (is_empty rest) shape.Mark shape.Float
 shape_at quoting rest = shape.Str
 shape_at slash rest = slash_shape rest
 shape_at other rest = shape.Mark

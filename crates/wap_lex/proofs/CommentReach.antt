@@ -9,10 +9,11 @@ use Rattle.std.proofs.lemmas.Bool.{or_right, or_cases, leb-true, both_ways}
 use Rattle.std.proofs.lemmas.List.{take_at}
 use Rattle.std.proofs.lemmas.List.Sums.{prefix_len-le-length}
 use Rattle.std.specs.Cmp.Lexicographic.{pointwise, bytes_decides}
+use Rattle.wap_base.specs.Texts.{is_empty}
 use Rattle.wap_base.specs.Texts.{is_same_text}
 use Rattle.wap_lex.specs.Characters.{is_in}
 use Rattle.wap_lex.specs.declared.class.Class.TheVariants.{InLine}
-use Rattle.wap_lex.specs.Comments.{is_nothing, ends_block, IsComment, line, block}
+use Rattle.wap_lex.specs.Comments.{ends_block, IsComment, line, block}
 use Rattle.wap_lex.specs.Marks.{marks, is_mark}
 use Rattle.wap_lex.specs.Calculation.{more_by, block_len, comment_len, first_len, mark_len}
 use Rattle.wap_lex.proofs.Runs.{run_all, run_over}
@@ -36,7 +37,7 @@ block_first star c rest false e some inner =
     let n = block_len (eqb c 42) rest in
     let len : block_len star (c ∷ rest) ≡ suc n = omega (arith, kept, from.1) in
     ap (λ (k : ℕ). ends_block star (take k (c ∷ rest))) len
-    ∙ cond-false (star && eqb c 47) (is_nothing (take n rest))
+    ∙ cond-false (star && eqb c 47) (is_empty (take n rest))
     (ends_block (eqb c 42) (take n rest)) e
     ∙ inner from.0
 
@@ -46,7 +47,7 @@ block_takes star [] some = absurd (omega arith)
 block_takes star (c ∷ rest) some =
     block_first star c rest (star && eqb c 47) refl some (block_takes (eqb c 42) rest)
 
-nothing_is : (text : List ℕ) → is_nothing text ≡ true → length text ≡ 0
+nothing_is : (text : List ℕ) → is_empty text ≡ true → length text ≡ 0
 nothing_is [] e = refl
 nothing_is (c ∷ text) e = absurd cc
 
@@ -58,13 +59,13 @@ block_again_first : (star : Bool) (c : ℕ) (text rest : List ℕ) (b : Bool) �
 block_again_first star c text rest true e fits inner =
     let over =
     nothing_is text
-    (sym (cond-true (star && eqb c 47) (is_nothing text) (ends_block (eqb c 42) text) e) ∙ fits) in
+    (sym (cond-true (star && eqb c 47) (is_empty text) (ends_block (eqb c 42) text) e) ∙ fits) in
     cond-true (star && eqb c 47) 1 (more_by 1 (block_len (eqb c 42) (text ++ rest))) e
     ∙ omega (arith, over)
 block_again_first star c text rest false e fits inner =
     let left =
     inner
-    (sym (cond-false (star && eqb c 47) (is_nothing text) (ends_block (eqb c 42) text) e) ∙ fits) in
+    (sym (cond-false (star && eqb c 47) (is_empty text) (ends_block (eqb c 42) text) e) ∙ fits) in
     let n = block_len (eqb c 42) (text ++ rest) in
     cond-false (star && eqb c 47) 1 (more_by 1 n) e ∙ more_some 1 n (omega (arith, left.0, left.1))
     ∙ omega (arith, left.0)

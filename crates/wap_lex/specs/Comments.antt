@@ -1,20 +1,16 @@
 -- Comments (WAP-193, section 6.1.4).
 use Rattle.std.specs.Prelude.{◌≡◌, ℕ, Bool, true, false, ◌&&◌, ◌==◌, if◌then◌else◌, List, [], ◌∷◌}
 use Rattle.std.specs.List.{list_all}
+use Rattle.wap_base.specs.Texts.{is_empty}
 use Rattle.wap_base.specs.Ascii.{asterisk, slash}
 use Rattle.wap_lex.specs.Characters.{is_in}
 use Rattle.wap_lex.specs.declared.class.Class.TheVariants.{InLine}
-
--- whether no bytes are left
-abbrev pub is_nothing : List ℕ → Bool
-is_nothing [] = true
-is_nothing (c ∷ rest) = false
 
 -- the first `*/` stands at the end; star tells whether a `*` stands before the text
 abbrev pub ends_block : Bool → List ℕ → Bool
 ends_block star [] = false
 ends_block star (c ∷ rest) =
-    if star && (c == slash) then is_nothing rest else ends_block (c == asterisk) rest
+    if star && (c == slash) then is_empty rest else ends_block (c == asterisk) rest
 
 -- up to a line's end, or from `/*` to the next `*/`
 pub data IsComment : List ℕ → Type 0 where

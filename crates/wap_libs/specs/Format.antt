@@ -2,6 +2,7 @@
 use Rattle.std.specs.Prelude.{ℕ, zero, suc, ◌-◌, List, [], ◌∷◌, ◌++◌, length, take, replicate}
 use Rattle.std.specs.Prelude.{ℤ, pos, negsuc, Option, Some, None, option_map}
 use Rattle.std.specs.Fmt.{decimal}
+use Rattle.wap_base.specs.Options.{◌>>=◌}
 use Rattle.wap_base.specs.Ascii.{space, hyphen, digit_zero}
 use Rattle.wap_value.specs.declared.value.Value.{Value}
 use Rattle.wap_value.specs.Conversion.{integer_of, text_of}
@@ -10,7 +11,7 @@ use Rattle.wap_libs.specs.declared.piece.Conversion.TheVariants.{Decimal, Float,
 use Rattle.wap_libs.specs.declared.piece.Specifier.{Specifier}
 use Rattle.wap_libs.specs.declared.piece.Piece.{Piece}
 use Rattle.wap_libs.specs.declared.piece.Piece.TheVariants.{Character, Specifier as Writes}
-use Rattle.wap_libs.specs.FormatReading.{◌>>=◌, pieces_of}
+use Rattle.wap_libs.specs.FormatReading.{pieces_of}
 
 -- a number in decimal, where 0 has no digit of its own
 abbrev pub own_digits : ℕ → List ℕ

@@ -1,20 +1,16 @@
 -- The pieces of a format by calculation. This project's own.
 use Rattle.std.specs.Prelude.{ℕ, zero, suc, ◌==◌, nat_le, if◌then◌else◌, List, [], ◌∷◌, length}
-use Rattle.std.specs.Prelude.{drop, Option, Some, None, option_map, option_and_then}
+use Rattle.std.specs.Prelude.{drop, Option, Some, None, option_map}
 use Rattle.std.specs.Char.{is_ascii_digit}
 use Rattle.std.specs.List.{prefix_len, take_while}
 use Rattle.std.specs.Str.Parse.{digits_value}
+use Rattle.wap_base.specs.Options.{◌>>=◌}
 use Rattle.wap_base.specs.Ascii.{percent_sign, full_stop}
 use Rattle.wap_libs.specs.declared.piece.Conversion.{Conversion}
 use Rattle.wap_libs.specs.declared.piece.Specifier.{Specifier}
 use Rattle.wap_libs.specs.declared.piece.Piece.{Piece}
 use Rattle.wap_libs.specs.declared.piece.Piece.TheVariants.{Character, Specifier as Writes}
 use Rattle.wap_libs.specs.FormatGrammar.{conversion_of}
-
--- what is none stays none
-infixl 10 ◌>>=◌
-abbrev pub ◌>>=◌ : {A B : Type 0} → Option A → (A → Option B) → Option B
-o >>= f = option_and_then f o
 
 -- what follows the digits that a text begins with
 abbrev pub behind_digits : List ℕ → List ℕ

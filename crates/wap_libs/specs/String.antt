@@ -3,10 +3,11 @@ use Rattle.std.specs.Prelude.{slice_get, option_and_then, Option, Some, None, �
 use Rattle.std.specs.Prelude.{if◌then◌else◌, List, [], length, ℤ, pos, negsuc}
 use Rattle.std.specs.declared.cmp.Ordering.{Ordering}
 use Rattle.std.specs.declared.cmp.Ordering.TheVariants.{Less, Equal, Greater}
+use Rattle.wap_base.specs.Texts.{is_empty}
 use Rattle.wap_base.specs.Texts.{text_cmp}
 use Rattle.wap_value.specs.declared.value.Value.{Value}
 use Rattle.wap_value.specs.declared.value.Value.TheVariants.{Int, Bool as Boolean, Str, Invalid}
-use Rattle.wap_value.specs.Conversion.{text_of, text_value, is_empty}
+use Rattle.wap_value.specs.Conversion.{text_of, text_value}
 use Rattle.wap_value.specs.Unary.{is_valid}
 use Rattle.wap_libs.specs.declared.function.StringFunction.{StringFunction}
 use Rattle.wap_libs.specs.declared.function.StringFunction.TheVariants.{Length, IsEmpty, CharAt}

@@ -1,2 +1,1 @@
-pub mod FolderTexts
 pub mod Normal

@@ -37,7 +37,7 @@ fn go_of(alloc: Global, n: u32, k: u32) -> Result<Item, NoMemory>
 }
 
 /// The do of the card.
-#[tactic(auto, using(crate::proofs::FolderTexts::words))]
+#[tactic(auto, using(wap_base::proofs::Plain::words))]
 fn do_of(alloc: Global, n: u32, k: u32) -> Result<Item, NoMemory>
     requires { k < 1000 }
     ensures { IfOk result (λ item. item ≡ do_of n k) }
@@ -58,7 +58,7 @@ fn paragraph_of(alloc: Global, n: u32, k: u32) -> Result<Item, NoMemory>
 }
 
 /// The card of a deck.
-#[tactic(auto, using(crate::proofs::FolderTexts::words))]
+#[tactic(auto, using(wap_base::proofs::Plain::words))]
 fn card_of(alloc: Global, n: u32, k: u32) -> Result<Item, NoMemory>
     requires { k < 1000 }
     ensures { IfOk result (λ item. item ≡ card_of n k) }

@@ -30,7 +30,7 @@ fn next_deck(n: u32, k: u32) -> u32
 }
 
 /// Appends the name of a deck's file.
-#[tactic(auto, using(crate::proofs::FolderTexts::words))]
+#[tactic(auto, using(wap_base::proofs::Plain::words))]
 fn add_file(text: &mut Text, k: u32) -> Result<(), NoMemory>
     ensures { OnOk result (text.new ≡ text.old ++ deck_file k) }
 {
@@ -40,7 +40,7 @@ fn add_file(text: &mut Text, k: u32) -> Result<(), NoMemory>
 }
 
 /// The name of a deck's page.
-#[tactic(auto, using(crate::proofs::FolderTexts::words))]
+#[tactic(auto, using(wap_base::proofs::Plain::words))]
 pub(crate) fn deck_name(alloc: Global, k: u32) -> Result<Text, NoMemory>
     ensures { IfOk result (λ name. name ≡ deck_name k) }
 {
@@ -50,7 +50,7 @@ pub(crate) fn deck_name(alloc: Global, k: u32) -> Result<Text, NoMemory>
 }
 
 /// Appends the second argument of the call, and its end.
-#[tactic(auto, using(crate::proofs::FolderTexts::words))]
+#[tactic(auto, using(wap_base::proofs::Plain::words))]
 fn add_next(text: &mut Text, k: u32) -> Result<(), NoMemory>
     ensures { OnOk result (text.new ≡ text.old ++ next_file k) }
 {
@@ -60,7 +60,7 @@ fn add_next(text: &mut Text, k: u32) -> Result<(), NoMemory>
 }
 
 /// The URL that calls the script with a deck's number and the deck that follows.
-#[tactic(auto, using(crate::proofs::FolderTexts::words))]
+#[tactic(auto, using(wap_base::proofs::Plain::words))]
 pub(crate) fn call_of(alloc: Global, n: u32, k: u32) -> Result<Text, NoMemory>
     requires { k < 1000 }
     ensures { IfOk result (λ call. call ≡ call_of n k) }
@@ -72,7 +72,7 @@ pub(crate) fn call_of(alloc: Global, n: u32, k: u32) -> Result<Text, NoMemory>
 }
 
 /// The title of a deck's card.
-#[tactic(auto, using(crate::proofs::FolderTexts::words))]
+#[tactic(auto, using(wap_base::proofs::Plain::words))]
 pub(crate) fn title_of(alloc: Global, k: u32) -> Result<Text, NoMemory>
     ensures { IfOk result (λ title. title ≡ title_of k) }
 {
@@ -82,7 +82,7 @@ pub(crate) fn title_of(alloc: Global, k: u32) -> Result<Text, NoMemory>
 }
 
 /// What a deck's card shows.
-#[tactic(auto, using(crate::proofs::FolderTexts::words))]
+#[tactic(auto, using(wap_base::proofs::Plain::words))]
 pub(crate) fn shown_of(alloc: Global, n: u32, k: u32) -> Result<Text, NoMemory>
     ensures { IfOk result (λ shown. shown ≡ shown_of n k) }
 {
@@ -92,7 +92,7 @@ pub(crate) fn shown_of(alloc: Global, n: u32, k: u32) -> Result<Text, NoMemory>
 }
 
 /// The name of the script's page.
-#[tactic(auto, using(crate::proofs::FolderTexts::words))]
+#[tactic(auto, using(wap_base::proofs::Plain::words))]
 pub(crate) fn script_name(alloc: Global) -> Result<Text, NoMemory>
     ensures { IfOk result (λ name. name ≡ script_name) }
 {

@@ -5,7 +5,7 @@ use Rattle.std.specs.Str.{IsUtf8, chars}
 use Rattle.std.proofs.lemmas.Bool.Decides.{nat_tests}
 use Rattle.std.proofs.lemmas.Str.{chars-nil}
 use Rattle.wap_base.proofs.TextLaws.{nil-from_chars}
-use Rattle.wap_mask.specs.Calculation.{is_empty}
+use Rattle.wap_base.specs.Texts.{is_empty}
 
 some_length : (b : ℕ) (bytes : List ℕ) → (length (b ∷ bytes) == 0) ≡ false
 some_length b bytes = grind (arith, nat_tests)

@@ -1,4 +1,3 @@
-pub mod Options
 pub mod Ends
 pub mod Taking
 pub mod SymbolLaws

@@ -7,16 +7,18 @@ use Rattle.std.specs.Int.{is_in_range}
 use Rattle.std.proofs.lemmas.Bool.{eqb-true, false≢true}
 use Rattle.std.proofs.lemmas.Bool.Decides.{nat_tests}
 use Rattle.std.proofs.lemmas.Option.{some_pair_parts}
+use Rattle.wap_base.specs.Options.{◌>>=◌}
+use Rattle.wap_base.specs.Texts.{is_empty, first_of}
 use Rattle.wap_mask.specs.declared.class.Class.{Class}
 use Rattle.wap_mask.specs.declared.symbol.Symbol.{Symbol}
 use Rattle.wap_mask.specs.declared.symbol.Symbol.TheVariants.{One, Exactly, UpTo, AnyNumber}
 use Rattle.wap_mask.specs.Characters.{class_of}
 use Rattle.wap_mask.specs.Grammar.{IsMask, nothing, letter, escaped, starred}
 use Rattle.wap_mask.specs.Grammar.{counted, RepeatsLast, any_text}
-use Rattle.wap_mask.specs.Calculation.{first_of, is_empty, is_misplaced, class_at}
-use Rattle.wap_mask.specs.Calculation.{symbol_at, symbols_at, symbols_of, ◌>>=◌}
+use Rattle.wap_mask.specs.Calculation.{is_misplaced, class_at}
+use Rattle.wap_mask.specs.Calculation.{symbol_at, symbols_at, symbols_of}
 use Rattle.wap_base.proofs.Choices.{chosen}
-use Rattle.wap_mask.proofs.Options.{bound}
+use Rattle.wap_base.proofs.Options.{bound}
 
 -- The text begins with the symbol, and the rest follows it.
 pub data IsSymbol : List ℕ → Symbol → List ℕ → Type 0 where

@@ -1,20 +1,17 @@
 -- Masks by calculation: which symbols a mask's text has, and whether they take a text. This
 -- project's own.
-use Rattle.std.specs.Prelude.{ℕ, ◌-◌, zero, suc, List, [], ◌∷◌, length, Bool, true, false}
+use Rattle.std.specs.Prelude.{ℕ, ◌-◌, zero, suc, List, [], ◌∷◌, length, Bool, false}
 use Rattle.std.specs.Prelude.{◌&&◌, not, ◌==◌, Option, Some, None, option_map}
-use Rattle.std.specs.Prelude.{option_and_then, unwrap_or, if◌then◌else◌}
+use Rattle.std.specs.Prelude.{unwrap_or, if◌then◌else◌}
 use Rattle.std.specs.Int.{is_in_range}
 use Rattle.wap_base.specs.Ascii.{asterisk, digit_zero, digit_one, digit_nine, backslash}
+use Rattle.wap_base.specs.Options.{◌>>=◌}
+use Rattle.wap_base.specs.Texts.{is_empty, first_of}
 use Rattle.wap_mask.specs.declared.class.Class.{Class}
 use Rattle.wap_mask.specs.declared.symbol.Symbol.{Symbol}
 use Rattle.wap_mask.specs.declared.symbol.Symbol.TheVariants.{One, Exactly, UpTo, AnyNumber}
 use Rattle.wap_mask.specs.Characters.{is_in, class_of}
 use Rattle.wap_mask.specs.Grammar.{any_text, repeats}
-
--- what is none stays none
-infixl 10 ◌>>=◌
-abbrev pub ◌>>=◌ : {A B : Type 0} → Option A → (A → Option B) → Option B
-o >>= f = option_and_then f o
 
 -- what follows the characters of a class that a text begins with
 abbrev pub after_all : Class → List ℕ → List ℕ
@@ -27,16 +24,6 @@ after_up_to class zero text = text
 after_up_to class (suc most) [] = []
 after_up_to class (suc most) (c ∷ text) =
     if is_in class c then after_up_to class most text else c ∷ text
-
--- no character is left
-abbrev pub is_empty : List ℕ → Bool
-is_empty [] = true
-is_empty (c ∷ text) = false
-
--- the first character and what follows it
-abbrev pub first_of : List ℕ → Option (ℕ × List ℕ)
-first_of [] = None
-first_of (c ∷ text) = Some (c, text)
 
 -- what follows the longest prefix that a symbol takes of a text
 abbrev pub after : Symbol → List ℕ → Option (List ℕ)

@@ -1,7 +1,7 @@
 //! A text, character by character.
 ghost use Rattle.std.specs.Prelude.{◌≡◌, [], ◌∷◌, MatchOption};
 ghost use Rattle.std.specs.Str.{chars};
-ghost use Rattle.wap_mask.specs.Calculation.{is_empty};
+ghost use Rattle.wap_base.specs.Texts.{is_empty};
 
 /// The first character of a text, and what follows it.
 pub(crate) fn first_of(text: &str) -> Option<(char, &str)>

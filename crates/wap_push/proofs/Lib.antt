@@ -7,4 +7,3 @@ pub mod NextWinners
 pub mod Entries
 pub mod One
 pub mod Winner
-pub mod FaultNames

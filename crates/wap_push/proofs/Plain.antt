@@ -7,7 +7,7 @@ use Rattle.std.specs.Map.{lookup}
 use Rattle.std.specs.Option.{option_map}
 use Rattle.std.specs.Str.{chars}
 use Rattle.std.proofs.lemmas.Bool.{and_parts, cond_both}
-use Rattle.wap_tokens.proofs.Plain.{is_plain, chars-plain}
+use Rattle.wap_base.proofs.Plain.{is_plain, chars-plain}
 use Rattle.wap_push.specs.declared.names.PushField.{PushField}
 use Rattle.wap_push.specs.Tables.{Start, start_rows, value_rows}
 use Rattle.wap_push.specs.inside.Rows.{lent_start}

@@ -8,7 +8,7 @@ use wap_base::{NoMemory, Text};
 use wap_wbxml::document_fault_text;
 
 /// Why what was pushed is no indication, as it is printed.
-#[tactic(auto, using(crate::proofs::FaultNames::words))]
+#[tactic(auto, using(wap_base::proofs::Plain::words))]
 pub fn push_fault_text(alloc: Global, fault: PushFault) -> Result<Text, NoMemory>
     ensures { IfOk result (λ text. text ≡ push_text fault) }
 {

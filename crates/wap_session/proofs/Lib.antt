@@ -1,4 +1,3 @@
-pub mod Letters
 pub mod Dotting
 pub mod Rules
 pub mod Alone

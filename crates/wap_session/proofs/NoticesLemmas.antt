@@ -1,2 +1,1 @@
 pub mod Noticing
-pub mod NoticeWords

@@ -19,6 +19,7 @@ pub fn refusal_lines(alloc: Global, refusal: Refusal) -> Result<Lines, NoMemory>
 }
 
 /// The line of a variable.
+#[tactic(auto, using(wap_base::proofs::Plain::words))]
 fn variable_line(alloc: Global, variable: &(Text, Text)) -> Result<Text, NoMemory>
     ensures { IfOk result (λ line. line ≡ variable_line variable.now) }
 {

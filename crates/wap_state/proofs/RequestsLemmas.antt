@@ -1,3 +1,2 @@
-pub mod RequestWords
 pub mod Prefixes
 pub mod Joining

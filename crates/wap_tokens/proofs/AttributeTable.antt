@@ -21,7 +21,7 @@ use Rattle.wap_tokens.specs.markup.Tables.{first_code, start_code}
 use Rattle.wap_tokens.specs.inside.Places.{start_place}
 use Rattle.wap_tokens.specs.Rows.{lent_start}
 use Rattle.wap_tokens.proofs.Found.{found_passes, lookup_alike, is_same_option, same_option}
-use Rattle.wap_tokens.proofs.Plain.{is_plain, chars-plain, same-plain}
+use Rattle.wap_base.proofs.Plain.{is_plain, chars-plain, same-plain}
 use denote.Enum.Bare.{same_true}
 
 -- ---- names, computed

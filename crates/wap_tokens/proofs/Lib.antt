@@ -1,5 +1,4 @@
 pub mod Found
-pub mod Plain
 pub mod TagTable
 pub mod AttributeTable
 pub mod ValueTable

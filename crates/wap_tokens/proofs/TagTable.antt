@@ -16,7 +16,7 @@ use Rattle.wap_tokens.specs.markup.Tables.{TagRow, is_same_tag, tag_rows, tag_by
 use Rattle.wap_tokens.specs.markup.Tables.{tag_of, code_of, tag_named, name_of_tag}
 use Rattle.wap_tokens.specs.inside.Places.{tag_place}
 use Rattle.wap_tokens.proofs.Found.{found_passes, lookup_alike, is_same_option, same_option}
-use Rattle.wap_tokens.proofs.Plain.{is_plain, same-plain}
+use Rattle.wap_base.proofs.Plain.{is_plain, same-plain}
 use denote.Enum.Bare.{same_true}
 
 -- ---- computed

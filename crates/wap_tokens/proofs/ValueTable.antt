@@ -13,7 +13,7 @@ use Rattle.wap_base.specs.Texts.{is_same_text}
 use Rattle.wap_tokens.specs.markup.Tables.{ValueRow, value_rows, attr_value}
 use Rattle.wap_tokens.specs.inside.Places.{value_place}
 use Rattle.wap_tokens.proofs.Found.{found_passes, is_same_option, same_option}
-use Rattle.wap_tokens.proofs.Plain.{is_plain, chars-plain}
+use Rattle.wap_base.proofs.Plain.{is_plain, chars-plain}
 
 -- ---- computed
 

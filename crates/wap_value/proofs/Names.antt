@@ -1,6 +1,6 @@
 -- Texts of ASCII are their own bytes.
-use Rattle.std.proofs.Common.{◌≡◌, ◌^◌, ◌<◌, ℤ, refl, arith}
-use Rattle.std.specs.Prelude.{codes, FitsSigned}
+use Rattle.std.proofs.Common.{◌≡◌, ◌^◌, ◌<◌, ℤ, arith}
+use Rattle.std.specs.Prelude.{FitsSigned}
 use Rattle.std.specs.Int.{w32}
 use Rattle.std.specs.Fmt.{signed_decimal}
 use Rattle.std.specs.Str.{chars}
@@ -12,11 +12,3 @@ pub decimal_is_itself : (z : ℤ) → FitsSigned w32 z → chars (signed_decimal
 decimal_is_itself z fits =
     let small : mag z < 2 ^ 63 = omega (arith, fits.sfits) in
     chars-IsAscii (signed_decimal z) (IsAscii-signed z small)
-
-pub true_is_itself : chars (codes "true") ≡ codes "true"
-unfolding chars
-true_is_itself = refl
-
-pub false_is_itself : chars (codes "false") ≡ codes "false"
-unfolding chars
-false_is_itself = refl

@@ -1,9 +1,10 @@
 -- What a value becomes where an operator wants an Integer, a Boolean or a String (WAP-193,
 -- "Automatic Data Type Conversion Rules"). `None`: there is no such conversion.
-use Rattle.std.specs.Prelude.{ℕ, Bool, true, false, not, List, [], ◌∷◌, ℤ, pos}
+use Rattle.std.specs.Prelude.{ℕ, Bool, true, false, not, List, ℤ, pos}
 use Rattle.std.specs.Prelude.{codes, Option, Some, None, if◌then◌else◌}
 use Rattle.std.specs.Ordering.{int_eq}
 use Rattle.std.specs.Fmt.{signed_decimal}
+use Rattle.wap_base.specs.Texts.{is_empty}
 use Rattle.wap_value.specs.declared.value.Value.{Value}
 use Rattle.wap_value.specs.declared.value.Value.TheVariants.{Int, Bool as Boolean, Str, Invalid}
 use Rattle.wap_value.specs.Numeral.{integer_of_text}
@@ -14,11 +15,6 @@ integer_of (Int z) = Some z
 integer_of (Boolean b) = Some (if b then pos 1 else pos 0)
 integer_of (Str text) = integer_of_text text
 integer_of Invalid = None
-
--- the text has no characters
-abbrev pub is_empty : List ℕ → Bool
-is_empty [] = true
-is_empty (c ∷ cs) = false
 
 -- the Boolean that a value becomes: false for 0 and for the empty String
 abbrev pub boolean_of : Value → Option Bool

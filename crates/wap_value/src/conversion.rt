@@ -64,7 +64,7 @@ fn decimal(alloc: Global, number: i32) -> Result<Text, NoMemory>
     Ok(Text::from_string(number.to_string(alloc)?))
 }
 
-#[tactic(auto, using(crate::proofs::Names::true_is_itself, crate::proofs::Names::false_is_itself))]
+#[tactic(auto, using(wap_base::proofs::Plain::words))]
 fn truth_name(truth: bool) -> &'static str
     ensures { chars result.now ≡ (if truth then codes "true" else codes "false") }
 {

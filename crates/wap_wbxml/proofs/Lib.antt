@@ -15,4 +15,3 @@ pub mod ElementLaws
 pub mod DocumentLaws
 pub mod Answering
 pub mod SpellingLemmas
-pub mod FaultNames

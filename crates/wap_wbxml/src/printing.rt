@@ -10,7 +10,7 @@ use wap_base::{NoMemory, Text};
 use wap_devices::{Failed, Sink, print_name, print_one};
 
 /// The name of a fault.
-#[tactic(auto, using(crate::proofs::FaultNames::words))]
+#[tactic(auto, using(wap_base::proofs::Plain::words))]
 fn document_name(fault: DocFault) -> &'static str
     ensures bytes { result.now ≡ document_name fault }
     ensures characters { chars result.now ≡ document_name fault }

@@ -9,7 +9,7 @@ use std::alloc::Global;
 use wap_base::NoMemory;
 
 /// Appends a line: a word, and a text after a space.
-#[tactic(auto, using(crate::proofs::MadeLemmas::KeyTexts::joins))]
+#[tactic(auto, using(wap_base::proofs::Plain::words))]
 fn add_line(report: &mut Vec<u8>, word: &[u8], text: &[u8]) -> Result<(), NoMemory>
     ensures { OnOk result (report.new.items ≡ report.old.items ++ made_line word.now text.now) }
 {
@@ -29,7 +29,7 @@ fn add_count(report: &mut Vec<u8>, word: &[u8], count: usize) -> Result<(), NoMe
 }
 
 /// The four lines on what the judging and the browsing came to.
-#[tactic(auto, using(crate::proofs::MadeLemmas::KeyTexts::joins))]
+#[tactic(auto, using(wap_base::proofs::Plain::words))]
 pub(crate) fn report_on(alloc: Global, tour: &Tour) -> Result<Vec<u8>, NoMemory>
     ensures { IfOk result (λ report. report.items ≡ report_of tour.now) }
 {

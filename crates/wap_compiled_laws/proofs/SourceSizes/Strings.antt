@@ -1,17 +1,16 @@
 -- A string's text has no more bytes than what stands between its quotes.
-use Rattle.std.proofs.Common.{◌≡◌, ℕ, ◌+◌, ◌<◌, ◌≤◌, true, ◌&&◌, nat_lt, List, [], ◌∷◌, length}
+use Rattle.std.proofs.Common.{ℕ, ◌+◌, ◌<◌, ◌≤◌, true, ◌&&◌, nat_lt, List, [], ◌∷◌, length}
 use Rattle.std.proofs.Common.{encode_utf8_all, ap, arith}
 use Rattle.std.specs.Char.{len_utf8, is_ascii_hexdigit}
 use Rattle.std.proofs.lemmas.Bool.{lt-ltb, and_parts}
 use Rattle.std.proofs.lemmas.Str.{len_utf8_ascii, len_utf8_bounds}
-use Rattle.std.proofs.lemmas.Bool.Decides.{nat_tests}
 use Rattle.std.proofs.lemmas.Grind.{common_steps}
 use Rattle.wap_base.specs.Utf8.{utf8_len}
 use Rattle.wap_base.proofs.Utf8Lengths.{length-encode_utf8_all, utf8_len-append, utf8_len-bounds}
-use Rattle.wap_lex.specs.Numbers.{numeral, digit_value}
+use Rattle.wap_lex.specs.Numbers.{numeral}
 use Rattle.wap_grammar.specs.Strings.{named_by, Escapes, single, octal, hexadecimal, unicode}
 use Rattle.wap_grammar.specs.Strings.{StandFor, none, plain, escape, inside_quotes, StandsForText}
-use Rattle.wap_grammar.proofs.Escapes.{parts}
+use Rattle.wap_grammar.proofs.Escapes.{parts, digit_small}
 
 -- a character below 2^11 has two bytes, and one below 2^16 three
 two_bytes : (c : ℕ) → c < 2048 → len_utf8 c ≤ 2
@@ -23,13 +22,6 @@ three_bytes c less = grind (arith, common_steps, nat_lt, lt-ltb)
 -- what a character names has no more bytes than it
 named_bytes : (c : ℕ) → len_utf8 (named_by c) ≤ len_utf8 c
 named_bytes c = grind (arith, common_steps, len_utf8_bounds)
-
--- a hexadecimal digit is no later than f, and counts at most 15
-digit_low : (c : ℕ) → is_ascii_hexdigit c ≡ true → c ≤ 102
-digit_low c is = grind (arith, nat_tests)
-
-digit_small : (c : ℕ) → is_ascii_hexdigit c ≡ true → digit_value c ≤ 15
-digit_small c is = grind (arith, nat_tests, digit_low)
 
 -- an escape with its backslash has no fewer bytes than its character
 escape_bytes : (spelling : List ℕ) (c : ℕ) → Escapes spelling c → len_utf8 c ≤ 1 + utf8_len spelling

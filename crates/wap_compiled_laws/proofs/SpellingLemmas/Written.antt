@@ -15,7 +15,7 @@ use Rattle.std.proofs.lemmas.List.Sums.{sum_by-cons}
 use Rattle.std.proofs.lemmas.Nat.{from_be_bytes-to_be_bytes_2, from_be_bytes-to_be_bytes_4}
 use Rattle.std.proofs.lemmas.Str.{is_utf8-from_IsUtf8, chars-encodes}
 use Rattle.wap_base.specs.Numbers.{IsMb, carried, mb_spelling}
-use Rattle.wap_base.proofs.NumberSpelling.{IsShortest-mb_spelling}
+use Rattle.wap_base.proofs.NumberSpelling.{IsShortest-mb_spelling, carried-zero}
 use Rattle.wap_unit.specs.declared.unit.Constant.{Constant}
 use Rattle.wap_unit.specs.declared.unit.Constant.TheVariants.{Int8, Int16, Int32}
 use Rattle.wap_unit.specs.declared.unit.Pragma.{Pragma}
@@ -80,10 +80,6 @@ row Is spell size (x ∷ xs) all =
 
 -- ---- numbers
 
-carried_none : (allowed : ℕ) → carried allowed 0 ≡ []
-carried_none zero = refl
-carried_none (suc allowed) = refl
-
 carried_more : (allowed n : ℕ)
     → length (carried (suc allowed) n) ≤ suc (length (carried allowed (n / 128)))
 carried_more allowed n = grind (arith, common_steps, length-append)
@@ -115,7 +111,7 @@ small_number {n} less =
     let whole = number (omega (arith, less)) in
     let third : n / 128 / 128 / 128 ≡ 0 = omega (arith, less) in
     let none : length (carried 2 (n / 128 / 128 / 128)) ≡ 0 =
-    ap (λ (m : ℕ). length (carried 2 m)) third ∙ ap length (carried_none 2) in
+    ap (λ (m : ℕ). length (carried 2 m)) third ∙ ap length (carried-zero 2) in
     record {
       is = whole.is;
       are = whole.are;

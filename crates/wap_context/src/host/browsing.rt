@@ -85,7 +85,7 @@ fn pending_go(alloc: Global, href: Text) -> Option<Task>
 }
 
 /// Appends the id of a card, if it has one.
-#[tactic(auto, using(crate::proofs::HostLemmas::DialogWords::words))]
+#[tactic(auto, using(wap_base::proofs::Plain::words))]
 fn add_id(
     alloc: Global,
     vars: &Vars,

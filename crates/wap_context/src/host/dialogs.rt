@@ -16,7 +16,7 @@ use wap_execution::{Dialog, HostOut};
 use wap_value::{Value, to_str};
 
 /// The line of a dialog.
-#[tactic(auto, using(crate::proofs::HostLemmas::DialogWords::words))]
+#[tactic(auto, using(wap_base::proofs::Plain::words))]
 fn dialog_line(alloc: Global, dialog: &Dialog) -> Result<Text, NoMemory>
     ensures { IfOk result (λ line. line ≡ dialog_line dialog.now) }
 {
@@ -45,7 +45,7 @@ fn dialog_line(alloc: Global, dialog: &Dialog) -> Result<Text, NoMemory>
 }
 
 /// The label of the first answer; an empty one stands for the usual one.
-#[tactic(auto, using(crate::proofs::HostLemmas::DialogWords::words))]
+#[tactic(auto, using(wap_base::proofs::Plain::words))]
 fn first_label(alloc: Global, label: Text) -> Result<Text, NoMemory>
     ensures { IfOk result (λ whole. whole ≡ label_or label (codes "OK")) }
 {
@@ -56,7 +56,7 @@ fn first_label(alloc: Global, label: Text) -> Result<Text, NoMemory>
 }
 
 /// The label of the second answer; an empty one stands for the usual one.
-#[tactic(auto, using(crate::proofs::HostLemmas::DialogWords::words))]
+#[tactic(auto, using(wap_base::proofs::Plain::words))]
 fn second_label(alloc: Global, label: Text) -> Result<Text, NoMemory>
     ensures { IfOk result (λ whole. whole ≡ label_or label (codes "Cancel")) }
 {

@@ -3,6 +3,7 @@
 use Rattle.std.proofs.Common.{◌≡◌, ℕ, zero, suc, ◌-◌, ◌<◌, ◌≤◌, Bool, true, false, List, [], ◌∷◌}
 use Rattle.std.proofs.Common.{◌++◌, length, take, drop, Option, Some, None, Result, Ok, Err, refl}
 use Rattle.std.proofs.Common.{sym, ap, subst, ◌∙◌, append_assoc, eq-eqb, arith}
+use Rattle.wap_base.proofs.Options.{bound}
 use Rattle.wap_base.specs.Numbers.{mb_at}
 use Rattle.wap_base.specs.declared.number.ReadFault.{ReadFault}
 use Rattle.wap_tokens.specs.markup.Strings.{string_from}
@@ -23,7 +24,7 @@ use Rattle.wap_tokens.specs.declared.markup.name.AttrName.{AttrName}
 use Rattle.wap_tokens.specs.markup.Codes.{has_attributes, has_content}
 use Rattle.wap_tokens.specs.markup.Tables.{Start, tag_of, attr_start, attr_named, tag_rows}
 use Rattle.wap_tokens.specs.markup.Tables.{start_rows}
-use Rattle.wap_deck.specs.good.Readers.{Reader, ◌>>=◌, first_at, after, number_from, number_at}
+use Rattle.wap_deck.specs.good.Readers.{Reader, ◌>>=◌, first_of, after, number_from, number_at}
 use Rattle.wap_deck.specs.good.Readers.{ended_at}
 use Rattle.wap_deck.specs.good.Readers.{behind_zero, zero_place, IsBehind, run_step, run_at, all_of}
 use Rattle.wap_deck.specs.good.Readers.{closed, closed_if, is_end, Ends, Leaves, rest_of}
@@ -34,7 +35,7 @@ use Rattle.wap_deck.specs.good.inside.Nodes.{named_at, start_at, attr_at, node, 
 use Rattle.wap_deck.specs.good.inside.Nodes.{node_at, item_at, kids_begin, IsContent}
 use Rattle.wap_deck.proofs.GoodLemmas.Runs.{Takes, fewer, all_on, all_end, turn, closed_rest}
 use Rattle.wap_deck.proofs.GoodLemmas.Runs.{rest_some}
-use Rattle.wap_deck.proofs.GoodLemmas.Opening.{bind_some, all_nothing}
+use Rattle.wap_deck.proofs.GoodLemmas.Opening.{all_nothing}
 use Rattle.wap_deck.proofs.GoodLemmas.Skipping.{item_by_rest}
 use Rattle.wap_deck.proofs.GoodLemmas.Taking.{part_takes, attr_takes, item_takes}
 
@@ -66,14 +67,14 @@ pub behind_drop : (n : ℕ) (bytes : List ℕ) → IsBehind (drop n bytes) bytes
 behind_drop n bytes = record { front = take n bytes; split = take_drop n bytes }
 
 -- bytes whose first is read are it and the others
-pub first_is : (bytes : List ℕ) (mark : ℕ) (rest : List ℕ) → first_at bytes ≡ Some (mark, rest)
+pub first_is : (bytes : List ℕ) (mark : ℕ) (rest : List ℕ) → first_of bytes ≡ Some (mark, rest)
     → bytes ≡ mark ∷ rest
 first_is [] mark rest e = absurd cc
 first_is (byte ∷ bytes) mark rest e =
     ap (λ (x : ℕ × List ℕ). x.0 ∷ x.1) (some_same (byte, bytes) (mark, rest) e)
 
 -- those after the first are behind all
-pub behind_first : (bytes : List ℕ) (mark : ℕ) (rest : List ℕ) → first_at bytes ≡ Some (mark, rest)
+pub behind_first : (bytes : List ℕ) (mark : ℕ) (rest : List ℕ) → first_of bytes ≡ Some (mark, rest)
     → IsBehind rest bytes
 behind_first bytes mark rest e = record { front = mark ∷ []; split = first_is bytes mark rest e }
 
@@ -121,7 +122,7 @@ ended_is : (bytes : List ℕ) (x : List ℕ × List ℕ) → ended_at bytes ≡ 
     → x.1 ≡ behind_zero bytes
 unfolding ended_at
 ended_is bytes x e =
-    let a = bind_some (after 0 (drop (zero_place bytes) bytes)) _ x e in
+    let a = bound (after 0 (drop (zero_place bytes) bytes)) _ x e in
     sym (ap (λ (y : List ℕ × List ℕ). y.1) (some_same (take (zero_place bytes) bytes, a.0) x a.2))
     ∙ after_is 0 (drop (zero_place bytes) bytes) a.0 a.1
 
@@ -135,8 +136,8 @@ told None end are = tt
 string_told : (rest : List ℕ) → Tells (string_at rest) (Some (behind_zero rest))
 unfolding string_at
 string_told rest = told (string_at rest) (behind_zero rest) (λ x e.
-    let a = bind_some (ended_at rest) _ x e in
-    let b = bind_some (string_part a.0.0) _ x a.2 in
+    let a = bound (ended_at rest) _ x e in
+    let b = bound (string_part a.0.0) _ x a.2 in
     sym (ended_is rest a.0 a.1) ∙ ap (λ (y : Part × List ℕ). y.1) (some_same (b.0, a.0.1) x b.2))
 
 -- and so they do after a reference
@@ -144,8 +145,8 @@ reference_told : (conv : Conv) (rest : List ℕ)
     → Tells (reference_at conv rest) (Some (behind_zero rest))
 unfolding reference_at
 reference_told conv rest = told (reference_at conv rest) (behind_zero rest) (λ x e.
-    let a = bind_some (ended_at rest) _ x e in
-    let b = bind_some (name_part conv a.0.0) _ x a.2 in
+    let a = bound (ended_at rest) _ x e in
+    let b = bound (name_part conv a.0.0) _ x a.2 in
     sym (ended_is rest a.0 a.1) ∙ ap (λ (y : Part × List ℕ). y.1) (some_same (b.0, a.0.1) x b.2))
 
 -- after a character stands what follows its number, of one byte
@@ -544,7 +545,7 @@ pub record Parts (table : List ℕ) (levels : ℕ) (bytes rest : List ℕ) : Typ
   pub behind : List ℕ
   pub attrs : List (AttrName × List Part) × List ℕ
   pub kids : List Item × List ℕ
-  pub first : first_at bytes ≡ Some (mark, behind)
+  pub first : first_of bytes ≡ Some (mark, behind)
   pub attrs_read : closed_if (has_attributes mark) (attr_at table) behind ≡ Some attrs
   pub kids_read : closed_if (has_content mark) (item_at table (levels - 1)) attrs.1 ≡ Some kids
   pub is : rest ≡ kids.1
@@ -555,12 +556,12 @@ parts_by : (table : List ℕ) (levels : ℕ) (bytes : List ℕ) (found : Node) (
     → Parts table levels bytes rest
 unfolding node_by
 parts_by table levels bytes found rest some e =
-    let a = bind_some (first_at bytes) _ (found, rest) e in
-    let b = bind_some (tag_of 0 (a.0.0 % 64)) _ (found, rest) a.2 in
+    let a = bound (first_of bytes) _ (found, rest) e in
+    let b = bound (tag_of 0 (a.0.0 % 64)) _ (found, rest) a.2 in
     let c =
-    bind_some (closed_if (has_attributes a.0.0) (attr_at table) a.0.1) _ (found, rest) b.2 in
+    bound (closed_if (has_attributes a.0.0) (attr_at table) a.0.1) _ (found, rest) b.2 in
     let d =
-    bind_some (closed_if (has_content a.0.0) (item_at table (levels - 1)) c.0.1) _
+    bound (closed_if (has_content a.0.0) (item_at table (levels - 1)) c.0.1) _
     (found, rest) c.2 in
     record {
       some = some;
@@ -632,7 +633,7 @@ item_node table levels bytes rest e exact = λ a behind read.
 
 -- what follows the attributes and the content of a node follows the node
 pub node_leaves : (table : List ℕ) (levels : ℕ) (bytes : List ℕ) (mark : ℕ)
-    (behind head rest : List ℕ) → first_at bytes ≡ Some (mark, behind)
+    (behind head rest : List ℕ) → first_of bytes ≡ Some (mark, behind)
     → Leaves (closed_if (has_attributes mark) (attr_at table)) behind head
     → (0 < levels → Leaves (closed_if (has_content mark) (item_at table (levels - 1))) head rest)
     → Leaves (node_at table levels) bytes rest
@@ -653,7 +654,7 @@ node_leaves table levels bytes mark behind head rest e attrs kids = λ a after_n
     kids parts.some parts.kids.0 parts.kids.1 kids_read ∙ sym parts.is
 
 -- where no byte is left, no node is read
-pub none_leaves : (table : List ℕ) (levels : ℕ) (bytes rest : List ℕ) → first_at bytes ≡ None
+pub none_leaves : (table : List ℕ) (levels : ℕ) (bytes rest : List ℕ) → first_of bytes ≡ None
     → Leaves (node_at table levels) bytes rest
 none_leaves table levels bytes rest e = λ a behind read.
     let parts = node_parts table levels bytes a behind read in
@@ -712,8 +713,8 @@ named_number : (table bytes : List ℕ) (x : Start × List ℕ) → named_at tab
     → (n : ℕ × List ℕ) × (number_at bytes ≡ Some n) × (n.1 ≡ x.1)
 unfolding named_at
 named_number table bytes x e =
-    let a = bind_some (number_at bytes) _ x e in
-    let b = bind_some (attr_named (string_from table a.0.0)) _ x a.2 in
+    let a = bound (number_at bytes) _ x e in
+    let b = bound (attr_named (string_from table a.0.0)) _ x a.2 in
     (a.0, a.1, ap (λ (y : Start × List ℕ). y.1) (some_same ((b.0, []), a.0.1) x b.2))
 
 -- where a name starts an attribute, its value follows the number
@@ -743,7 +744,7 @@ value_behind_mark table mark bytes isnt = λ x e. by_mark x (mark == LITERAL) re
         → bytes ≡ x.1
     by_mark x true at e = absurd (isnt (eqb-true mark LITERAL at))
     by_mark x false at e =
-        let a = bind_some (attr_start 0 mark) _ x e in
+        let a = bound (attr_start 0 mark) _ x e in
         ap (λ (y : Start × List ℕ). y.1) (some_same (a.0, bytes) x a.2)
 
 -- an attribute that is read has a start, and ends where its value does
@@ -752,7 +753,7 @@ attr_start_of : (table bytes : List ℕ) (a : AttrName × List Part) (behind : L
     → (x : Start × List ℕ) × (start_at table bytes ≡ Some x) × (behind_value x.1 ≡ behind)
 unfolding attr_at
 attr_start_of table bytes a behind e =
-    let x = bind_some (start_at table bytes) _ (a, behind) e in (
+    let x = bound (start_at table bytes) _ (a, behind) e in (
       x.0,
       x.1,
       ap (λ (y : (AttrName × List Part) × List ℕ). y.1)
@@ -770,7 +771,7 @@ attr_leaves table bytes value rest there exact ends = λ a behind e.
 
 -- what is left is told by the mark and the bytes after it
 pub first_leaves : {A : Type 0} (next : Reader A) (bytes : List ℕ) (mark : ℕ) (behind rest : List ℕ)
-    → first_at bytes ≡ Some (mark, behind)
+    → first_of bytes ≡ Some (mark, behind)
     → (Ends next (mark ∷ behind) → Leaves next (mark ∷ behind) rest) → Ends next bytes
     → Leaves next bytes rest
 first_leaves next bytes mark behind rest e leaves =
@@ -779,7 +780,7 @@ first_leaves next bytes mark behind rest e leaves =
 
 -- what is behind the bytes after the first is behind all but the first
 pub behind_of_first : (bytes : List ℕ) (mark : ℕ) (behind rest : List ℕ)
-    → first_at bytes ≡ Some (mark, behind) → IsBehind rest behind → IsBehind rest (drop 1 bytes)
+    → first_of bytes ≡ Some (mark, behind) → IsBehind rest behind → IsBehind rest (drop 1 bytes)
 behind_of_first bytes mark behind rest e is =
     subst (λ (l : List ℕ). IsBehind rest (drop 1 l)) (sym (first_is bytes mark behind e)) is
 
@@ -787,7 +788,7 @@ behind_of_first bytes mark behind rest e is =
 
 -- where the content begins, by the mark of its node
 content_by : (table bytes : List ℕ) (mark : ℕ) (rest begin : List ℕ)
-    → first_at bytes ≡ Some (mark, rest) → kids_begin table bytes ≡ Some begin →
+    → first_of bytes ≡ Some (mark, rest) → kids_begin table bytes ≡ Some begin →
     (r : List ℕ) × (rest_of (closed_if (has_attributes mark) (attr_at table) rest) ≡ Some r)
     × (Some (if has_content mark then r else []) ≡ Some begin)
 unfolding kids_begin
@@ -795,12 +796,12 @@ content_by table bytes mark rest begin first e =
     let here =
     ap (λ (o : Option (ℕ × List ℕ)). o >>= λ x. rest_of (closed_if (has_attributes x.0)
     (attr_at table) x.1) >>= λ r. Some (if has_content x.0 then r else [])) (sym first) ∙ e in
-    bind_some (rest_of (closed_if (has_attributes mark) (attr_at table) rest))
+    bound (rest_of (closed_if (has_attributes mark) (attr_at table) rest))
     (λ r. Some (if has_content mark then r else [])) begin here
 
 -- where there is content, it follows the attributes
 pub content_there : (bytes : List ℕ) (mark : ℕ) (rest begin : List ℕ)
-    → first_at bytes ≡ Some (mark, rest) → has_content mark ≡ true
+    → first_of bytes ≡ Some (mark, rest) → has_content mark ≡ true
     → ((table : List ℕ) → Leaves (closed_if (has_attributes mark) (attr_at table)) rest begin)
     → IsContent bytes begin
 content_there bytes mark rest begin first has leaves = λ table there e.
@@ -812,13 +813,13 @@ content_there bytes mark rest begin first has leaves = λ table there e.
 
 -- where there is none, nothing does
 pub no_content_there : (bytes : List ℕ) (mark : ℕ) (rest : List ℕ)
-    → first_at bytes ≡ Some (mark, rest) → has_content mark ≡ false → IsContent bytes []
+    → first_of bytes ≡ Some (mark, rest) → has_content mark ≡ false → IsContent bytes []
 no_content_there bytes mark rest first has = λ table there e.
     let r = content_by table bytes mark rest there first e in
     some_same [] there (ap (λ (b : Bool). Some (if b then r.0 else [])) (sym has) ∙ r.2)
 
 -- where no byte is left, there is no node whose content begins
-pub nothing_there : (bytes begin : List ℕ) → first_at bytes ≡ None → IsContent bytes begin
+pub nothing_there : (bytes begin : List ℕ) → first_of bytes ≡ None → IsContent bytes begin
 unfolding kids_begin
 nothing_there bytes begin first = λ table there e.
     let none =

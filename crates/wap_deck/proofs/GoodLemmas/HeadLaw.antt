@@ -13,7 +13,7 @@ use Rattle.wap_tokens.specs.declared.markup.codes.TheConstants.{LITERAL}
 use Rattle.wap_tokens.specs.declared.markup.name.AttrName.{AttrName}
 use Rattle.wap_tokens.specs.markup.Codes.{has_attributes, has_content}
 use Rattle.wap_tokens.specs.markup.Tables.{Start, attr_start, is_same_attr}
-use Rattle.wap_deck.specs.good.Readers.{◌>>=◌, first_at, is_end, all_of, Ends}
+use Rattle.wap_deck.specs.good.Readers.{◌>>=◌, first_of, is_end, all_of, Ends}
 use Rattle.wap_deck.specs.good.inside.Nodes.{named_at, start_at, attr_at, attrs_begin}
 use Rattle.wap_deck.specs.good.inside.Starts.{value_in}
 use Rattle.wap_deck.specs.good.inside.Notes.{mark_place, lacks, HaveNames, LacksName, IsHead}
@@ -23,7 +23,7 @@ use Rattle.wap_deck.proofs.GoodLemmas.Ending.{content_there, no_list_leaves}
 use Rattle.wap_deck.proofs.GoodLemmas.Seen.{value_behind, value_end}
 
 pub coded_start : (table bytes : List ℕ) (mark : ℕ) (rest : List ℕ) (start : Start)
-    → first_at bytes ≡ Some (mark, rest) → (mark ≡ LITERAL → ⊥) → attr_start 0 mark ≡ Some start
+    → first_of bytes ≡ Some (mark, rest) → (mark ≡ LITERAL → ⊥) → attr_start 0 mark ≡ Some start
     → start_at table bytes ≡ Some (start, rest)
 unfolding start_at
 coded_start table bytes mark rest start e isnt found =
@@ -133,7 +133,7 @@ all_passed bytes names rest are over = λ table name ends without.
     ∙ value_end table name rest (nothing_read (attr_at table) (attr_lists table) rest over)
 
 attrs_are : (bytes : List ℕ) (mark : ℕ) (behind rest : List ℕ)
-    → first_at bytes ≡ Some (mark, behind) → attrs_begin bytes ≡ Some rest
+    → first_of bytes ≡ Some (mark, behind) → attrs_begin bytes ≡ Some rest
     → rest ≡ (if has_attributes mark then behind else [])
 unfolding attrs_begin
 attrs_are bytes mark behind rest e begin =
@@ -141,7 +141,7 @@ attrs_are bytes mark behind rest e begin =
     ∙ ap (λ (o : Option (ℕ × List ℕ)). o >>= λ x. Some (if has_attributes x.0 then x.1 else [])) e)
 
 pub head_lacks : (bytes : List ℕ) (mark : ℕ) (behind : List ℕ) (names : ℕ)
-    → first_at bytes ≡ Some (mark, behind) → has_attributes mark ≡ true → HaveNames behind names
+    → first_of bytes ≡ Some (mark, behind) → has_attributes mark ≡ true → HaveNames behind names
     → (name : AttrName) → lacks names name ≡ true → LacksName bytes name
 head_lacks bytes mark behind names e has have name without = λ table rest begin ends.
     let same : rest ≡ behind =
@@ -152,7 +152,7 @@ head_lacks bytes mark behind names e has have name without = λ table rest begin
     subst P (sym same) (λ ends. have table name ends without) ends
 
 pub bare_lacks : (bytes : List ℕ) (mark : ℕ) (behind : List ℕ)
-    → first_at bytes ≡ Some (mark, behind) → has_attributes mark ≡ false
+    → first_of bytes ≡ Some (mark, behind) → has_attributes mark ≡ false
     → (name : AttrName) → LacksName bytes name
 bare_lacks bytes mark behind e has name = λ table rest begin ends.
     let same : rest ≡ [] =
@@ -166,7 +166,7 @@ no_attrs : (rest : List ℕ) → attrs_begin [] ≡ Some rest → ⊥
 unfolding attrs_begin
 no_attrs rest begin = absurd cc
 
-pub nothing_lacks : (bytes : List ℕ) → first_at bytes ≡ None → (name : AttrName)
+pub nothing_lacks : (bytes : List ℕ) → first_of bytes ≡ None → (name : AttrName)
     → LacksName bytes name
 nothing_lacks [] e asked = λ table rest begin ends. absurd (no_attrs rest begin)
 nothing_lacks (byte ∷ bytes) e asked = absurd cc
@@ -190,14 +190,14 @@ module _ (mark : ℕ) (rest : List ℕ) (none : has_attributes mark ≡ false) w
     within = omega arith;
   }
 
-pub nothing_known : (bytes : List ℕ) → first_at bytes ≡ None → IsHead bytes 0 0
+pub nothing_known : (bytes : List ℕ) → first_of bytes ≡ None → IsHead bytes 0 0
 nothing_known bytes e = record {
   names = λ name without. nothing_lacks bytes e name;
   content = λ some. absurd (omega arith);
   within = omega arith;
 }
 
-pub attrs_here : (bytes : List ℕ) (mark : ℕ) (rest : List ℕ) → first_at bytes ≡ Some (mark, rest)
+pub attrs_here : (bytes : List ℕ) (mark : ℕ) (rest : List ℕ) → first_of bytes ≡ Some (mark, rest)
     → has_attributes mark ≡ true → attrs_begin bytes ≡ Some rest
 unfolding attrs_begin
 attrs_here bytes mark rest e has =

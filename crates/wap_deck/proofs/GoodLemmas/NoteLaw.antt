@@ -11,7 +11,7 @@ use Rattle.wap_tokens.specs.declared.markup.codes.TheConstants.{EXT_I_0, EXT_I_1
 use Rattle.wap_tokens.specs.declared.markup.name.Tag.{Tag}
 use Rattle.wap_tokens.specs.markup.Tables.{tag_of, tag_rows}
 use Rattle.wap_deck.specs.declared.good.notes.Note.{Note}
-use Rattle.wap_deck.specs.good.Readers.{IsBehind, first_at, is_end}
+use Rattle.wap_deck.specs.good.Readers.{IsBehind, first_of, is_end}
 use Rattle.wap_deck.specs.good.Texts.{part_at}
 use Rattle.wap_deck.specs.good.inside.Notes.{last_bytes, IsOwn, IsNote, AreNotes, AreMore}
 use Rattle.wap_deck.proofs.GoodLemmas.AttrLaw.{no_part}
@@ -162,7 +162,7 @@ apart mark other tag found none same =
     sym found ∙ ap (λ (n : ℕ). tag_of 0 (n % 64)) same ∙ none in
     absurd (cc both)
 
-module _ (bytes : List ℕ) (mark : ℕ) (rest : List ℕ) (first : first_at bytes ≡ Some (mark, rest))
+module _ (bytes : List ℕ) (mark : ℕ) (rest : List ℕ) (first : first_of bytes ≡ Some (mark, rest))
     (tag : Tag) (found : tag_of 0 (mark % 64) ≡ Some tag) where
   pub tag_no_end : is_end bytes ≡ false
   tag_no_end =

@@ -1,7 +1,8 @@
 -- What the reading of a node, of a list and of a text says of what it begins with.
 use Rattle.std.proofs.Common.{◌≡◌, ℕ, zero, suc, ◌-◌, Bool, true, false, List, []}
-use Rattle.std.proofs.Common.{Option, Some, None, refl, sym, ap, subst, ◌∙◌, arith}
+use Rattle.std.proofs.Common.{Option, Some, refl, sym, ap, subst, ◌∙◌, arith}
 use Rattle.std.specs.Prelude.{if◌then◌else◌, ◌%◌}
+use Rattle.wap_base.proofs.Options.{bound}
 use Rattle.wap_base.proofs.Choices.{some_same}
 use Rattle.wap_base.specs.declared.name.Part.{Part}
 use Rattle.wap_tokens.specs.declared.markup.codes.TheConstants.{END}
@@ -11,15 +12,10 @@ use Rattle.wap_tokens.specs.declared.markup.name.Tag.{Tag}
 use Rattle.wap_tokens.specs.declared.markup.name.AttrName.{AttrName}
 use Rattle.wap_tokens.specs.markup.Codes.{has_attributes, has_content}
 use Rattle.wap_tokens.specs.markup.Tables.{tag_of}
-use Rattle.wap_deck.specs.good.Readers.{Reader, ◌>>=◌, rest_of, first_at}
+use Rattle.wap_deck.specs.good.Readers.{Reader, ◌>>=◌, rest_of, first_of}
 use Rattle.wap_deck.specs.good.Readers.{after, all_of, closed, closed_if}
 use Rattle.wap_deck.specs.good.inside.Nodes.{attr_at, node, node_by, node_at, item_at, node_or}
 use Rattle.wap_deck.specs.good.inside.Nodes.{front_node, IsRead, attrs_begin, kids_begin}
-
-pub bind_some : {A B : Type 0} (o : Option A) (next : A → Option B) (y : B) → (o >>= next) ≡ Some y
-    → (x : A) × (o ≡ Some x) × (next x ≡ Some y)
-bind_some (Some x) next y e = (x, refl, e)
-bind_some None next y e = absurd cc
 
 -- ---- the parts of a node
 
@@ -29,7 +25,7 @@ pub record Opened (table : List ℕ) (levels : ℕ) (bytes : List ℕ) (found : 
   pub tag : Tag
   pub attrs : List (AttrName × List Part) × List ℕ
   pub kids : List Item × List ℕ
-  pub first : first_at bytes ≡ Some (mark, behind)
+  pub first : first_of bytes ≡ Some (mark, behind)
   pub tagged : tag_of 0 (mark % 64) ≡ Some tag
   pub attrs_read : closed_if (has_attributes mark) (attr_at table) behind ≡ Some attrs
   pub kids_read : closed_if (has_content mark) (item_at table (levels - 1)) attrs.1 ≡ Some kids
@@ -40,12 +36,12 @@ opened_by : (table : List ℕ) (levels : ℕ) (bytes : List ℕ) (found : Node) 
     → Opened table levels bytes found
 unfolding node_by
 opened_by table levels bytes found rest e =
-    let a = bind_some (first_at bytes) _ (found, rest) e in
-    let b = bind_some (tag_of 0 (a.0.0 % 64)) _ (found, rest) a.2 in
+    let a = bound (first_of bytes) _ (found, rest) e in
+    let b = bound (tag_of 0 (a.0.0 % 64)) _ (found, rest) a.2 in
     let c =
-    bind_some (closed_if (has_attributes a.0.0) (attr_at table) a.0.1) _ (found, rest) b.2 in
+    bound (closed_if (has_attributes a.0.0) (attr_at table) a.0.1) _ (found, rest) b.2 in
     let d =
-    bind_some (closed_if (has_content a.0.0) (item_at table (levels - 1)) c.0.1) _
+    bound (closed_if (has_content a.0.0) (item_at table (levels - 1)) c.0.1) _
     (found, rest) c.2 in
     record {
       mark = a.0.0;
@@ -93,7 +89,7 @@ pub closed_all : {A : Type 0} (has : Bool) (next : Reader A) (bytes : List ℕ) 
     → closed_if has next bytes ≡ Some x → x.0 ≡ (all_of next (if has then bytes else [])).0
 unfolding closed_if closed all_of
 closed_all {A = A} true next bytes x e =
-    let a = bind_some (after END (all_of next bytes).1) _ x e in
+    let a = bound (after END (all_of next bytes).1) _ x e in
     ap (λ (r : List A × List ℕ). r.0) (sym (some_same ((all_of next bytes).0, a.0) x a.2))
 closed_all {A = A} false next bytes x e =
     ap (λ (r : List A × List ℕ). r.0) (sym (some_same ([], bytes) x e))

@@ -18,7 +18,7 @@ use Rattle.wap_tokens.specs.declared.markup.codes.TheConstants.{EXT_I_2}
 use Rattle.wap_tokens.specs.markup.Decks.{literal, before, joined}
 use Rattle.wap_tokens.specs.markup.Normal.{IsPart}
 use Rattle.wap_wbxml.specs.spelling.Spellable.{HasNoZero}
-use Rattle.wap_deck.specs.good.Readers.{Reads, ◌>>=◌, first_at, after, ended_at}
+use Rattle.wap_deck.specs.good.Readers.{Reads, ◌>>=◌, first_of, after, ended_at}
 use Rattle.std.specs.Borrow.{Bor}
 use Rattle.wap_deck.specs.declared.good.bits.Bit.{Bit}
 use Rattle.wap_deck.specs.declared.good.bits.Bit.TheVariants as bit
@@ -100,7 +100,7 @@ from_read mark rest =
 all_read : (bytes : List ℕ) → Each IsRead (part_at bytes)
 unfolding part_at
 all_read bytes =
-    each_bind Any IsRead (first_at bytes) (λ x. part_from x.0 x.1) (any (first_at bytes))
+    each_bind Any IsRead (first_of bytes) (λ x. part_from x.0 x.1) (any (first_of bytes))
     (λ x t. from_read x.0 x.1)
 
 pub part_is : (bytes : List ℕ) (part : Part) (rest : List ℕ) → part_at bytes ≡ Some (part, rest)

@@ -10,7 +10,7 @@ use Rattle.wap_tokens.specs.declared.markup.name.AttrName.{AttrName}
 use Rattle.wap_tokens.specs.markup.Tables.{tag_of, is_same_attr}
 use Rattle.wap_tokens.specs.markup.Trees.{value_of}
 use Rattle.wap_tokens.specs.markup.Codes.{has_attributes, has_content}
-use Rattle.wap_deck.specs.good.Readers.{first_at, all_of, Ends}
+use Rattle.wap_deck.specs.good.Readers.{first_of, all_of, Ends}
 use Rattle.wap_deck.specs.good.inside.Nodes.{attr_at, node_at, item_at, front_node}
 use Rattle.wap_deck.specs.good.inside.Nodes.{IsRead, attrs_begin, IsContent}
 use Rattle.wap_deck.specs.good.inside.Starts.{value_in}
@@ -28,7 +28,7 @@ module _ (table : List ℕ) (levels : ℕ) (bytes : List ℕ) (is : IsRead table
   abbrev front : Opened table levels bytes (front_node table levels bytes)
   front = opened_front table levels bytes is
 
-  pub some_first : first_at bytes ≡ None → ⊥
+  pub some_first : first_of bytes ≡ None → ⊥
   some_first e = let first = front.first in cc
 
   attrs_is : (begin : List ℕ) → attrs_begin bytes ≡ Some begin
@@ -54,7 +54,7 @@ module _ (table : List ℕ) (levels : ℕ) (bytes : List ℕ) (is : IsRead table
         (has_content front.mark) front.attrs.1 front.kids front.kids_read)
 
   module _ (now : Node) (view_is : front_node table levels bytes ≡ now) where
-    pub tag_seen : (mark : ℕ) (behind : List ℕ) → first_at bytes ≡ Some (mark, behind)
+    pub tag_seen : (mark : ℕ) (behind : List ℕ) → first_of bytes ≡ Some (mark, behind)
         → tag_of 0 (mark % 64) ≡ Some now.tag
     tag_seen mark behind e =
         let same = some_same (mark, behind) (front.mark, front.behind) (sym e ∙ front.first) in

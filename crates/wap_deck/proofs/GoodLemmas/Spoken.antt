@@ -5,6 +5,7 @@ use Rattle.std.specs.Prelude.{if◌then◌else◌, ◌&&◌, ◌==◌, is_some}
 use Rattle.std.specs.List.{list_all}
 use Rattle.std.specs.Str.{chars, is_utf8}
 use Rattle.std.proofs.lemmas.Str.{IsUtf8-from_is_utf8}
+use Rattle.wap_base.proofs.Options.{bound}
 use Rattle.wap_base.proofs.Choices.{some_same}
 use Rattle.wap_base.specs.Names.{is_name}
 use Rattle.wap_base.specs.declared.name.Conv.{Conv}
@@ -16,14 +17,13 @@ use Rattle.wap_tokens.specs.declared.markup.codes.TheConstants.{EXT_I_2}
 use Rattle.wap_tokens.specs.markup.Decks.{literal}
 use Rattle.wap_tokens.specs.markup.Strings.{is_not_zero}
 use Rattle.wap_wbxml.specs.spelling.Spellable.{HasNoZero}
-use Rattle.wap_deck.specs.good.Readers.{◌>>=◌, first_at, after, zero_place, ended_at, behind_zero}
+use Rattle.wap_deck.specs.good.Readers.{◌>>=◌, first_of, after, zero_place, ended_at, behind_zero}
 use Rattle.wap_deck.specs.good.Texts.{string_part, name_part, string_at, reference_at, character_at}
 use Rattle.wap_deck.specs.good.Texts.{part_at, part_end, behind_value, AreParts}
 use Rattle.wap_deck.proofs.GoodLemmas.Runs.{all_end, turn}
 use Rattle.wap_deck.proofs.GoodLemmas.Taking.{part_takes}
 use Rattle.wap_wbxml.proofs.StringLaws.{front_not_zero}
 use Rattle.wap_deck.proofs.GoodLemmas.Zeros.{chars_no_zero}
-use Rattle.wap_deck.proofs.GoodLemmas.Opening.{bind_some}
 use Rattle.wap_deck.proofs.GoodLemmas.Ending.{first_is}
 
 pub filled : (text : List ℕ) → (length text == 0) ≡ false → text ≢ []
@@ -36,7 +36,7 @@ ended_none : (bytes : List ℕ) (x : List ℕ × List ℕ) → ended_at bytes �
     → list_all is_not_zero x.0 ≡ true
 unfolding ended_at
 ended_none bytes x e =
-    let a = bind_some (after 0 (drop (zero_place bytes) bytes)) _ x e in
+    let a = bound (after 0 (drop (zero_place bytes) bytes)) _ x e in
     let front = take (zero_place bytes) bytes in
     ap (list_all is_not_zero)
     (sym (ap (λ (y : List ℕ × List ℕ). y.0) (some_same (front, a.0) x a.2)))
@@ -159,7 +159,7 @@ marked_some bytes end are e = there (part_at bytes) refl
         absurd cc
 
 module _ (bytes : List ℕ) (mark : ℕ) (rest : List ℕ) (are : AreParts bytes)
-    (e : first_at bytes ≡ Some (mark, rest)) where
+    (e : first_of bytes ≡ Some (mark, rest)) where
   begun_by : (known : ℕ) → mark ≡ known → AreParts (known ∷ rest)
   begun_by known is = subst AreParts (first_is bytes mark rest e ∙ ap (λ (m : ℕ). m ∷ rest) is) are
 

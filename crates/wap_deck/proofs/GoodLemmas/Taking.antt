@@ -18,7 +18,7 @@ use Rattle.wap_tokens.specs.declared.markup.name.Tag.{Tag}
 use Rattle.wap_tokens.specs.markup.Codes.{has_attributes, has_content}
 use Rattle.wap_tokens.specs.markup.Strings.{string_from}
 use Rattle.wap_tokens.specs.markup.Tables.{tag_of, attr_start, attr_named}
-use Rattle.wap_deck.specs.good.Readers.{Reader, ◌>>=◌, first_at, after, number_from, number_at}
+use Rattle.wap_deck.specs.good.Readers.{Reader, ◌>>=◌, first_of, after, number_from, number_at}
 use Rattle.wap_deck.specs.good.Readers.{zero_place, ended_at, all_of, closed, closed_if}
 use Rattle.wap_deck.specs.good.Texts.{string_part, name_part, string_at, reference_at, character_at}
 use Rattle.wap_deck.specs.good.Texts.{part_from, part_at, value_at, behind_value}
@@ -39,7 +39,7 @@ each_more n None make rest less = tt
 
 -- ---- one byte, a number, and a string up to a 0
 
-pub first_fewer : (bytes : List ℕ) → Each (Fewer (length bytes)) (first_at bytes)
+pub first_fewer : (bytes : List ℕ) → Each (Fewer (length bytes)) (first_of bytes)
 first_fewer [] = tt
 first_fewer (byte ∷ rest) = omega arith
 
@@ -105,7 +105,7 @@ pub part_takes : Takes part_at
 unfolding part_at
 part_takes = record {
   each =
-      λ bytes. each_bind (Fewer (length bytes)) (Fewer (length bytes)) (first_at bytes) (λ x.
+      λ bytes. each_bind (Fewer (length bytes)) (Fewer (length bytes)) (first_of bytes) (λ x.
       part_from x.0 x.1) (first_fewer bytes) (λ x less. from_fewer x.0 x.1 (length bytes) less);
 }
 
@@ -134,7 +134,7 @@ named_fewer table rest n less =
 start_takes : (table bytes : List ℕ) → Each (Fewer (length bytes)) (start_at table bytes)
 unfolding start_at
 start_takes table bytes =
-    each_bind (Fewer (length bytes)) (Fewer (length bytes)) (first_at bytes) _ (first_fewer bytes)
+    each_bind (Fewer (length bytes)) (Fewer (length bytes)) (first_of bytes) _ (first_fewer bytes)
     (λ x less.
     each_if (Fewer (length bytes)) (x.0 == LITERAL) _ _ (named_fewer table x.1 (length bytes) less)
     (each_more (length bytes) (attr_start 0 x.0) (λ start. start) x.1 less))
@@ -188,7 +188,7 @@ pub node_by_takes : (table : List ℕ) (kid : Reader Item) → Takes kid → Tak
 unfolding node_by
 node_by_takes table kid takes = record {
   each = λ bytes.
-      each_bind (Fewer (length bytes)) (Fewer (length bytes)) (first_at bytes) _ (first_fewer bytes)
+      each_bind (Fewer (length bytes)) (Fewer (length bytes)) (first_of bytes) _ (first_fewer bytes)
       (λ x less. node_fewer table kid takes (length bytes) x.0 x.1 less (tag_of 0 (x.0 % 64)));
 }
 

@@ -1,6 +1,8 @@
 -- Reading bytes from the left. This project's own.
 use Rattle.std.specs.Prelude.{◌≡◌, ℕ, zero, suc, Bool, true, ◌==◌, if◌then◌else◌, List, [], ◌∷◌}
 use Rattle.std.specs.Prelude.{◌++◌, length, take, drop, Option, Some, None, Result, Ok, Err}
+pub use Rattle.wap_base.specs.Options.{◌>>=◌}
+pub use Rattle.wap_base.specs.Texts.{first_of}
 use Rattle.wap_base.specs.Numbers.{mb_at}
 use Rattle.wap_base.specs.declared.number.ReadFault.{ReadFault}
 use Rattle.wap_tokens.specs.declared.markup.codes.TheConstants.{END}
@@ -10,12 +12,6 @@ pub use Rattle.wap_wbxml.specs.reading.Fronts.{zero_place}
 abbrev pub Reads : {X Y : Type 0} → (X → Y) → Option X → Option Y → Type 0
 Reads view (Some x) reading = reading ≡ Some (view x)
 Reads view None reading = reading ≡ None
-
--- a reading goes on where it gave a value, and else gives nothing
-infixl 10 ◌>>=◌
-abbrev pub ◌>>=◌ : {A B : Type 0} → Option A → (A → Option B) → Option B
-(Some x) >>= next = next x
-None >>= next = None
 
 -- a value and the bytes after it
 abbrev pub Reader : Type 0 → Type 0
@@ -33,14 +29,9 @@ Leaves {A = A} next bytes rest =
 
 -- ---- a byte, a number, and a string up to a 0
 
--- the first byte, and those after it
-abbrev pub first_at : List ℕ → Option (ℕ × List ℕ)
-first_at [] = None
-first_at (byte ∷ rest) = Some (byte, rest)
-
 -- what follows this byte, if it comes first
 abbrev pub after : ℕ → List ℕ → Option (List ℕ)
-after byte bytes = first_at bytes >>= λ first. if first.0 == byte then Some first.1 else None
+after byte bytes = first_of bytes >>= λ first. if first.0 == byte then Some first.1 else None
 
 -- the number that was read and the bytes after it, or nothing
 abbrev pub number_from : List ℕ → Result (ℕ × ℕ) ReadFault → Option (ℕ × List ℕ)

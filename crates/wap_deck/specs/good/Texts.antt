@@ -14,7 +14,7 @@ use Rattle.wap_tokens.specs.declared.markup.codes.TheConstants.{ENTITY, STR_I, E
 use Rattle.wap_tokens.specs.declared.markup.codes.TheConstants.{EXT_I_2}
 use Rattle.wap_tokens.specs.markup.Decks.{literal, joined}
 use Rattle.wap_wbxml.specs.spelling.Spellable.{HasNoZero}
-use Rattle.wap_deck.specs.good.Readers.{Reader, ◌>>=◌, first_at, after, ended_at, behind_zero}
+use Rattle.wap_deck.specs.good.Readers.{Reader, ◌>>=◌, first_of, after, ended_at, behind_zero}
 use Rattle.wap_deck.specs.good.Readers.{all_of}
 
 -- the text of a string, if it has a character
@@ -49,7 +49,7 @@ part_from mark rest =
 
 -- a part of a text
 unfoldable pub part_at : Reader Part
-part_at bytes = first_at bytes >>= λ x. part_from x.0 x.1
+part_at bytes = first_of bytes >>= λ x. part_from x.0 x.1
 
 -- what follows a part, as its mark tells; only a part has such a mark
 abbrev pub part_end_from : ℕ → List ℕ → Option (List ℕ)
@@ -62,7 +62,7 @@ part_end_from mark rest =
 
 -- what follows a part, if one begins here
 unfoldable pub part_end : List ℕ → Option (List ℕ)
-part_end bytes = first_at bytes >>= λ x. part_end_from x.0 x.1
+part_end bytes = first_of bytes >>= λ x. part_end_from x.0 x.1
 
 -- what parts in a row give after a text, and what follows them
 abbrev pub value_at : List ℕ → List ℕ → List Part

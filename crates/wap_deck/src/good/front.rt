@@ -1,6 +1,6 @@
 //! What bytes begin with.
 ghost use Rattle.std.specs.Prelude.{◌≡◌, drop};
-ghost use Rattle.wap_deck.specs.good.Readers.{Reads, first_at, number_at, ended_at, behind_zero};
+ghost use Rattle.wap_deck.specs.good.Readers.{Reads, first_of, number_at, ended_at, behind_zero};
 ghost use Rattle.wap_deck.specs.good.Readers.{is_end};
 
 use memchr::memchr;
@@ -9,7 +9,7 @@ use wap_tokens::markup::END;
 
 /// The first byte, and those after it.
 pub(crate) fn first(bytes: &[u8]) -> Option<(u8, &[u8])>
-    ensures { Reads (λ read. (read.0, read.1.now)) result (first_at bytes.now) }
+    ensures { Reads (λ read. (read.0, read.1.now)) result (first_of bytes.now) }
 {
     match bytes {
         [first, rest @ ..] => Some((*first, rest)),

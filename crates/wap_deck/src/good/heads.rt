@@ -3,7 +3,7 @@ ghost use Rattle.std.specs.Prelude.{◌≡◌, ℕ, List, ◌∷◌, ◌^◌, �
 ghost use Rattle.wap_base.specs.declared.name.Part.{Part};
 ghost use Rattle.wap_tokens.specs.declared.markup.name.AttrName.{AttrName};
 ghost use Rattle.wap_tokens.specs.markup.Codes.{has_attributes, has_content};
-ghost use Rattle.wap_deck.specs.good.Readers.{Ends, Leaves, IsBehind, first_at, closed, closed_if};
+ghost use Rattle.wap_deck.specs.good.Readers.{Ends, Leaves, IsBehind, first_of, closed, closed_if};
 ghost use Rattle.wap_deck.specs.good.inside.Nodes.{attr_at, IsContent};
 ghost use Rattle.wap_deck.specs.good.inside.Notes.{mark_place, lacks, HaveNames, LacksName, IsHead};
 
@@ -140,7 +140,7 @@ fn head_of(mark: u8, bytes: &[u8], content: &[u8]) -> u8
 /// What is known of the node that bytes begin with, by its mark and what follows that, and what
 /// follows its attributes.
 pub(crate) fn known_of<'a>(bytes: &[u8], mark: u8, rest: &'a [u8]) -> (Known, &'a [u8])
-    requires { first_at bytes.now ≡ Some (mark, rest.now) }
+    requires { first_of bytes.now ≡ Some (mark, rest.now) }
     ensures head { IsHead bytes.now result.0.names result.0.head }
     ensures exact { (table : List ℕ) →
         Leaves (closed_if (has_attributes mark) (attr_at table)) rest.now result.1.now }

@@ -9,6 +9,7 @@ use Rattle.wap_base.specs.declared.limits.TheConstants.{DEFAULT_HISTORY, LEAST_H
 use Rattle.wap_base.specs.declared.limits.TheConstants.{MOST_HISTORY, DEFAULT_DEPTH, LEAST_DEPTH}
 use Rattle.wap_base.specs.declared.limits.TheConstants.{MOST_DEPTH}
 use Rattle.wap_keys.specs.Decimal.{decimal_of}
+use Rattle.wap_keys.specs.Forms.{greatest_u32}
 use Rattle.wap_keys.specs.declared.words.numbers.TheConstants.{DEFAULT_SEED, LEAST_BUDGET}
 use Rattle.wap_keys.specs.declared.words.numbers.TheConstants.{DEFAULT_BUDGET, LEAST_CACHE}
 use Rattle.wap_keys.specs.declared.words.numbers.TheConstants.{MOST_CACHE}
@@ -41,10 +42,6 @@ number_of least greatest default None = Some default
 number_of least greatest default (Some digits) =
     option_and_then (at_least least) (decimal_of greatest digits)
 
--- the greatest number of 32 bits
-abbrev pub greatest_number : ℕ
-greatest_number = 4294967295
-
 -- ---- browse, and image, whose words are of the same form
 
 -- the words of `browse`: a URL, and six options
@@ -68,8 +65,8 @@ limits_of uses = do
 abbrev pub browse_of : List Use → Option Browse
 browse_of uses = do
   url ← text_of (codes "url") uses
-  seed ← number_of 0 greatest_number DEFAULT_SEED (text_of (codes "seed") uses)
-  budget ← number_of LEAST_BUDGET greatest_number DEFAULT_BUDGET (text_of (codes "budget") uses)
+  seed ← number_of 0 greatest_u32 DEFAULT_SEED (text_of (codes "seed") uses)
+  budget ← number_of LEAST_BUDGET greatest_u32 DEFAULT_BUDGET (text_of (codes "budget") uses)
   cache ← number_of LEAST_CACHE MOST_CACHE DEFAULT_CACHE (text_of (codes "cache") uses)
   limits ← limits_of uses
   Some (record { url = chars url; seed = seed; budget = budget; cache = cache; limits = limits })
@@ -113,7 +110,7 @@ prepare_of uses =
 
 -- the number of the folder
 abbrev pub make_of : List Use → Option ℕ
-make_of uses = text_of (codes "name") uses >>= decimal_of greatest_number
+make_of uses = text_of (codes "name") uses >>= decimal_of greatest_u32
 
 -- ---- replay
 
@@ -130,8 +127,8 @@ replay_form = record {
 abbrev pub replay_of : List Use → Option Replay
 replay_of uses = do
   url ← text_of (codes "url") uses
-  seed ← number_of 0 greatest_number DEFAULT_SEED (text_of (codes "seed") uses)
-  budget ← number_of LEAST_BUDGET greatest_number DEFAULT_BUDGET (text_of (codes "budget") uses)
+  seed ← number_of 0 greatest_u32 DEFAULT_SEED (text_of (codes "seed") uses)
+  budget ← number_of LEAST_BUDGET greatest_u32 DEFAULT_BUDGET (text_of (codes "budget") uses)
   workers ← number_of LEAST_WORKERS MOST_WORKERS DEFAULT_WORKERS (text_of (codes "workers") uses)
   limits ← limits_of uses
   Some (record {

@@ -6,11 +6,12 @@ use Rattle.std.specs.Char.{is_ascii_digit}
 use Rattle.std.specs.List.{prefix_len}
 use Rattle.std.proofs.lemmas.Bool.{cond_both}
 use Rattle.std.proofs.lemmas.List.{length-drop}
+use Rattle.wap_base.specs.Options.{◌>>=◌}
 use Rattle.wap_libs.specs.declared.piece.Conversion.{Conversion}
 use Rattle.wap_libs.specs.declared.piece.Specifier.{Specifier}
 use Rattle.wap_libs.specs.declared.piece.Piece.{Piece}
 use Rattle.wap_libs.specs.FormatGrammar.{conversion_of}
-use Rattle.wap_libs.specs.FormatReading.{◌>>=◌, number_at, behind_digits, precision_at}
+use Rattle.wap_libs.specs.FormatReading.{number_at, behind_digits, precision_at}
 use Rattle.wap_libs.specs.FormatReading.{conversion_at, specifier_at, piece_behind_percent}
 use Rattle.wap_libs.specs.FormatReading.{piece_at, pieces_at, pieces_of}
 

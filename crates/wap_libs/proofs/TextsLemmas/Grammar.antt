@@ -12,6 +12,8 @@ use Rattle.std.proofs.lemmas.Bool.{eq-eqb, ne_eqb, and_parts, false≢true}
 use Rattle.std.proofs.lemmas.Bool.Decides.{nat_tests}
 use Rattle.std.proofs.lemmas.List.Folds.{length-prefix_len}
 use Rattle.std.proofs.lemmas.List.{take_at, drop_at, take-append-drop}
+use Rattle.wap_base.proofs.Options.{bound}
+use Rattle.wap_base.specs.Options.{◌>>=◌}
 use Rattle.wap_base.proofs.Choices.{chosen}
 use Rattle.wap_libs.specs.declared.piece.Conversion.{Conversion}
 use Rattle.wap_libs.specs.declared.piece.Specifier.{Specifier}
@@ -19,7 +21,7 @@ use Rattle.wap_libs.specs.declared.piece.Piece.{Piece}
 use Rattle.wap_libs.specs.declared.piece.Piece.TheVariants.{Character, Specifier as Writes}
 use Rattle.wap_libs.specs.FormatGrammar.{conversion_of, IsNumber, IsPrecision, IsFormat}
 use Rattle.wap_libs.specs.FormatGrammar.{nothing, character, percent, specifier}
-use Rattle.wap_libs.specs.FormatReading.{◌>>=◌, up_to_65535, number_at, behind_digits}
+use Rattle.wap_libs.specs.FormatReading.{up_to_65535, number_at, behind_digits}
 use Rattle.wap_libs.specs.FormatReading.{precision_at, conversion_at, specifier_at}
 use Rattle.wap_libs.specs.FormatReading.{piece_behind_percent, piece_at, pieces_at, pieces_of}
 use Rattle.wap_libs.proofs.TextsLemmas.FormatLaws.{within_65535, up_to-Some}
@@ -167,11 +169,6 @@ pub pieces_of_format : (text : List ℕ) (pieces : List Piece) → IsFormat text
 pieces_of_format text pieces is = reads is
 
 -- What was read stands there.
-
-bound : {A B : Type 0} (o : Option A) (f : A → Option B) (b : B) → (o >>= f) ≡ Some b
-    → (a : A) × (o ≡ Some a) × (f a ≡ Some b)
-bound None f b e = absurd (let none : None ≡ Some b = e in cc)
-bound (Some a) f b e = (a, refl, e)
 
 bound_map : {A B : Type 0} (o : Option A) (f : A → B) (b : B) → option_map f o ≡ Some b
     → (a : A) × (o ≡ Some a) × (f a ≡ b)

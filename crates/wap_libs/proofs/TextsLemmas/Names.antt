@@ -1,14 +1,10 @@
 -- Texts of ASCII are their own bytes.
 use Rattle.std.proofs.Common.{◌≡◌, ◌≢◌, ℕ, zero, suc, ◌^◌, ◌<◌, refl}
-use Rattle.std.specs.Prelude.{codes, decimal}
+use Rattle.std.specs.Prelude.{decimal}
 use Rattle.std.specs.Str.{chars}
 use Rattle.std.proofs.lemmas.Fmt.{IsAscii-decimal}
 use Rattle.std.proofs.lemmas.Str.{chars-IsAscii}
 use Rattle.wap_libs.specs.Format.{own_digits}
-
-pub invalid_is_itself : chars (codes "invalid") ≡ codes "invalid"
-unfolding chars
-invalid_is_itself = refl
 
 pub decimal_is_itself : (n : ℕ) → n < 2 ^ 64 → chars (decimal n) ≡ decimal n
 decimal_is_itself n small = chars-IsAscii (decimal n) (IsAscii-decimal n small)

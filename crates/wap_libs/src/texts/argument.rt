@@ -70,7 +70,7 @@ pub fn count(text: &str) -> usize
 }
 
 /// The value as a String, `invalid` for invalid.
-#[tactic(auto, using(crate::proofs::TextsLemmas::Names::invalid_is_itself))]
+#[tactic(auto, using(wap_base::proofs::Plain::words))]
 pub fn show(alloc: Global, value: &Value) -> Result<Text, NoMemory>
     ensures { IfOk result (λ text. text ≡ shown value.now) }
 {

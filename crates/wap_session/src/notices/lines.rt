@@ -21,6 +21,7 @@ pub(crate) fn one_line(alloc: Global, line: &Text) -> Result<Lines, NoMemory>
 }
 
 /// Why what was pushed is no indication.
+#[tactic(auto, using(wap_base::proofs::Plain::words))]
 pub(crate) fn no_push_line(alloc: Global, fault: PushFault) -> Result<Text, NoMemory>
     ensures { IfOk result (λ line. line ≡ no_push_line fault) }
 {
@@ -31,6 +32,7 @@ pub(crate) fn no_push_line(alloc: Global, fault: PushFault) -> Result<Text, NoMe
 }
 
 /// The line of an indication when it comes.
+#[tactic(auto, using(wap_base::proofs::Plain::words))]
 pub(crate) fn notice_line(alloc: Global, pushed: &Indication) -> Result<Text, NoMemory>
     ensures { IfOk result (λ line. line ≡ notice_line pushed.now) }
 {
@@ -60,6 +62,7 @@ fn add_time(line: &mut Text, time: u64) -> Result<(), NoMemory>
 }
 
 /// An entry by its number.
+#[tactic(auto, using(wap_base::proofs::Plain::words))]
 fn entry_line(alloc: Global, number: usize, entry: &Indication) -> Result<Text, NoMemory>
     ensures { IfOk result (λ line. line ≡ entry_line number entry.now) }
 {

@@ -10,7 +10,7 @@ use std::alloc::Global;
 use wap_base::{NoMemory, Text};
 
 /// Appends the method.
-#[tactic(auto, using(crate::proofs::RequestsLemmas::RequestWords::words))]
+#[tactic(auto, using(wap_base::proofs::Plain::words))]
 fn add_method(line: &mut Text, request: &Request) -> Result<(), NoMemory>
     ensures { OnOk result (line.new ≡ line.old ++ method_text request.now) }
 {
@@ -33,7 +33,7 @@ fn add_body(line: &mut Text, body: &Option<Text>) -> Result<(), NoMemory>
 }
 
 /// Appends the URL of the deck from which it is asked for.
-#[tactic(auto, using(crate::proofs::RequestsLemmas::RequestWords::words))]
+#[tactic(auto, using(wap_base::proofs::Plain::words))]
 fn add_referer(line: &mut Text, referer: &Option<Text>) -> Result<(), NoMemory>
     ensures { OnOk result (line.new ≡ line.old
         ++ option_map_or (λ referer. codes " referer " ++ referer) referer.now []) }
@@ -46,7 +46,7 @@ fn add_referer(line: &mut Text, referer: &Option<Text>) -> Result<(), NoMemory>
 }
 
 /// Appends that the page is fetched anew.
-#[tactic(auto, using(crate::proofs::RequestsLemmas::RequestWords::words))]
+#[tactic(auto, using(wap_base::proofs::Plain::words))]
 fn add_fresh(line: &mut Text, fresh: bool) -> Result<(), NoMemory>
     ensures { OnOk result
         (line.new ≡ line.old ++ (if fresh then codes " no-cache" else [])) }
@@ -58,7 +58,7 @@ fn add_fresh(line: &mut Text, fresh: bool) -> Result<(), NoMemory>
 }
 
 /// The line that a request shows.
-#[tactic(auto, using(crate::proofs::RequestsLemmas::RequestWords::words))]
+#[tactic(auto, using(wap_base::proofs::Plain::words))]
 pub fn request_line(alloc: Global, request: &Request) -> Result<Text, NoMemory>
     ensures { IfOk result (λ line. line ≡ request_line request.now) }
 {

@@ -13,7 +13,7 @@ use wap_vars::VarFault;
 use wap_world::Refusal;
 
 /// The line of a refusal, as it stands in the program.
-#[tactic(auto, using(crate::proofs::ScreenLinesLemmas::ScreenWords::words))]
+#[tactic(auto, using(wap_base::proofs::Plain::words))]
 fn text_of(refusal: Refusal) -> &'static str
     ensures { chars result.now ≡ refusal_line refusal }
 {
@@ -85,7 +85,7 @@ pub(crate) fn title_line(alloc: Global, title: &Text) -> Result<Text, NoMemory>
 }
 
 /// The line of a do, by its name and its label.
-#[tactic(auto, using(crate::proofs::ScreenLinesLemmas::ScreenWords::words))]
+#[tactic(auto, using(wap_base::proofs::Plain::words))]
 pub(crate) fn do_line(alloc: Global, one: &(Text, Text)) -> Result<Text, NoMemory>
     ensures { IfOk result (λ line. line ≡ do_line one.now) }
 {

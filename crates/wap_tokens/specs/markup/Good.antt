@@ -6,6 +6,7 @@ use Rattle.std.specs.Prelude.{List, [], ◌∷◌, length, Option, Some, None, c
 use Rattle.std.specs.List.{filter_map, flat_map, list_all, list_any, AllByRecursion, IsDistinct}
 use Rattle.std.specs.Option.{option_and_then}
 use Rattle.std.specs.Map.{lookup}
+use Rattle.wap_base.specs.Texts.{is_empty}
 use Rattle.wap_base.specs.Ascii.{tab, line_feed, carriage_return, space}
 use Rattle.wap_base.specs.declared.name.Part.{Part}
 use Rattle.wap_base.specs.declared.name.Part.TheVariants.{Lit}
@@ -126,11 +127,6 @@ names_of node = map (λ a. a.0) node.attrs
 -- whether a node has an attribute of this name
 abbrev pub has_attribute : Node → AttrName → Bool
 has_attribute node name = is_some (value_of name node)
-
--- whether a group has no tag
-abbrev pub is_empty : List Tag → Bool
-is_empty [] = true
-is_empty (tag ∷ group) = false
 
 -- whether nothing is missing
 abbrev pub has_needs : Rule → Node → Bool

@@ -1,14 +1,14 @@
 -- Two kinds of strings, those without U+0000 and those of characters besides: which texts, names of
 -- variables and names of attributes are such.
-use Rattle.std.proofs.Common.{◌≡◌, ℕ, zero, suc, ◌<◌, ◌≤◌, Bool, true, false, cond, leb, ltb, List}
+use Rattle.std.proofs.Common.{◌≡◌, ℕ, zero, suc, ◌<◌, Bool, true, cond, leb, ltb, List}
 use Rattle.std.proofs.Common.{[], ◌∷◌, Option, Some, None, refl, ap, inl, inr, arith, lt-ltb}
 use Rattle.std.specs.Prelude.{◌&&◌, not}
 use Rattle.std.specs.List.{list_all, AllByRecursion}
 use Rattle.std.specs.Str.{all_scalars}
 use Rattle.std.proofs.Math.Dec.{eqb-suc-zero}
 use Rattle.std.proofs.lemmas.Bool.{cases_lt, and_from, and_parts}
-use Rattle.std.proofs.lemmas.Bool.Decides.{nat_tests}
 use lib.Utf8.{scalar}
+use Rattle.wap_base.proofs.NameLaws.{past-begins, past-continues}
 use Rattle.wap_base.specs.Names.{is_name, begins_name, continues_name}
 use Rattle.wap_tokens.specs.declared.markup.name.AttrName.{AttrName}
 use Rattle.wap_tokens.specs.declared.markup.name.AttrName.TheVariants as attrs
@@ -48,12 +48,6 @@ ascii_scalar : (c : ℕ) → c < 128 → scalar c ≡ true
 ascii_scalar c ascii =
     ap (λ (b : Bool). cond b true (leb 57344 c && ltb c 1114112)) (lt-ltb c 55296 (omega arith))
 
-past_continues : (c : ℕ) → 128 ≤ c → continues_name c ≡ false
-past_continues c past = grind (arith, nat_tests)
-
-past_begins : (c : ℕ) → 128 ≤ c → begins_name c ≡ false
-past_begins c past = grind (arith, nat_tests)
-
 continues_not_zero : (c : ℕ) → continues_name c ≡ true → is_not_zero c ≡ true
 continues_not_zero zero is = absurd cc
 continues_not_zero (suc c) is = not_zero c
@@ -65,13 +59,13 @@ begins_not_zero (suc c) is = not_zero c
 continues_scalar : (c : ℕ) → continues_name c ≡ true → scalar c ≡ true
 continues_scalar c is = elim (cases_lt c 128) [
   | inl ascii ↦ ascii_scalar c ascii
-  | inr past ↦ absurd (cc (is, past_continues c past))
+  | inr past ↦ absurd (cc (is, past-continues c past))
 ]
 
 begins_scalar : (c : ℕ) → begins_name c ≡ true → scalar c ≡ true
 begins_scalar c is = elim (cases_lt c 128) [
   | inl ascii ↦ ascii_scalar c ascii
-  | inr past ↦ absurd (cc (is, past_begins c past))
+  | inr past ↦ absurd (cc (is, past-begins c past))
 ]
 
 rest_string : (cs : List ℕ) → list_all continues_name cs ≡ true → IsString cs

@@ -2,7 +2,6 @@
 use Rattle.std.proofs.Common.{refl, subst, Ok, Err}
 use Rattle.std.specs.Prelude.{Result, IfOk, OnOk}
 use Rattle.std.proofs.lemmas.Result.{IfOk-weaker}
-use Rattle.wap_world.specs.scripting.UnitSites.{unit_pages}
 use Rattle.wap_context.specs.Sites.{IfOver}
 use Rattle.wap_session.specs.Feeding.{State, Leads}
 use Rattle.wap_calling.proofs.terminal.visit.Goals as goal

@@ -1,9 +1,9 @@
-use Rattle.std.proofs.Common.{List, ℕ, Option, ap, ◌∙◌}
+use Rattle.std.proofs.Common.{refl, codes, List, ℕ, Option, ap, ◌∙◌}
 use Rattle.std.specs.Option.{option_flatten}
+use Rattle.wap_base.proofs.Plain.{chars-plain}
 use Rattle.wap_tokens.specs.declared.markup.name.AttrName.TheVariants as attrs
 use Rattle.wap_cardrules.specs.declared.task.Task.{Task}
 use Rattle.wap_cardrules.specs.Events.{bound_in}
-use Rattle.wap_cards.proofs.ComparedTexts.{word_onpick}
 use Rattle.wap_cards.proofs.events.onpick.Goals as goal
 
 pub returns : goal.returns
@@ -13,4 +13,4 @@ returns c =
     ∙ ap (λ (word : List ℕ). option_flatten (bound_in c.args.vars.now (record {
       type = word;
       attribute = attrs.Onpick;
-    }) c.args.option.now)) word_onpick
+    }) c.args.option.now)) (chars-plain (codes "onpick") refl)

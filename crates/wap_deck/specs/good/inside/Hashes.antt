@@ -1,7 +1,7 @@
 -- Hashes of the ids of cards, by which most cards are passed at once where one is looked for. This
 -- project's own.
 use Rattle.std.specs.Prelude.{ℕ, ◌+◌, ◌*◌, ◌%◌, ◌^◌, List, map, Option, Some, None, encode_utf8_all}
-use Rattle.std.specs.List.{fold, filter_map}
+use Rattle.std.specs.List.{fold}
 use Rattle.wap_tokens.specs.declared.markup.deck.Deck.{Deck}
 use Rattle.wap_tokens.specs.declared.markup.deck.Node.{Node}
 use Rattle.wap_tokens.specs.markup.Cards.{cards_of, id_of}

@@ -14,7 +14,7 @@ use Rattle.wap_tokens.specs.declared.markup.name.AttrName.{AttrName}
 use Rattle.wap_tokens.specs.markup.Codes.{has_attributes, has_content}
 use Rattle.wap_tokens.specs.markup.Strings.{string_from}
 use Rattle.wap_tokens.specs.markup.Tables.{Start, tag_of, attr_start, attr_named}
-use Rattle.wap_deck.specs.good.Readers.{Reader, ◌>>=◌, rest_of, first_at, number_at}
+use Rattle.wap_deck.specs.good.Readers.{Reader, ◌>>=◌, rest_of, first_of, number_at}
 use Rattle.wap_deck.specs.good.Readers.{closed, closed_if, Ends, Leaves}
 use Rattle.wap_deck.specs.good.Texts.{part_at, value_at, behind_value}
 
@@ -28,7 +28,7 @@ named_at table bytes =
 
 unfoldable pub start_at : List ℕ → Reader Start
 start_at table bytes =
-    first_at bytes >>= λ x.
+    first_of bytes >>= λ x.
     if x.0 == LITERAL then named_at table x.1
     else (attr_start 0 x.0 >>= λ start. Some (start, x.1))
 
@@ -44,7 +44,7 @@ node tag attrs kids = record { tag = tag; attrs = attrs; kids = kids }
 -- a node whose content is read by kid
 unfoldable pub node_by : List ℕ → Reader Item → Reader Node
 node_by table kid bytes =
-    first_at bytes >>= λ x.
+    first_of bytes >>= λ x.
     tag_of 0 (x.0 % 64) >>= λ tag.
     closed_if (has_attributes x.0) (attr_at table) x.1 >>= λ attrs.
     closed_if (has_content x.0) kid attrs.1 >>= λ kids.
@@ -83,11 +83,11 @@ pub record IsRead (table : List ℕ) (levels : ℕ) (bytes : List ℕ) : Type 0 
 -- there are none
 
 unfoldable pub attrs_begin : List ℕ → Option (List ℕ)
-attrs_begin bytes = first_at bytes >>= λ x. Some (if has_attributes x.0 then x.1 else [])
+attrs_begin bytes = first_of bytes >>= λ x. Some (if has_attributes x.0 then x.1 else [])
 
 unfoldable pub kids_begin : List ℕ → List ℕ → Option (List ℕ)
 kids_begin table bytes =
-    first_at bytes >>= λ x.
+    first_of bytes >>= λ x.
     rest_of (closed_if (has_attributes x.0) (attr_at table) x.1) >>= λ rest.
     Some (if has_content x.0 then rest else [])
 

@@ -1,5 +1,5 @@
-use Rattle.std.proofs.Common.{◌≡◌, ◌<◌, inl, inr, List, ℕ, true, false, [], ◌++◌, length, ◌∙◌, sym}
-use Rattle.std.proofs.Common.{ap, subst, arith}
+use Rattle.std.proofs.Common.{◌<◌, inl, inr, List, ℕ, true, false, [], length}
+use Rattle.std.proofs.Common.{subst, arith}
 use Rattle.std.proofs.lemmas.List.{append-nil}
 use Rattle.wap_unit.specs.declared.unit.Unit.{Unit}
 use Rattle.wap_dis.specs.Listing.{listing}

@@ -3,7 +3,7 @@ use Rattle.std.specs.Result.{IfOk}
 use Rattle.wap_mask.specs.declared.symbol.Symbol.{Symbol}
 use Rattle.wap_mask.specs.Grammar.{any_text}
 use Rattle.wap_mask.specs.Calculation.{mask_of}
-use Rattle.wap_tokens.proofs.Plain.{chars-plain}
+use Rattle.wap_base.proofs.Plain.{chars-plain}
 use Rattle.wap_cards.proofs.inputs.inputs.any_mask.Goals as goal
 
 pub returns : goal.returns

@@ -1,6 +1,6 @@
 -- Texts of US-ASCII, whose bytes are their characters.
 use Rattle.std.proofs.Common.{◌≡◌, ℕ, zero, suc, ◌<◌, Bool, true, nat_lt, List}
-use Rattle.std.proofs.Common.{[], ◌∷◌, ◌++◌, refl, ap, ◌∙◌, arith}
+use Rattle.std.proofs.Common.{[], ◌∷◌, ◌++◌, refl, ap, ◌∙◌, arith, append_assoc}
 use Rattle.std.specs.Prelude.{encode_utf8_all}
 use Rattle.std.specs.List.{list_all}
 use Rattle.std.specs.Bool.{Decides, one_answer}
@@ -33,6 +33,9 @@ encodes-plain (c ∷ cs) plain =
     let parts = and_parts (nat_lt c 128) (is_plain cs) plain in
     ap (λ bytes. bytes ++ encode_utf8_all cs) (encode_ascii c (below c parts.0))
     ∙ ap (λ rest. c ∷ rest) (encodes-plain cs parts.1)
+
+-- words that lines are put together of
+pub ruleset words = (chars-plain, append_assoc)
 
 -- a text is compared with a plain one by its bytes or by its characters
 pub same-plain : (bytes text known : List ℕ) → bytes ≡ encode_utf8_all text → text ≡ chars bytes

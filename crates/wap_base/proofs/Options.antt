@@ -1,6 +1,6 @@
 -- What an `Option` was made of.
 use Rattle.std.proofs.Common.{◌≡◌, Option, Some, None, refl}
-use Rattle.wap_mask.specs.Calculation.{◌>>=◌}
+use Rattle.wap_base.specs.Options.{◌>>=◌}
 
 -- where a chain gives something, so did its first link
 pub bound : {A B : Type 0} (o : Option A) (f : A → Option B) (b : B) → (o >>= f) ≡ Some b
