@@ -2,7 +2,7 @@
 use crate::values::{give_value, values};
 use wap_asm::lib_args;
 use wap_casebook::{Call, CaseFault, split_by};
-use wap_libs::{Gen, LibOut, arguments_of, call_pure};
+use wap_libs::{Gen, LibOut, call_pure, is_pure};
 use wap_unit::LIBRARY;
 
 /// The seed of a session that nothing is said of.
@@ -41,8 +41,8 @@ fn give_outcome(call: &mut Call, outcome: &LibOut) {
 fn give_call(call: &mut Call, numbers: (u16, u8), limit: u32) -> Result<(), CaseFault> {
     let (lib, f) = numbers;
     let values = values(call);
-    match arguments_of(lib, f) {
-        Some(count) if usize::from(count) == values.len() => {}
+    match lib_args(lib, f) {
+        Some(count) if is_pure(lib, f) && usize::from(count) == values.len() => {}
         _ => return Err(CaseFault::Argument),
     }
     match call_pure(call.alloc(), lib, f, values, &mut Gen::new(SEED), limit) {
@@ -69,19 +69,14 @@ pub fn call_within(call: &mut Call) -> Result<(), CaseFault> {
 
 /// How many arguments a function takes, by the numbers of its library and of it, where it is one of
 /// those that ask no browser, or of all.
-pub fn count_arguments(call: &mut Call, is_pure: bool) -> Result<(), CaseFault> {
+pub fn count_arguments(call: &mut Call, alone: bool) -> Result<(), CaseFault> {
     let Ok(lib) = u16::try_from(call.number32()) else {
         return Err(CaseFault::Argument);
     };
     let f = call.number8();
-    let count = if is_pure {
-        arguments_of(lib, f)
-    } else {
-        lib_args(lib, f)
-    };
-    match count {
-        Some(count) => call.give_number(i64::from(count)),
-        None => call.give_word("none"),
+    match lib_args(lib, f) {
+        Some(count) if !alone || is_pure(lib, f) => call.give_number(i64::from(count)),
+        _ => call.give_word("none"),
     }
     Ok(())
 }

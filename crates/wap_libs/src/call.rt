@@ -1,5 +1,5 @@
 //! Calls by the numbers of library and function.
-ghost use Rattle.std.specs.Prelude.{◌≡◌, ◌≢◌, vec_len, length, Err};
+ghost use Rattle.std.specs.Prelude.{◌≡◌, ◌≢◌, vec_len, length, is_some, Err};
 ghost use Rattle.wap_base.specs.Outcome.{Meets};
 ghost use Rattle.wap_libs.specs.Libraries.{IsPure, function_at, row_of};
 ghost use Rattle.wap_libs.specs.Outcome.{outcome, generator_after, limited};
@@ -37,8 +37,16 @@ pub fn call_pure(
     }
 }
 
+/// Whether a function needs no browser: `call_pure` then takes as many arguments as the table of
+/// libraries says.
+pub fn is_pure(lib: u16, f: u8) -> bool
+    ensures { result ≡ is_some (function_at lib f) }
+{
+    function_at(lib, f).is_some()
+}
+
 /// The function of a library's number and its own.
-pub(crate) fn function_at(lib: u16, f: u8) -> Option<Function>
+fn function_at(lib: u16, f: u8) -> Option<Function>
     ensures { result ≡ function_at lib f }
 {
     let at = usize::from(f);

@@ -6,7 +6,6 @@
 //!   and of the functions themselves. It runs nothing.
 #![tactic(auto)]
 
-mod arity;
 mod call;
 mod fault;
 mod float;
@@ -20,8 +19,7 @@ mod string;
 pub mod texts;
 mod url;
 
-pub use arity::arguments_of;
-pub use call::call_pure;
+pub use call::{call_pure, is_pure};
 pub use fault::LibFault;
 pub use function::{
     FLOAT, FloatFunction, Function, LANG, LangFunction, STRING, StringFunction, URL, UrlFunction,

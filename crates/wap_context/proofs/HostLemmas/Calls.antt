@@ -1,6 +1,6 @@
 -- Calls of libraries: functions that no library has, and results within the limit of Strings.
-use Rattle.std.proofs.Common.{◌≡◌, ◌∙◌, ℕ, List, Bool, true, false, Option, Some}
-use Rattle.std.proofs.Common.{None, refl, sym, ap, ap₂, subst}
+use Rattle.std.proofs.Common.{◌≡◌, ◌∙◌, ℕ, List, Bool, true, false, Option}
+use Rattle.std.proofs.Common.{refl, sym, ap, ap₂, subst}
 use Rattle.std.specs.Prelude.{◌≢◌, Ok, Err, if◌then◌else◌, nat_lt}
 use Rattle.std.proofs.lemmas.Bool.{ne_eqb}
 use Rattle.wap_base.specs.Utf8.{utf8_len}
@@ -8,12 +8,6 @@ use Rattle.wap_value.specs.declared.value.Value.{Value}
 use Rattle.wap_value.specs.declared.value.Value.TheVariants.{Int, Bool as Boolean, Str, Invalid}
 use Rattle.wap_value.specs.declared.fault.ValueFault.TheVariants.{TooLong}
 use Rattle.wap_libs.specs.declared.outcome.LibOut.TheVariants as lib
-use Rattle.wap_unit.specs.Libraries.{lib_args}
-use Rattle.wap_libs.proofs.LawsLemmas.Tables.{handed}
-use Rattle.wap_libs.specs.Libraries.{function_at, row_of, IsPure}
-use Rattle.wap_libs.specs.Row.{arguments}
-use Rattle.wap_libs.specs.declared.function.Function.{Function}
-use Rattle.std.specs.Option.{option_map}
 use Rattle.wap_execution.specs.declared.library.HostOut.{HostOut}
 use Rattle.wap_execution.specs.declared.library.HostOut.TheVariants as out
 use Rattle.wap_machine.specs.Hosts.{IsNoBudget}
@@ -60,22 +54,6 @@ within_gave row old new given kept_out gave is = record {
 }
 
 -- ---- a function that no library has
-
--- ---- a function that needs no browser takes as many arguments as a call hands over
-
-pure_by : (library own count taken : ℕ) (function : Option Function)
-    → lib_args library own ≡ Some count → function_at library own ≡ function
-    → Some taken ≡ option_map (λ f. arguments (row_of f)) function → IsPure library own count
-pure_by library own count taken None handed_over found is = absurd (cc)
-pure_by library own count taken (Some function) handed_over found is =
-    handed library own count function handed_over found
-
-pub is_pure : (library own count taken : ℕ) (given : Option ℕ)
-    → lib_args library own ≡ Some count
-    → given ≡ option_map (λ f. arguments (row_of f)) (function_at library own)
-    → given ≡ Some taken → IsPure library own count
-is_pure library own count taken given handed_over is some =
-    pure_by library own count taken (function_at library own) handed_over refl (sym some ∙ is)
 
 -- ---- libraries that need no browser
 

@@ -13,7 +13,7 @@ ghost use Rattle.wap_context.specs.host.Serving.{Gave, Serves};
 use crate::host::sight::Sight;
 use wap_base::{NoMemory, RunErr};
 use wap_execution::{Fatal, HostOut};
-use wap_libs::{LibFault, LibOut, arguments_of, call_pure};
+use wap_libs::{LibFault, LibOut, call_pure, is_pure};
 use wap_url::Url;
 use wap_value::Value;
 use wap_world::site::Pages;
@@ -30,9 +30,9 @@ impl Sight {
         ensures { IfOk result
             (Gave (pure_call library function arguments.items) self.old self.new) }
     {
-        let Some(_count) = arguments_of(library, function) else {
+        if !is_pure(library, function) {
             return Ok(HostOut::Value(Value::Invalid));
-        };
+        }
         let string = self.state.limits.string;
         let generator = &mut self.state.generator;
         match call_pure(self.alloc, library, function, arguments, generator, string) {

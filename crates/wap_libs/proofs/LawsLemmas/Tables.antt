@@ -2,7 +2,7 @@
 use Rattle.std.proofs.Common.{◌≡◌, ℕ, zero, suc, ◌+◌, Bool, true, false, eqb, ◌&&◌, List, [], ◌∷◌}
 use Rattle.std.proofs.Common.{Option, Some, None, refl, sym, ap, subst, ◌∙◌, inl, inr, arith}
 use Rattle.std.specs.Prelude.{map, option_map, option_and_then, slice_get}
-use Rattle.std.specs.Option.{option_flatten, option_map_or}
+use Rattle.std.specs.Option.{is_some, option_flatten, option_map_or}
 use Rattle.std.specs.List.{flat_map, list_all}
 use Rattle.std.specs.Map.{lookup}
 use Rattle.std.proofs.lemmas.Bool.{and_parts, eqb-true}
@@ -61,6 +61,17 @@ handed number own count function is there =
     sym (ap (λ o. option_map_or (λ f. eqb (arguments (row_of f)) count) o true) there) ∙ takes_so in
     ap (option_map (λ f. arguments (row_of f))) there
     ∙ ap Some (eqb-true (arguments (row_of function)) count so_many)
+
+-- it is one of a function that needs no browser where there is such a function
+pub pure_so : (number own count : ℕ) → is_some (function_at number own) ≡ true
+    → lib_args number own ≡ Some count → IsPure number own count
+pure_so number own count some is =
+    by_found (function_at number own) refl
+  where
+    by_found : (found : Option Function) → function_at number own ≡ found
+        → IsPure number own count
+    by_found None none = absurd (cc (sym some ∙ ap is_some none))
+    by_found (Some function) there = handed number own count function is there
 
 -- ---- from functions to calls
 
