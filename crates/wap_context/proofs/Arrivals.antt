@@ -1,7 +1,7 @@
 -- Entering cards.
 use Rattle.std.proofs.Common.{◌≡◌, ◌∙◌, Bool, true, false, List, [], ◌∷◌, ◌++◌, Option, Some, None}
 use Rattle.std.proofs.Common.{Ok, Err, refl, sym, ap, ap₂, subst, append_assoc, append-nil}
-use Rattle.std.specs.Prelude.{Result, IfOk, if◌then◌else◌, nat_lt, length, drop}
+use Rattle.std.specs.Prelude.{Result, if◌then◌else◌, nat_lt, length, drop}
 use Rattle.wap_tokens.specs.markup.Cards.{cards_of}
 use Rattle.std.specs.Option.{option_and_then}
 use Rattle.wap_tokens.specs.declared.markup.deck.Deck.{Deck}
@@ -16,34 +16,35 @@ use Rattle.wap_world.specs.declared.site.page.Page.TheVariants as page
 use Rattle.wap_world.specs.declared.history.Entry.{Entry}
 use Rattle.wap_world.specs.declared.refusal.Refusal.{Refusal}
 use Rattle.wap_world.specs.declared.timer.Timer.TheVariants.{NotStarted}
-use Rattle.wap_world.specs.World.{World, Place, place_in, deck_in, deck_at, last_entry}
+use Rattle.wap_world.specs.World.{World, Place, place_in, deck_at, last_entry}
 use Rattle.wap_world.specs.Steps.{Scene, Once, Next, then_task, quiet, settled, after_step}
 use Rattle.wap_context.specs.host.Finding.{shelved_page}
 use Rattle.wap_world.specs.Requests.{test, test_of}
 use Rattle.wap_world.specs.Access.{entrance_of, may_enter}
 use Rattle.wap_world.specs.declared.refusal.Refusal.TheVariants as refusals
 use Rattle.wap_world.specs.History.{pushed, entry_of, in_deck, back_at, all_but_last}
-use Rattle.wap_world.specs.Tasks.{card_for, is_new_context, in_context}
-use Rattle.wap_context.specs.Browsers.{Browser, IsOver, place_held}
-use Rattle.wap_context.specs.inside.AtHand.{not_started, show_at, leave_and_set_at, event_at}
-use Rattle.wap_context.specs.inside.AtHand.{entered_at, begun_at, enter_at, arrive_at, arrive_if_at}
-use Rattle.wap_context.specs.inside.AtHand.{return_at, refused_at, with_deck_at}
+use Rattle.wap_world.specs.Screens.{show}
+use Rattle.wap_world.specs.Entering.{event_task, or_show, begin_event, enter}
+use Rattle.wap_world.specs.Tasks.{card_for, is_new_context, in_context, leave_and_set, refusing}
+use Rattle.wap_world.specs.Tasks.{unless_refused, deck_or_refusal, arrive, arrive_if, return}
+use Rattle.wap_context.specs.host.Finding.{shelved_page}
+use Rattle.wap_context.specs.Browsers.{Browser, IsOver, place_held, Shows}
 use Rattle.wap_state.specs.Scenes.{Line}
-use Rattle.wap_context.specs.inside.Moving.{PlaysAt, Moves, HasDeck, Answers, deck_answer}
+use Rattle.wap_context.specs.inside.Moving.{Moves, HasDeck, Answers}
 use Rattle.wap_context.specs.inside.Moving.{page_answer}
 use Rattle.wap_world.proofs.Entries.{last_pushed, earlier_url}
 use Rattle.wap_context.proofs.Plays.{history_kept, turns_kept, over_kept}
 
 -- the answer of a page that is entered is one of a page that is gone back to
 pub entered_deck : (one : Page) (answer : Result Deck Refusal) → page_answer one ≡ Ok answer
-    → answer ≡ deck_answer one
+    → answer ≡ deck_or_refusal (shelved_page one)
 entered_deck (page.Script unit) answer is = absurd (cc)
 entered_deck _ answer is = cc
 
 -- a scene that settles a navigation
 pub moves_settled : (rule : Option Place → World → Scene) (old new : Browser)
     (before after : List Line)
-    → PlaysAt rule old new before after
+    → Shows rule old new before after
     → Moves (settled (quiet [] (rule (place_held old) old.world)))
     (λ shelf. IsOver shelf old) old new before after None
 moves_settled rule old new before after one =
@@ -64,13 +65,13 @@ moves_settled rule old new before after one =
 abbrev Begun : Event → Browser → Browser → List Line → List Line → Option Next
     → Option Task → Type 0
 Begun event old new before after next task =
-    Moves (entered_at (place_held old) old.world task)
+    Moves (or_show (place_held old) [] task old.world)
     (λ shelf. IsOver shelf old) old new before after next
 
 -- an event that has a task
 pub begin_some : (event : Event) (old : Browser) (lines : List Line) (found : Option Task)
-    (task : Task) → found ≡ event_at event (place_held old) old.world → found ≡ Some task
-    → Moves (begun_at event (place_held old) old.world) (λ shelf. IsOver shelf old) old old
+    (task : Task) → found ≡ event_task (place_held old) event old.world → found ≡ Some task
+    → Moves (begin_event (place_held old) [] event old.world) (λ shelf. IsOver shelf old) old old
     lines lines (Some (then_task task))
 begin_some event old lines found task is there =
     subst (Begun event old old lines lines (Some (then_task task))) (sym there ∙ is)
@@ -86,24 +87,26 @@ begin_some event old lines found task is there =
 
 -- one that has none
 pub begin_none : (event : Event) (old new : Browser) (before after : List Line)
-    (found : Option Task) → found ≡ event_at event (place_held old) old.world → found ≡ None
-    → PlaysAt show_at old new before after
-    → Moves (begun_at event (place_held old) old.world)
+    (found : Option Task) → found ≡ event_task (place_held old) event old.world → found ≡ None
+    → Shows show old new before after
+    → Moves (begin_event (place_held old) [] event old.world)
     (λ shelf. IsOver shelf old) old new before after None
 begin_none event old new before after found is there shown =
     subst (Begun event old new before after None) (sym there ∙ is)
-    (moves_settled show_at old new before after shown)
+    (moves_settled show old new before after shown)
 
 -- the timer is not started before
 pub enters_by : (event : Event) (old mid new : Browser) (before after : List Line)
-    (next : Option Next) → mid ≡ not_started old
-    → Moves (begun_at event (place_held mid) mid.world) (λ shelf. IsOver shelf mid) mid new
+    (next : Option Next)
+    → mid ≡ record old { world = record old.world { timer = NotStarted } }
+    → Moves (begin_event (place_held mid) [] event mid.world) (λ shelf. IsOver shelf mid) mid new
     before after next
-    → Moves (enter_at event (place_held old) old.world) (λ shelf. IsOver shelf old) old new
+    → Moves (enter (place_held old) [] event old.world) (λ shelf. IsOver shelf old) old new
     before after next
 enters_by event old mid new before after next is moves =
     let one = subst (λ (b : Browser).
-    Moves (begun_at event (place_held b) b.world) (λ shelf. IsOver shelf b) b new before after next)
+    Moves (begin_event (place_held b) [] event b.world) (λ shelf. IsOver shelf b) b new before after
+    next)
     is moves in
     record {
       world = one.world;
@@ -119,15 +122,15 @@ enters_by event old mid new before after next is moves =
 module _ (sets : Pairs) (event : Event) (old left mid new : Browser)
     (before shown after : List Line)
     (next : Option Next) (entry : Entry) (deck : Deck)
-    (leaves : PlaysAt (leave_and_set_at sets) old left before shown)
+    (leaves : Shows (λ place. leave_and_set place sets) old left before shown)
     (there : place_held mid ≡ place_in entry deck)
-    (enters : Moves (enter_at event (place_held mid) mid.world)
+    (enters : Moves (enter (place_held mid) [] event mid.world)
     (λ shelf. IsOver shelf mid) mid new shown after next) where
   abbrev scene : Scene
-  scene = leave_and_set_at sets (place_held old) old.world
+  scene = leave_and_set (place_held old) sets old.world
 
   abbrev entered : World → Once
-  entered world = enter_at event (place_in entry deck) world
+  entered world = enter (place_in entry deck) [] event world
 
   pub moves_on : (url : Url) (inside : World → World) → mid.world ≡ inside left.world
       → mid.world.turns ≡ left.world.turns
@@ -136,8 +139,8 @@ module _ (sets : Pairs) (event : Event) (old left mid new : Browser)
       (HasDeck url deck) old new before after next
   moves_on url inside mid_is turns over =
       let world : mid.world ≡ inside scene.world = mid_is ∙ ap inside leaves.plays.world in
-      let onces : enter_at event (place_held mid) mid.world ≡ entered (inside scene.world) =
-      ap₂ (λ (p : Option Place) (w : World). enter_at event p w) there world in
+      let onces : enter (place_held mid) [] event mid.world ≡ entered (inside scene.world) =
+      ap₂ (λ (p : Option Place) (w : World). enter p [] event w) there world in
       record {
         world = enters.world ∙ ap (λ (o : Once). o.step.world) onces;
         lines = enters.lines
@@ -174,16 +177,6 @@ over_pushed history entry mid deck shelf is held has =
     ∙ last_pushed None history entry in
     ap (option_and_then (λ (one : Entry). deck_at shelf one.url)) last ∙ has ∙ sym held
 
--- a deck that answers is what the page is to the rules
-pub answers_deck : (one : Page) (answer : Result Deck Refusal) → answer ≡ deck_answer one
-    → IfOk answer (λ deck. deck_in (shelved_page one) ≡ Some deck)
-answers_deck one (Err why) is = tt
-answers_deck (page.Deck other) (Ok deck) is = cc
-answers_deck (page.Script unit) (Ok deck) is = absurd (cc)
-answers_deck (page.Words text) (Ok deck) is = absurd (cc)
-answers_deck page.Refused (Ok deck) is = absurd (cc)
-answers_deck page.Missing (Ok deck) is = absurd (cc)
-
 pub context_turns : (new : Bool) (w : World)
     → (if new then record w { vars = []; history = []; timer = NotStarted } else w).turns ≡ w.turns
 context_turns true w = refl
@@ -191,16 +184,16 @@ context_turns false w = refl
 
 pub arrives : (sets : Pairs) (url : Url) (deck : Deck) (old left mid new : Browser)
     (before shown after : List Line) (next : Option Next)
-    → PlaysAt (leave_and_set_at sets) old left before shown
+    → Shows (λ place. leave_and_set place sets) old left before shown
     → mid ≡ record {
       world =
           pushed (in_context deck (card_for deck url) left.world)
           (entry_of url (card_for deck url));
       deck = Some deck;
     }
-    → Moves (enter_at Forward (place_held mid) mid.world)
+    → Moves (enter (place_held mid) [] Forward mid.world)
     (λ shelf. IsOver shelf mid) mid new shown after next
-    → Moves (arrive_at sets url (place_held old) old.world deck)
+    → Moves (arrive (place_held old) [] sets url old.world deck)
     (HasDeck url deck) old new before after next
 arrives sets url deck old left mid new before shown after next leaves mid_is enters =
     let number = card_for deck url in
@@ -221,11 +214,11 @@ arrives sets url deck old left mid new before shown after next leaves mid_is ent
 
 pub returns_to : (sets : Pairs) (earlier : Entry) (deck : Deck) (old left mid new : Browser)
     (before shown after : List Line) (next : Option Next)
-    → PlaysAt (leave_and_set_at sets) old left before shown
+    → Shows (λ place. leave_and_set place sets) old left before shown
     → mid ≡ record { world = back_at left.world (in_deck deck earlier); deck = Some deck }
-    → Moves (enter_at Backward (place_held mid) mid.world)
+    → Moves (enter (place_held mid) [] Backward mid.world)
     (λ shelf. IsOver shelf mid) mid new shown after next
-    → Moves (return_at sets earlier (place_held old) old.world deck)
+    → Moves (return (place_held old) [] sets earlier old.world deck)
     (HasDeck earlier.url deck) old new before after next
 returns_to sets earlier deck old left mid new before shown after next leaves mid_is enters =
     let entry = in_deck deck earlier in
@@ -262,7 +255,7 @@ module _ (rule : Deck → Once) (url : Url) (old new : Browser) (before after : 
     (answer : Result Deck Refusal) where
   abbrev MovesBy : Result Deck Refusal → Type 0
   MovesBy one =
-      Moves (with_deck_at (place_held old) old.world rule one)
+      Moves (unless_refused (place_held old) [] old.world rule one)
       (Answers url one old) old new before after next
 
   pub moves_ok : (deck : Deck) (These : Shelf → Type 0) → answer ≡ Ok deck
@@ -273,11 +266,11 @@ module _ (rule : Deck → Once) (url : Url) (old new : Browser) (before after : 
       (λ shelf so. onto shelf so.0 so.1) moves)
 
   pub moves_no : (refusal : Refusal) → answer ≡ Err refusal
-      → Moves (refused_at refusal (place_held old) old.world)
+      → Moves (refusing (place_held old) [] refusal old.world)
       (λ shelf. IsOver shelf old) old new before after next
       → MovesBy answer
   moves_no refusal is moves = subst MovesBy (sym is)
-      (moves_where (refused_at refusal (place_held old) old.world) (λ shelf. IsOver shelf old)
+      (moves_where (refusing (place_held old) [] refusal old.world) (λ shelf. IsOver shelf old)
       (Answers url (Err refusal) old) old new before after next
       (λ shelf so. so.0) moves)
 
@@ -286,11 +279,11 @@ module _ (sets : Pairs) (caller : Option Url) (url : Url) (deck : Deck) (old new
   abbrev Tries : Bool → Type 0
   Tries b =
       Moves (after_step (test [] (test_of url caller (entrance_of deck)) old.world)
-      (arrive_if_at sets url (place_held old) old.world deck b))
+      (arrive_if (place_held old) [] sets url old.world deck b))
       (λ shelf. IsOver shelf old × HasDeck url deck shelf) old new before after next
 
   pub tries_allowed : may_enter url (entrance_of deck) caller ≡ true
-      → Moves (arrive_at sets url (place_held old) old.world deck)
+      → Moves (arrive (place_held old) [] sets url old.world deck)
       (HasDeck url deck) old new before after next
       → Tries (may_enter url (entrance_of deck) caller)
   tries_allowed is moves = subst Tries (sym is) (record {
@@ -304,7 +297,7 @@ module _ (sets : Pairs) (caller : Option Url) (url : Url) (deck : Deck) (old new
   })
 
   pub tries_denied : may_enter url (entrance_of deck) caller ≡ false
-      → Moves (refused_at refusals.Denied (place_held old) old.world)
+      → Moves (refusing (place_held old) [] refusals.Denied old.world)
       (λ shelf. IsOver shelf old) old new before after next
       → Tries (may_enter url (entrance_of deck) caller)
   tries_denied is moves = subst Tries (sym is) (record {

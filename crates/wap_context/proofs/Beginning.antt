@@ -1,5 +1,5 @@
 -- Scripts that are started: what the decision and the start come to.
-use Rattle.std.proofs.Common.{◌≡◌, ◌∙◌, ℕ, Bool, true, false, List, [], ◌∷◌, Option, Some}
+use Rattle.std.proofs.Common.{◌≡◌, Err, ◌∙◌, ℕ, Bool, true, false, List, [], ◌∷◌, Option, Some}
 use Rattle.std.proofs.Common.{None, Ok, refl, sym, ap, ap₂, subst, cond, eqb, arith, append-nil}
 use Rattle.std.specs.Prelude.{Result, length, slice_get}
 use Rattle.std.specs.Option.{option_map, option_and_then}
@@ -25,40 +25,33 @@ use Rattle.wap_world.specs.site.Asking.{Seen}
 use Rattle.wap_world.proofs.SiteLemmas.Asking.{Asks-nil, Stays-same}
 use Rattle.wap_world.specs.Shelves.{Shelf}
 use Rattle.wap_world.specs.World.{World, Place}
-use Rattle.wap_world.specs.Steps.{Scene, Step, still, behind, quiet, settled, after_step}
+use Rattle.wap_world.specs.Steps.{Scene, Step, Once, still, quiet, after_step}
 use Rattle.wap_world.specs.Setting.{set_variables}
 use Rattle.wap_world.specs.Sites.{failed as failed_by, External, Call}
 use Rattle.wap_world.specs.Access.{may_enter}
 use Rattle.wap_world.specs.Requests.{test, test_of}
-use Rattle.wap_world.specs.Starting.{script_line, is_too_long, not_started, ended_script}
-use Rattle.wap_world.proofs.Joining.{once_before}
+use Rattle.wap_world.specs.Starting.{Start, is_too_long, not_started, end_by, ended_script}
+use Rattle.wap_world.specs.Starting.{start_of, start_by, started, start_if, external_started}
+use Rattle.wap_world.specs.Tasks.{try_script}
+use Rattle.wap_base.proofs.Choices.{ok_same}
 use Rattle.wap_world.specs.scripting.Units.{entrance_in, index_named, external_in}
 use Rattle.wap_world.specs.scripting.UnitSites.{Pages, shelf_of, unit_pages, keyed_host, ran_of}
-use Rattle.wap_world.specs.scripting.UnitSites.{started_at}
+use Rattle.wap_world.specs.scripting.UnitSites.{started_at, unit_script}
 use Rattle.wap_world.specs.scripting.Waiting.{inside}
 use Rattle.wap_state.specs.Scenes.{Line}
 use Rattle.wap_context.specs.declared.waiting.Went.{Went}
-use Rattle.wap_context.specs.declared.starting.Start.{Start}
-use Rattle.wap_context.specs.declared.starting.Start.TheVariants.{Not, Runs}
-use Rattle.wap_context.specs.Browsers.{Browser, IsOver, place_held}
-use Rattle.wap_context.specs.Sites.{fragment_call}
+use Rattle.wap_context.specs.Browsers.{Browser, IsOver, place_held, Shows}
 use Rattle.wap_context.specs.Pausing.{Paused}
-use Rattle.wap_context.specs.inside.AtHand.{show_at}
-use Rattle.wap_context.specs.inside.Moving.{PlaysAt, Moves, Takes, next_in, waits_in}
-use Rattle.wap_context.specs.inside.Starting.{if_long, start_found, start_called, start_of}
-use Rattle.wap_context.specs.inside.Starting.{begun_with}
-use Rattle.wap_context.specs.inside.Starting.{started_with, allowed_with, script_with, run_with}
-use Rattle.wap_context.specs.inside.Starting.{not_started_at, failed_at, end_at}
+use Rattle.wap_context.specs.inside.Moving.{Moves, Takes, next_in, waits_in}
+use Rattle.wap_context.specs.inside.Starting.{call_at, run_with}
+use Rattle.wap_context.specs.inside.Starting.{end_at}
 use Rattle.wap_machine.specs.declared.machine.Outcome.TheVariants.{Fatal as Died}
-use Rattle.wap_context.proofs.Ending.{failed_is}
+use Rattle.wap_world.proofs.ScriptingLawsLemmas.Runs.{keys_end}
 use Rattle.wap_context.proofs.Places.{held_now}
 use Rattle.wap_context.proofs.Plays.{history_kept, over_kept, turns_kept}
 use Rattle.wap_context.proofs.Takings.{Rule, takes_moves, takes_by, takes_from, takes_after}
 
 -- ---- what is started can be entered
-
-starts_not : (why : Fatal) (index : ℕ) (arguments : List Value) → Not why ≡ Runs index arguments → ⊥
-starts_not why index arguments is = absurd (cc)
 
 -- the code of the function that a name finds
 code_found : (unit : Unit) (index : ℕ) (one : External) (found : Option Code)
@@ -87,23 +80,30 @@ external_code unit one (Some index) is =
     code_found unit index one (slice_get unit.functions index) refl is
 
 long_starts : (given arguments : List Value) (one : External) (index : ℕ) (b : Bool)
-    → cond b (Not fatal.TooLong) (Runs one.index given) ≡ Runs index arguments
+    → ◌≡◌ {A = Start} (cond b (Err fatal.TooLong) (Ok (one.index, given))) (Ok (index, arguments))
     → (one.index ≡ index) × (given ≡ arguments)
-long_starts given arguments one index true is =
-    absurd (starts_not fatal.TooLong index arguments is)
-long_starts given arguments one index false is = (cc, cc)
+long_starts given arguments one index true is = absurd (cc)
+long_starts given arguments one index false is =
+    let same = ok_same {E = Fatal} (one.index, given) (index, arguments) is in (
+      ap (λ (s : ℕ × List Value). s.0) same,
+      ap (λ (s : ℕ × List Value). s.1) same,
+    )
 
 module _ (unit : Unit) (string : ℕ) (base : Url) (referer : Option Url) (index : ℕ)
     (arguments : List Value) where
   abbrev function : Function
   function = record { unit = unit; base = base; referer = referer; index = index }
 
+  -- this is started
+  abbrev Starts : Start → Type 0
+  Starts start = start ≡ Ok (index, arguments)
+
   many_enters : (given : List Value) (name : List ℕ) (one : External) (b : Bool)
       → external_in unit name ≡ Some one → eqb one.arguments (length given) ≡ b
-      → cond b (if_long given string one.index) (Not fatal.Arguments) ≡ Runs index arguments
+      → Starts (cond b (cond (list_any (is_too_long string) given) (Err fatal.TooLong)
+      (Ok (one.index, given))) (Err fatal.Arguments))
       → CanEnter function arguments
-  many_enters given name one false is many starts =
-      absurd (starts_not fatal.Arguments index arguments starts)
+  many_enters given name one false is many starts = absurd (cc)
   many_enters given name one true is many starts =
       let same = long_starts given arguments one index (list_any (is_too_long string) given) starts
       in
@@ -116,118 +116,128 @@ module _ (unit : Unit) (string : ℕ) (base : Url) (referer : Option Url) (index
       }
 
   found_enters : (given : List Value) (name : List ℕ) (external : Option External)
-      → external_in unit name ≡ external
-      → start_found given string external ≡ Runs index arguments → CanEnter function arguments
-  found_enters given name None is starts =
-      absurd (starts_not fatal.NoFunction index arguments starts)
+      → external_in unit name ≡ external → Starts (start_of string given external)
+      → CanEnter function arguments
+  found_enters given name None is starts = absurd (cc)
   found_enters given name (Some one) is starts =
       many_enters given name one (eqb one.arguments (length given)) is refl starts
 
-  called_enters : (call : Option Call) → start_called unit string call ≡ Runs index arguments
+  pub start_enters : (call : Option Call) (found : Start)
+      → found ≡ start_by (external_in unit) string call → Starts found
       → CanEnter function arguments
-  called_enters None starts = absurd (starts_not fatal.NoFunction index arguments starts)
-  called_enters (Some call) starts =
-      found_enters call.arguments call.function (external_in unit call.function) refl starts
+  start_enters None found is starts = absurd (cc)
+  start_enters (Some call) found is starts =
+      found_enters call.arguments call.function (external_in unit call.function) refl
+      (sym is ∙ starts)
 
-  pub start_enters : (url : Url) (found : Start) → found ≡ start_of unit string url
-      → found ≡ Runs index arguments → CanEnter function arguments
-  start_enters url found is starts =
-      called_enters (option_and_then fragment_call url.fragment) (sym is ∙ starts)
-
--- ---- a script isn't started
-
--- over a shelf that has the deck at hand
-not_started_is : (shelf : Shelf) (old : Browser) → IsOver shelf old → (why : Fatal)
-    (keys : List Key)
-    → not_started shelf keys why old.world
-    ≡ once_before keys (not_started_at why (place_held old) old.world)
-not_started_is shelf old over why keys =
-    ap (λ (p : Option Place).
-    settled (quiet keys (behind (script_line why ∷ []) (show_at p old.world))))
-    (held_now shelf old over)
+-- ---- what is started, or why nothing is
 
 module _ (seen : Seen) (old new : Browser) (before shown : List Line) (unit : Unit) (sets : Pairs)
     (caller : Option Url) (url : Url) where
-  -- the rule for whatever is started
+  -- the place at hand
+  abbrev place : Option Place
+  place = place_held old
+
+  -- whatever is started
+  abbrev starts : Pages → List Key → World → Start → Once
+  starts pages keys = started (shelf_of pages) (unit_script pages unit) place keys sets caller url
+
+  -- its rule
   abbrev pub Starting : Rule
-  Starting pages keys world =
-      started_with unit sets caller url (start_of unit world.limits.string url) pages keys world
+  Starting pages keys world = starts pages keys world
+      (start_by (external_in unit) world.limits.string (call_at url))
+
+  -- what is found starts in the browser's world
+  starts_found : (found : Start) (string : ℕ)
+      → found ≡ start_by (external_in unit) string (call_at url)
+      → string ≡ old.world.limits.string → (pages : Pages) (keys : List Key)
+      → starts pages keys old.world found ≡ Starting pages keys old.world
+  starts_found found string is limit pages keys =
+      ap (starts pages keys old.world)
+      (is ∙ ap (λ (n : ℕ). start_by (external_in unit) n (call_at url)) limit)
 
   pub start_rejects : (why : Fatal) (found : Start) (string : ℕ) (went : Went)
-      → found ≡ start_of unit string url → string ≡ old.world.limits.string → found ≡ Not why
-      → Moves (not_started_at why (place_held old) old.world) (λ shelf. IsOver shelf old) old new
+      → found ≡ start_by (external_in unit) string (call_at url)
+      → string ≡ old.world.limits.string → found ≡ Err why
+      → Moves (not_started (place_held old) [] why old.world) (λ shelf. IsOver shelf old) old new
       before shown (next_in went) → waits_in went ≡ None
       → Takes Starting seen seen old new before shown (Ok went)
   start_rejects why found string went is limit rejected moves none =
       takes_moves Starting seen old new before shown went
-      (not_started_at why (place_held old) old.world) (λ shelf. IsOver shelf old) moves none
+      (not_started (place_held old) [] why old.world) (λ shelf. IsOver shelf old) moves none
       (λ judged may over.
       let pages = unit_pages judged in (
         over,
-        λ keys.
-            ap (λ (one : Start). started_with unit sets caller url one pages keys old.world)
-            (ap (λ (n : ℕ). start_of unit n url) (sym limit) ∙ sym is ∙ rejected)
-            ∙ not_started_is (shelf_of pages) old over why keys,
+        λ keys. sym (starts_found found string is limit pages keys)
+            ∙ ap (starts pages keys old.world) rejected,
       ))
+
+  -- the rule for a function
+  abbrev pub Begins : ℕ → List Value → Rule
+  Begins index arguments pages keys world =
+      external_started (shelf_of pages) (unit_script pages unit) keys sets caller url world index
+      arguments
 
   pub start_begins : (after : Seen) (result : Result Went RunErr) (found : Start) (string : ℕ)
       (index : ℕ) (arguments : List Value)
-      → found ≡ start_of unit string url → string ≡ old.world.limits.string
-      → found ≡ Runs index arguments
-      → Takes (begun_with unit sets caller url index arguments) seen after old new before shown
-      result → Takes Starting seen after old new before shown result
+      → found ≡ start_by (external_in unit) string (call_at url)
+      → string ≡ old.world.limits.string → found ≡ Ok (index, arguments)
+      → Takes (Begins index arguments) seen after old new before shown result
+      → Takes Starting seen after old new before shown result
   start_begins after result found string index arguments is limit runs takes =
-      takes_from Starting (begun_with unit sets caller url index arguments) seen after old new
-      before
-      shown result
-      (λ pages over keys.
-      ap (λ (one : Start). started_with unit sets caller url one pages keys old.world)
-      (sym runs ∙ is ∙ ap (λ (n : ℕ). start_of unit n url) limit)) takes
+      takes_from Starting (Begins index arguments) seen after old new before shown result
+      (λ pages over keys. ap (starts pages keys old.world) (sym runs)
+      ∙ starts_found found string is limit pages keys) takes
 
   -- ---- the access decision
 
   -- the rule after the test
   abbrev Allowed : Bool → Rule
-  Allowed b pages keys world = allowed_with unit sets caller url b pages keys world
+  Allowed b pages keys world =
+      start_if (shelf_of pages) (unit_script pages unit) place keys sets caller url world
+      (call_at url) b
+
+  -- and with it
+  abbrev pub Tries : Rule
+  Tries pages keys world =
+      try_script (shelf_of pages) (unit_script pages unit) place keys sets caller url world
+      (call_at url) (entrance_in unit)
 
   tested : (after : Seen) (result : Result Went RunErr) (b : Bool)
       → b ≡ may_enter url (entrance_in unit) caller
       → Takes (Allowed b) seen after old new before shown result
-      → Takes (script_with unit sets caller url) seen after old new before shown result
+      → Takes Tries seen after old new before shown result
   tested after result b is takes =
       let one = test_of url caller (entrance_in unit) in
-      takes_after (script_with unit sets caller url) (Allowed b) (test [] one old.world) seen seen
+      takes_after Tries (Allowed b) (test [] one old.world) seen seen
       after old new before before shown result (sym (append-nil before)) refl (Stays-same seen) refl
       (λ judged may over. (
         Asks-nil seen,
         λ keys.
             ap (λ (c : Bool). after_step (test keys one old.world)
-            (allowed_with unit sets caller url c (unit_pages judged) keys old.world)) (sym is),
+            (Allowed c (unit_pages judged) keys old.world)) (sym is),
       ))
       takes
 
   pub script_allowed : (after : Seen) (result : Result Went RunErr) (b : Bool)
       → b ≡ may_enter url (entrance_in unit) caller → b ≡ true
       → Takes Starting seen after old new before shown result
-      → Takes (script_with unit sets caller url) seen after old new before shown result
+      → Takes Tries seen after old new before shown result
   script_allowed after result b is allowed takes =
       tested after result true (sym allowed ∙ is) takes
 
   pub script_denied : (went : Went) (b : Bool)
       → b ≡ may_enter url (entrance_in unit) caller → b ≡ false
-      → Moves (not_started_at fatal.Denied (place_held old) old.world) (λ shelf. IsOver shelf old)
+      → Moves (not_started (place_held old) [] fatal.Denied old.world) (λ shelf. IsOver shelf old)
       old
       new before shown (next_in went) → waits_in went ≡ None
-      → Takes (script_with unit sets caller url) seen seen old new before shown (Ok went)
+      → Takes Tries seen seen old new before shown (Ok went)
   script_denied went b is denied moves none =
       tested seen (Ok went) false (sym denied ∙ is)
       (takes_moves (Allowed false) seen old new before shown went
-      (not_started_at fatal.Denied (place_held old) old.world) (λ shelf. IsOver shelf old) moves
+      (not_started (place_held old) [] fatal.Denied old.world) (λ shelf. IsOver shelf old) moves
       none
-      (λ judged may over. (
-        over,
-        not_started_is (shelf_of (unit_pages judged)) old over fatal.Denied,
-      )))
+      (λ judged may over. (over, λ keys. refl)))
 
 -- ---- the start
 
@@ -247,7 +257,7 @@ cleared b = record b { world = record b.world { pending = None } }
 module _ (unit : Unit) (sets : Pairs) (caller : Option Url) (url : Url) (index : ℕ)
     (arguments : List Value) (old left mid : Browser) (first : List Line) (machine : Stack)
     (base : Url) (limits : Limits)
-    (plays : PlaysAt (λ place. set_variables sets) old left [] first) (mid_is : mid ≡ cleared left)
+    (plays : Shows (λ place. set_variables sets) old left [] first) (mid_is : mid ≡ cleared left)
     (base_is : base ≡ without_fragment url) (limits_are : limits ≡ mid.world.limits)
     (entered : IsEntered limits
     (record { unit = unit; base = base; referer = caller; index = index }) arguments [] machine)
@@ -261,7 +271,8 @@ module _ (unit : Unit) (sets : Pairs) (caller : Option Url) (url : Url) (index :
 
     begin_is : (pages : Pages) (keys : List Key)
         → run_with machine base first pages keys mid.world
-        ≡ begun_with unit sets caller url index arguments pages keys old.world
+        ≡ external_started (shelf_of pages) (unit_script pages unit) keys sets caller url old.world
+        index arguments
     begin_is pages keys =
         let function : Function =
         record { unit = unit; base = base; referer = caller; index = index } in
@@ -291,11 +302,11 @@ module _ (unit : Unit) (sets : Pairs) (caller : Option Url) (url : Url) (index :
     pub begin_takes : (seen after : Seen) (new : Browser) (before shown : List Line)
         (result : Result Went RunErr)
         → Takes (run_with machine base first) seen after mid new before shown result
-        → Takes (begun_with unit sets caller url index arguments) seen after old new before shown
-        result
+        → Takes (λ pages keys world. external_started (shelf_of pages) (unit_script pages unit) keys
+        sets caller url world index arguments) seen after old new before shown result
     begin_takes seen after new before shown result takes =
-        takes_by (begun_with unit sets caller url index arguments) (run_with machine base first)
-        seen
+        takes_by (λ pages keys world. external_started (shelf_of pages) (unit_script pages unit)
+        keys sets caller url world index arguments) (run_with machine base first) seen
         after old mid new before shown result (λ pages over. left_over (shelf_of pages) over)
         (λ pages over keys. begin_is pages keys)
         (omega (
@@ -349,17 +360,18 @@ Stops base pages keys world = ended_script (shelf_of pages) base (record {
 
 pub stop_takes : (seen : Seen) (old new : Browser) (before shown : List Line) (base at : Url)
     (went : Went) → at ≡ base
-    → Moves (end_at at (Died fatal.Stopped) (place_held old) old.world) (λ shelf. IsOver shelf old)
+    → Moves (end_at (place_held old) at (Died fatal.Stopped) old.world) (λ shelf. IsOver shelf old)
     old new before shown (next_in went) → waits_in went ≡ None
     → Takes (Stops base) seen seen old new before shown (Ok went)
 stop_takes seen old new before shown base at went at_is moves none =
     takes_moves (Stops base) seen old new before shown went
-    (failed_at fatal.Stopped (place_held old) old.world) (λ shelf. IsOver shelf old) moves none
+    (end_at (place_held old) at (Died fatal.Stopped) old.world) (λ shelf. IsOver shelf old) moves
+    none
     (λ judged may over.
-    let shelf = shelf_of (unit_pages judged) in (
+    let stopped = failed_by fatal.Stopped in (
       over,
       λ keys.
-          failed_is shelf base (quiet keys (still old.world)) fatal.Stopped
-          ∙ ap (λ (p : Option Place). once_before keys (failed_at fatal.Stopped p old.world))
-          (held_now shelf old over),
+          ap (λ (p : Option Place). end_by p base stopped (quiet keys (still old.world)))
+          (held_now (shelf_of (unit_pages judged)) old over)
+          ∙ keys_end (place_held old) base stopped keys (quiet [] (still old.world)),
     ))

@@ -3,7 +3,6 @@ pub mod Standing
 pub mod Plays
 pub mod Arrivals
 pub mod HeldDecks
-pub mod Rules
 pub mod Takings
 pub mod Scripts
 pub mod Navigations

@@ -1,6 +1,6 @@
 -- Time that passes: quiet steps, a timer that runs out, and time in a dialog.
 use Rattle.std.proofs.Common.{◌≡◌, ◌∙◌, ◌<◌, ◌≤◌, ◌-◌, ℕ, Bool, List, [], ◌++◌, Option, Some, None}
-use Rattle.std.proofs.Common.{Ok, Err, refl, sym, ap, subst, cond}
+use Rattle.std.proofs.Common.{Ok, Err, refl, ap₂, sym, ap, subst, cond}
 use Rattle.std.specs.Prelude.{Result, IsErr, IsErrAnd}
 use Rattle.std.specs.Option.{option_map}
 use Rattle.std.proofs.lemmas.Bool.{lt-ltb, le-ltb, false≢true}
@@ -15,26 +15,24 @@ use Rattle.wap_world.specs.declared.timer.Timer.{Timer}
 use Rattle.wap_world.specs.declared.timer.Timer.TheVariants.{Running}
 use Rattle.wap_world.specs.Shelves.{Shelf}
 use Rattle.wap_world.specs.World.{World, Place}
-use Rattle.wap_world.specs.Steps.{Scene, Step, then_task, still, quiet, then_step, followed}
+use Rattle.wap_world.specs.Steps.{Scene, Step, then_task, still, quiet, then_step}
 use Rattle.wap_world.specs.Screens.{at_place}
 use Rattle.wap_world.specs.Entering.{event_task}
 use Rattle.wap_world.specs.Tasks.{act}
-use Rattle.wap_world.specs.Keys.{ignored, act_or, expire, pass_time, at_card}
+use Rattle.wap_world.specs.Keys.{ignored, act_or, expire, pass_time}
 use Rattle.wap_world.proofs.Joining.{joined_nothing}
-use Rattle.wap_world.specs.scripting.UnitSites.{Pages, shelf_of, unit_pages, units_site}
+use Rattle.wap_world.specs.scripting.UnitSites.{Pages, shelf_of, unit_pages}
 use Rattle.wap_state.specs.Scenes.{Line}
 use Rattle.wap_context.specs.declared.waiting.Went.{Went}
 use Rattle.wap_context.specs.declared.waiting.Went.TheVariants.{Settled, Leads, Asks as AsksUser}
 use Rattle.wap_context.specs.declared.waiting.Step.{Step as Did}
 use Rattle.wap_context.specs.declared.waiting.Step.TheVariants.{Settled as Done}
-use Rattle.wap_context.specs.Browsers.{Browser, IsOver, place_held}
+use Rattle.wap_context.specs.Browsers.{Browser, IsOver, place_held, Shows}
 use Rattle.wap_context.specs.Sites.{site_of}
 use Rattle.wap_context.specs.Acting.{tick}
-use Rattle.wap_context.specs.inside.AtHand.{event_at}
-use Rattle.wap_context.specs.inside.Moving.{PlaysAt, next_in, waits_in, pursued, Ends, Pursues}
+use Rattle.wap_context.specs.inside.Moving.{next_in, waits_in, pursued, Ends, Pursues}
 use Rattle.wap_context.specs.inside.Ticking.{left_of, left_at, end_place, run_out}
-use Rattle.wap_context.proofs.Places.{held_now}
-use Rattle.wap_context.proofs.Plays.{history_kept, over_kept, if_ok}
+use Rattle.wap_context.proofs.Plays.{history_kept, place_kept, over_kept, if_ok}
 use Rattle.wap_context.proofs.Takings.{over_map}
 use Rattle.wap_context.proofs.Pursuing.{StepRule, Going, ends_settled, pursues_after}
 
@@ -124,34 +122,17 @@ is_scene rule seen old new before shown scene world lines onto is =
 
 -- ---- the timer of a card
 
--- what remains of it tells what time that passes comes to
-abbrev tick_by : (n : ℕ) (pages : Pages) (keys : List Key) (w : World) → Option Place → Step
-tick_by n pages keys w place =
-    at_card keys w (λ p. pass_time (site_of pages) keys n w.timer p w) place
-
-tick_is : (n : ℕ) (pages : Pages) (keys : List Key) (old : Browser) → IsOver (shelf_of pages) old
-    → tick n pages keys old.world ≡ tick_by n pages keys old.world (place_held old)
-unfolding units_site
-tick_is n pages keys old over =
-    ap (tick_by n pages keys old.world) (held_now (shelf_of pages) old over)
-
 none_by : (n : ℕ) (pages : Pages) (keys : List Key) (w : World) (timer : Timer) (place : Place)
     → left_of timer ≡ None
     → pass_time (site_of pages) keys n timer place w ≡ quiet keys (ignored w)
 none_by n pages keys w (Running time) place is = absurd (cc)
 none_by n pages keys w _ place is = refl
 
-none_at : (n : ℕ) (pages : Pages) (keys : List Key) (w : World) (place : Option Place)
-    → left_at place w.timer ≡ None → tick_by n pages keys w place ≡ quiet keys (ignored w)
-none_at n pages keys w None is = refl
-none_at n pages keys w (Some place) is = none_by n pages keys w w.timer place is
-
 -- no timer runs
-pub tick_none : (n : ℕ) (pages : Pages) (keys : List Key) (old : Browser)
-    → IsOver (shelf_of pages) old → left_at (place_held old) old.world.timer ≡ None
-    → tick n pages keys old.world ≡ quiet keys (ignored old.world)
-tick_none n pages keys old over is =
-    tick_is n pages keys old over ∙ none_at n pages keys old.world (place_held old) is
+pub tick_none : (n : ℕ) (pages : Pages) (keys : List Key) (w : World) (place : Option Place)
+    → left_at place w.timer ≡ None → tick n place pages keys w ≡ quiet keys (ignored w)
+tick_none n pages keys w None is = refl
+tick_none n pages keys w (Some place) is = none_by n pages keys w w.timer place is
 
 -- one runs, with so much left
 running_by : (timer : Timer) (left : ℕ) → left_of timer ≡ Some left → timer ≡ Running left
@@ -171,37 +152,27 @@ runs_at (Some place) timer left is =
     record { at = place; place_is = refl; timer_is = running_by timer left is }
 
 -- less passes than remains
-pub tick_less : (n left : ℕ) (pages : Pages) (keys : List Key) (old : Browser)
-    → IsOver (shelf_of pages) old → Some left ≡ left_at (place_held old) old.world.timer → n < left
-    → tick n pages keys old.world
-    ≡ quiet keys (still (record old.world { timer = Running (left - n) }))
-unfolding units_site
-tick_less n left pages keys old over is less =
-    let runs = runs_at (place_held old) old.world.timer left (sym is) in
-    let w = old.world in
-    tick_is n pages keys old over
-    ∙ ap (tick_by n pages keys w) runs.place_is
+pub tick_less : (n left : ℕ) (pages : Pages) (keys : List Key) (w : World) (place : Option Place)
+    → Some left ≡ left_at place w.timer → n < left
+    → tick n place pages keys w ≡ quiet keys (still (record w { timer = Running (left - n) }))
+tick_less n left pages keys w place is less =
+    let runs = runs_at place w.timer left (sym is) in
+    ap (λ (p : Option Place). tick n p pages keys w) runs.place_is
     ∙ ap (λ (t : Timer). pass_time (site_of pages) keys n t runs.at w) runs.timer_is
     ∙ ap (λ (b : Bool). cond b (quiet keys (still (record w { timer = Running (left - n) })))
     (expire (site_of pages) keys runs.at w)) (lt-ltb n left less)
 
 -- all of it passes
-pub tick_out : (n left : ℕ) (pages : Pages) (keys : List Key) (old : Browser)
-    → IsOver (shelf_of pages) old → Some left ≡ left_at (place_held old) old.world.timer → left ≤ n
-    → run_out pages keys old.world ≡ tick n pages keys old.world
-unfolding units_site
-tick_out n left pages keys old over is past =
-    let runs = runs_at (place_held old) old.world.timer left (sym is) in
-    let w = old.world in
-    let after : Place → Step = λ p. expire (site_of pages) keys p w in
-    sym (tick_is n pages keys old over
-    ∙ ap (tick_by n pages keys w) runs.place_is
+pub tick_out : (n left : ℕ) (pages : Pages) (keys : List Key) (w : World) (place : Option Place)
+    → Some left ≡ left_at place w.timer → left ≤ n
+    → run_out place pages keys w ≡ tick n place pages keys w
+tick_out n left pages keys w place is past =
+    let runs = runs_at place w.timer left (sym is) in
+    sym (ap (λ (p : Option Place). tick n p pages keys w) runs.place_is
     ∙ ap (λ (t : Timer). pass_time (site_of pages) keys n t runs.at w) runs.timer_is
     ∙ ap (λ (b : Bool). cond b (quiet keys (still (record w { timer = Running (left - n) })))
-    (after runs.at)) (le-ltb n left past)
-    ∙ ap (λ (p : Option Place). followed (quiet keys (at_place end_place p w)) (λ others v.
-    act_or (still v) (site_of pages) others v (event_task (shelf_of pages) event.Timer v)))
-    (sym (held_now (shelf_of pages) old over ∙ runs.place_is)))
+    (expire (site_of pages) keys runs.at w)) (le-ltb n left past)
+    ∙ ap (λ (p : Option Place). run_out p pages keys w) (sym runs.place_is))
 
 -- ---- the timer has run out
 
@@ -218,8 +189,8 @@ pursued_is (Leads task from) (Some other) leads none pages keys w =
 pursued_is (AsksUser dialog paused) task leads none pages keys w = absurd (cc)
 
 module _ (old mid : Browser) (before middle : List Line) (task : Option Task) (went : Went)
-    (ended : PlaysAt (at_place end_place) old mid before middle)
-    (is : task ≡ event_at event.Timer (place_held mid) mid.world)
+    (ended : Shows (at_place end_place) old mid before middle)
+    (is : task ≡ event_task (place_held mid) event.Timer mid.world)
     (leads : next_in went ≡ option_map then_task task) (none : waits_in went ≡ None) where
   abbrev scene : Scene
   scene = at_place end_place (place_held old) old.world
@@ -228,29 +199,24 @@ module _ (old mid : Browser) (before middle : List Line) (task : Option Task) (w
   over_ended shelf over = over_kept shelf old mid ended.deck
       (history_kept scene old.world mid.world before middle ended.plays) over
 
-  out_is : (pages : Pages) → IsOver (shelf_of pages) old → (keys : List Key)
-      → run_out pages keys old.world
+  out_is : (pages : Pages) (keys : List Key)
+      → run_out (place_held old) pages keys old.world
       ≡ then_step (quiet [] scene) (pursued went pages keys scene.world)
-  out_is pages over keys =
-      let shelf = shelf_of pages in
-      let found : event_task shelf event.Timer scene.world ≡ task =
-      ap (event_task shelf event.Timer) (sym ended.plays.world)
-      ∙ ap (λ (p : Option Place). event_at event.Timer p mid.world)
-      (held_now shelf mid (over_ended shelf over)) ∙ sym is in
-      ap (λ (p : Option Place).
-      let one = at_place end_place p old.world in
-      then_step (quiet keys one) (act_or (still one.world) (site_of pages) keys one.world
-      (event_task shelf event.Timer one.world))) (held_now shelf old over)
-      ∙ ap (λ (t : Option Task). then_step (quiet [] scene)
-      (act_or (still scene.world) (site_of pages) keys scene.world t)) found
+  out_is pages keys =
+      let place : place_held mid ≡ place_held old =
+      place_kept old mid ended.deck
+      (history_kept scene old.world mid.world before middle ended.plays) in
+      ap (λ (t : Option Task). then_step (quiet [] scene)
+      (act_or (still scene.world) (site_of pages) keys scene.world t))
+      (sym (is ∙ ap₂ (λ (p : Option Place) (w : World). event_task p event.Timer w) place
+      ended.plays.world))
       ∙ ap (then_step (quiet [] scene)) (pursued_is went task leads none pages keys scene.world)
 
   pub runs_out : (seen after : Seen) (new : Browser) (result : Result Did RunErr)
       → Pursues (pursued went) seen after mid new middle result
-      → Pursues run_out seen after old new before result
+      → Pursues (run_out (place_held old)) seen after old new before result
   runs_out seen after new result so =
-      pursues_after run_out seen seen after old mid new before middle went result
-      (after_scene run_out seen old mid before middle scene went ended.plays.world ended.plays.lines
-      over_ended out_is) so
-
--- ---- in a dialog
+      let rule = run_out (place_held old) in
+      pursues_after rule seen seen after old mid new before middle went result
+      (after_scene rule seen old mid before middle scene went ended.plays.world ended.plays.lines
+      over_ended (λ pages over. out_is pages)) so

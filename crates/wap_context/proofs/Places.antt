@@ -9,7 +9,7 @@ use Rattle.wap_world.specs.Shelves.{Shelf}
 use Rattle.wap_world.specs.declared.history.Entry.{Entry}
 use Rattle.wap_world.specs.World.{Place, place_in, place_of, place_now, deck_at, last_entry}
 use Rattle.wap_context.specs.Browsers.{Browser, IsOver, place_held}
-use Rattle.wap_state.specs.CardAtHand.{Held, held_in}
+use Rattle.wap_state.specs.CardAtHand.{Held, held_in, placed}
 use Rattle.wap_context.specs.inside.AtHand.{held}
 
 -- ---- the place at hand is where the browser is
@@ -27,21 +27,18 @@ held_now shelf browser is = now_by shelf (last_entry browser.world) browser.deck
 
 -- ---- the card at hand
 
-abbrev pub place_by : Entry → Held → Place
-place_by entry one = record { url = entry.url; deck = one.deck; card = one.card }
-
 -- where a card is at hand
 pub record IsAt (browser : Browser) (one : Held) : Type 0 where
   pub entry : Entry
   pub last : last_entry browser.world ≡ Some entry
-  pub place : place_held browser ≡ Some (place_by entry one)
+  pub place : place_held browser ≡ Some (placed entry.url one)
   pub deck : browser.deck ≡ Some one.deck
 
 record AtBy (last : Option Entry) (deck : Option Deck) (one : Held) : Type 0 where
   entry : Entry
   last_is : last ≡ Some entry
   place : option_and_then (λ (e : Entry). option_and_then (place_in e) deck) last
-      ≡ Some (place_by entry one)
+      ≡ Some (placed entry.url one)
   deck_is : deck ≡ Some one.deck
 
 abbrev cards_at : Deck → Option Node → Option Held
@@ -57,7 +54,7 @@ by_card entry deck one (Some card) is at =
       entry = entry;
       last_is = refl;
       place = ap (option_map (λ found. record { url = entry.url; deck = deck; card = found })) is
-          ∙ ap (λ (o : Held). Some (place_by entry o)) same;
+          ∙ ap (λ (o : Held). Some (placed entry.url o)) same;
       deck_is = ap (λ (o : Held). Some o.deck) same;
     }
 

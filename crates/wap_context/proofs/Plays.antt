@@ -1,10 +1,12 @@
 -- Scenes, one after another, and where a card is at hand.
 use Rattle.std.proofs.Common.{◌≡◌, ◌∙◌, ℕ, List, [], ◌∷◌, ◌++◌, Option, Some, None, Ok, Err, true}
-use Rattle.std.proofs.Common.{refl, sym, ap, ap₂, subst, append_assoc, append-nil}
+use Rattle.std.proofs.Common.{refl, sym, ap, ap₂, subst, append_assoc}
+pub use Rattle.std.proofs.lemmas.Result.{on_ok_weaker as on_ok}
 use Rattle.std.specs.List.{last_or}
 use Rattle.std.specs.Prelude.{Result, OnOk, IfOk, is_some}
 use Rattle.std.specs.Option.{option_map, option_and_then}
 use Rattle.std.proofs.lemmas.Bool.{false≢true}
+use Rattle.wap_url.specs.declared.url.Url.{Url}
 use Rattle.wap_tokens.specs.declared.markup.deck.Deck.{Deck}
 use Rattle.wap_cardrules.specs.declared.event.Event.{Event}
 use Rattle.wap_cardrules.specs.Events.{binding}
@@ -12,30 +14,16 @@ use Rattle.wap_cardrules.specs.Values.{Pairs}
 use Rattle.wap_world.specs.Shelves.{Shelf}
 use Rattle.wap_world.specs.declared.history.Entry.{Entry}
 use Rattle.wap_world.specs.World.{World, Place, place_in, deck_at, last_entry}
-use Rattle.wap_world.specs.Steps.{Scene, still, behind, and_then}
-use Rattle.wap_world.specs.Screens.{at_place, here}
+use Rattle.wap_world.specs.Steps.{Scene, behind, and_then}
+use Rattle.wap_world.specs.Screens.{at_place, restart_place}
+use Rattle.wap_world.specs.Entering.{event_task}
+use Rattle.wap_world.specs.Tasks.{leave_and_set, refresh}
 use Rattle.wap_context.specs.Browsers.{Browser, IsOver, place_held, Shows}
-use Rattle.wap_state.specs.CardAtHand.{Held, held_in}
+use Rattle.wap_state.specs.CardAtHand.{Held, held_in, placed}
 use Rattle.wap_state.specs.Scenes.{Line, Plays}
-use Rattle.wap_context.specs.inside.AtHand.{held, event_at, leave_and_set_at}
-use Rattle.wap_context.specs.inside.AtHand.{restart_place, refresh_at}
-use Rattle.wap_context.specs.inside.Moving.{PlaysAt}
-use Rattle.wap_context.proofs.Places.{place_by, is_at, is_nowhere, held_now}
-
-pub plays_still : (world : World) (lines : List Line) → Plays (still world) world world lines lines
-plays_still world lines = record { world = refl; lines = sym (append-nil lines); kept = refl }
-
-pub plays_then : (first : Scene) (next : World → Scene) (a b c : World)
-    (before mid after : List Line)
-    → Plays first a b before mid → Plays (next b) b c mid after
-    → Plays (and_then first next) a c before after
-plays_then first next a b c before mid after one two = record {
-  world = two.world ∙ ap (λ (w : World). (next w).world) one.world;
-  lines = two.lines
-      ∙ ap₂ (λ (l m : List Line). l ++ m) one.lines (ap (λ (w : World). (next w).lines) one.world)
-      ∙ append_assoc before first.lines (next first.world).lines;
-  kept = two.kept ∙ ap (λ (w : World). record w { vars = c.vars; timer = c.timer }) one.kept;
-}
+use Rattle.wap_context.specs.inside.AtHand.{held}
+use Rattle.wap_state.proofs.Scenes.{plays_still, plays_then}
+use Rattle.wap_context.proofs.Places.{is_at, is_nowhere}
 
 -- ---- at the place
 
@@ -60,10 +48,18 @@ over_kept shelf old new deck history over =
     option_and_then (λ (e : Entry). deck_at shelf e.url) (last_or None h)) history
     ∙ over ∙ sym deck
 
+-- a scene of the card leaves the browser over the same shelves
+pub over_shown : (rule : Option Place → World → Scene) (old new : Browser)
+    (before after : List Line) → Shows rule old new before after
+    → (shelf : Shelf) → IsOver shelf old → IsOver shelf new
+over_shown rule old new before after one shelf =
+    over_kept shelf old new one.deck
+    (history_kept (rule (place_held old) old.world) old.world new.world before after one.plays)
+
 pub plays_at_then : (first next : Option Place → World → Scene) (a b c : Browser)
     (before mid after : List Line)
-    → PlaysAt first a b before mid → PlaysAt next b c mid after
-    → PlaysAt (λ place world. and_then (first place world) (next place)) a c before after
+    → Shows first a b before mid → Shows next b c mid after
+    → Shows (λ place world. and_then (first place world) (next place)) a c before after
 plays_at_then first next a b c before mid after one two =
     let place =
     place_kept a b one.deck
@@ -77,23 +73,22 @@ plays_at_then first next a b c before mid after one two =
       deck = two.deck ∙ one.deck;
     }
 
-pub plays_at_card : (rule : Place → World → Scene) (scene : Scene) (old new : Browser) (one : Held)
-    (before after : List Line)
-    → held old ≡ Some one → ((entry : Entry) → rule (place_by entry one) old.world ≡ scene)
-    → Plays scene old.world new.world before after → new.deck ≡ old.deck
-    → PlaysAt (at_place rule) old new before after
-plays_at_card rule scene old new one before after at same plays deck =
+pub plays_at_card : (rule : Place → World → Scene) (old new : Browser) (one : Held)
+    (before after : List Line) → held old ≡ Some one
+    → ((url : Url) → Plays (rule (placed url one) old.world) old.world new.world before after)
+    → new.deck ≡ old.deck → Shows (at_place rule) old new before after
+plays_at_card rule old new one before after at plays deck =
     let here = is_at old one at in
     record {
-      plays = subst (λ (s : Scene). Plays s old.world new.world before after)
-          (sym (ap (λ (p : Option Place). at_place rule p old.world) here.place ∙ same here.entry))
-          plays;
+      plays = subst (λ (p : Option Place).
+          Plays (at_place rule p old.world) old.world new.world before after) (sym here.place)
+          (plays here.entry.url);
       deck = deck;
     }
 
 pub plays_nowhere : (rule : Place → World → Scene) (old : Browser) (lines : List Line)
     → held old ≡ None
-    → PlaysAt (at_place rule) old old lines lines
+    → Shows (at_place rule) old old lines lines
 plays_nowhere rule old lines at = record {
   plays = subst (λ (s : Scene). Plays s old.world old.world lines lines)
       (sym (ap (λ (p : Option Place). at_place rule p old.world) (is_nowhere old at)))
@@ -103,38 +98,38 @@ plays_nowhere rule old lines at = record {
 
 -- ---- where a call gives scenes of the card at hand
 
-pub on_ok : {X E P Q : Type 0} (result : Result X E) → (P → Q) → OnOk result P → OnOk result Q
-on_ok (Ok x) f so = f so
-on_ok (Err e) f so = tt
+-- what is so of a result for all values of a variable
+on_ok_all : {X E A : Type 0} (P : A → Type 0) (result : Result X E)
+    → ((x : A) → OnOk result (P x)) → OnOk result ((x : A) → P x)
+on_ok_all P (Ok x) so = so
+on_ok_all P (Err e) so = tt
 
-pub plays_here : {X E : Type 0} (rule : Place → World → Scene) (scene : Held → World → Scene)
-    → ((entry : Entry) (one : Held) (w : World) → rule (place_by entry one) w ≡ scene one w)
-    → (state : World) (deck : Option Deck) (now : Browser)
-    → record { world = state; deck = deck } ≡ now
+pub plays_here : {X E : Type 0} (rule : Place → World → Scene) (state : World) (deck : Option Deck)
+    (now : Browser) → record { world = state; deck = deck } ≡ now
     → (number : Option ℕ) → number ≡ option_map (λ (e : Entry). e.card) (last_entry state)
     → (found : Option Held) → found ≡ held_in deck number → (one : Held) → found ≡ Some one
     → (after : World) (before shown : List Line) (result : Result X E)
-    → OnOk result (Plays (scene one state) state after before shown)
-    → OnOk result (PlaysAt (at_place rule) now (record { world = after; deck = deck }) before shown)
-plays_here rule scene same state deck now view number is found here one there after before
-    shown result plays =
+    → ((url : Url) → OnOk result (Plays (rule (placed url one) state) state after before shown))
+    → OnOk result (Shows (at_place rule) now (record { world = after; deck = deck }) before shown)
+plays_here rule state deck now view number is found here one there after before shown result
+    plays =
     let old : Browser = record { world = state; deck = deck } in
     let at : held old ≡ Some one = sym (here ∙ ap (held_in deck) is) ∙ there in
     let new : Browser = record { world = after; deck = deck } in
     on_ok result
-    (λ one_plays. subst (λ (b : Browser). PlaysAt (at_place rule) b new before shown) view
-    (plays_at_card rule (scene one state) old new one before shown at
-    (λ entry. same entry one state) one_plays refl))
-    plays
+    (λ all. subst (λ (b : Browser). Shows (at_place rule) b new before shown) view
+    (plays_at_card rule old new one before shown at all refl))
+    (on_ok_all (λ (url : Url). Plays (rule (placed url one) state) state after before shown) result
+    plays)
 
 pub plays_none : (rule : Place → World → Scene) (state : World) (deck : Option Deck) (now : Browser)
     → record { world = state; deck = deck } ≡ now
     → (number : Option ℕ) → number ≡ option_map (λ (e : Entry). e.card) (last_entry state)
     → (found : Option Held) → found ≡ held_in deck number → found ≡ None
-    → (lines : List Line) → PlaysAt (at_place rule) now now lines lines
+    → (lines : List Line) → Shows (at_place rule) now now lines lines
 plays_none rule state deck now view number is found here there lines =
     let old : Browser = record { world = state; deck = deck } in
-    subst (λ (b : Browser). PlaysAt (at_place rule) b b lines lines) view
+    subst (λ (b : Browser). Shows (at_place rule) b b lines lines) view
     (plays_nowhere rule old lines (sym (here ∙ ap (held_in deck) is) ∙ there))
 
 pub plays_at_set : {X E : Type 0} (scene : World → Scene) (state : World)
@@ -143,20 +138,20 @@ pub plays_at_set : {X E : Type 0} (scene : World → Scene) (state : World)
     → (after : World) (before shown : List Line) (result : Result X E)
     → OnOk result (Plays (scene state) state after before shown)
     → OnOk result
-    (PlaysAt (λ place. scene) now (record { world = after; deck = deck }) before shown)
+    (Shows (λ place. scene) now (record { world = after; deck = deck }) before shown)
 plays_at_set scene state deck now view after before shown result plays =
     on_ok result
     (λ one.
     subst (λ (b : Browser).
-    PlaysAt (λ place. scene) b (record { world = after; deck = deck }) before shown) view
+    Shows (λ place. scene) b (record { world = after; deck = deck }) before shown) view
     (record { plays = one; deck = refl }))
     plays
 
 -- a line, and then a scene
 pub plays_behind : (line : Line) (rule : Option Place → World → Scene) (old new : Browser)
     (before mid after : List Line)
-    → mid ≡ before ++ line ∷ [] → PlaysAt rule old new mid after
-    → PlaysAt (λ place world. behind (line ∷ []) (rule place world)) old new before after
+    → mid ≡ before ++ line ∷ [] → Shows rule old new mid after
+    → Shows (λ place world. behind (line ∷ []) (rule place world)) old new before after
 plays_behind line rule old new before mid after is one = record {
   plays = record {
     world = one.plays.world;
@@ -178,21 +173,18 @@ pub some_held : (found : Option Held) → is_some found ≡ true → (one : Held
 some_held None so = absurd (false≢true so)
 some_held (Some one) so = (one, refl)
 
-pub plays_seen : {X E : Type 0} (rule : Place → World → Scene) (scene : Held → World → Scene)
-    → ((entry : Entry) (one : Held) (w : World) → rule (place_by entry one) w ≡ scene one w)
-    → (state : World) (deck : Option Deck) (now : Browser)
-    → record { world = state; deck = deck } ≡ now
+pub plays_seen : {X E : Type 0} (rule : Place → World → Scene) (state : World) (deck : Option Deck)
+    (now : Browser) → record { world = state; deck = deck } ≡ now
     → (one : Held) → held now ≡ Some one → (before shown : List Line) (result : Result X E)
-    → OnOk result (Plays (scene one state) state state before shown)
-    → OnOk result (PlaysAt (at_place rule) now now before shown)
-plays_seen rule scene same state deck now view one at before shown result plays =
+    → ((url : Url) → OnOk result (Plays (rule (placed url one) state) state state before shown))
+    → OnOk result (Shows (at_place rule) now now before shown)
+plays_seen rule state deck now view one at before shown result plays =
     on_ok result
-    (λ one_plays.
-    plays_at_card rule (scene one now.world) now now one before shown at (λ entry.
-    same entry one now.world)
-    (subst (λ (b : Browser). Plays (scene one b.world) b.world b.world before shown) view one_plays)
-    refl)
-    plays
+    (λ all. plays_at_card rule now now one before shown at (λ url.
+    subst (λ (b : Browser). Plays (rule (placed url one) b.world) b.world b.world before shown) view
+    (all url)) refl)
+    (on_ok_all (λ (url : Url). Plays (rule (placed url one) state) state state before shown) result
+    plays)
 
 pub url_here : (now : Browser) (one : Held) → held now ≡ Some one
     → option_map (λ (e : Entry). e.url) (last_entry now.world)
@@ -203,9 +195,9 @@ url_here now one at =
     ∙ sym (ap (option_map (λ (p : Place). p.url)) here.place)
 
 pub event_here : (event : Event) (now : Browser) (one : Held) → held now ≡ Some one
-    → binding now.world.vars one.deck one.card event ≡ event_at event (place_held now) now.world
+    → binding now.world.vars one.deck one.card event ≡ event_task (place_held now) event now.world
 event_here event now one at =
-    sym (ap (λ (p : Option Place). event_at event p now.world) (is_at now one at).place)
+    sym (ap (λ (p : Option Place). event_task p event now.world) (is_at now one at).place)
 
 pub card_here : (now : Browser) (one : Held) → held now ≡ Some one
     → Some one.card ≡ option_map (λ (p : Place). p.card) (place_held now)
@@ -213,34 +205,16 @@ card_here now one at = sym (ap (option_map (λ (p : Place). p.card)) (is_at now 
 
 pub refresh_joined : (sets : Pairs) (old new : Browser) (before after : List Line) (one : Held)
     → held old ≡ Some one
-    → PlaysAt (λ place w. and_then (leave_and_set_at sets place w) (at_place restart_place place))
+    → Shows (λ place w. and_then (leave_and_set place sets w) (at_place restart_place place))
     old new before after
-    → PlaysAt (refresh_at sets) old new before after
+    → Shows (λ place. refresh place sets) old new before after
 refresh_joined sets old new before after one at joined =
     let place = (is_at old one at).place in
     record {
       plays = subst (λ (s : Scene). Plays s old.world new.world before after)
           (ap (λ (p : Option Place).
-          and_then (leave_and_set_at sets p old.world) (at_place restart_place p)) place
-          ∙ sym (ap (λ (p : Option Place). refresh_at sets p old.world) place))
+          and_then (leave_and_set p sets old.world) (at_place restart_place p)) place
+          ∙ sym (ap (λ (p : Option Place). refresh p sets old.world) place))
           joined.plays;
       deck = joined.deck;
     }
-
--- ---- a scene over a shelf that has the deck
-
-pub shows_of : (rule : Place → World → Scene) (old new : Browser) (before lines : List Line)
-    → before ≡ []
-    → PlaysAt (at_place rule) old new before lines
-    → Shows old new lines (λ shelf world. here shelf rule world)
-shows_of rule old new before lines none one = record {
-  world = λ shelf over. one.plays.world
-      ∙ ap (λ (p : Option Place). (at_place rule p old.world).world)
-      (sym (held_now shelf old over));
-  tells = λ shelf over. one.plays.lines
-      ∙ ap₂ (λ (l : List Line) (p : Option Place). l ++ (at_place rule p old.world).lines) none
-      (sym (held_now shelf old over));
-  over = λ shelf over. over_kept shelf old new one.deck
-      (history_kept (at_place rule (place_held old) old.world)
-      old.world new.world before lines one.plays) over;
-}

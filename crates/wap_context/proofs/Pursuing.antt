@@ -12,12 +12,12 @@ use Rattle.wap_cardrules.specs.declared.task.Task.{Task}
 use Rattle.wap_world.specs.site.Asking.{Seen, Stays, Asks, Fails}
 use Rattle.wap_world.specs.site.Misses.{Asked as Question}
 use Rattle.wap_world.proofs.SiteLemmas.Asking.{Asks-nil, Asks-then, Stays-same, Stays-then}
-use Rattle.wap_world.specs.World.{World}
+use Rattle.wap_world.specs.World.{World, Place}
 use Rattle.wap_world.specs.Steps.{Step, Once, Next, still, quiet, then_step}
-use Rattle.wap_world.specs.Tasks.{go_on, onward, act, task_once}
+use Rattle.wap_world.specs.Tasks.{go_on, onward, act, task_by, task_once}
 use Rattle.wap_world.proofs.Joining.{before, joined_assoc, joined_nothing}
 use Rattle.wap_world.proofs.SessionLawsLemmas.Following.{act_goes_on}
-use Rattle.wap_world.specs.scripting.UnitSites.{Pages, shelf_of, unit_pages}
+use Rattle.wap_world.specs.scripting.UnitSites.{Pages, shelf_of, unit_pages, units_site}
 use Rattle.wap_world.specs.scripting.Waiting.{Waits, left_over, resumed_step}
 use Rattle.wap_world.specs.scripting.Halves.{once_by}
 use Rattle.wap_world.specs.scripting.Feeding.{meaning}
@@ -28,7 +28,7 @@ use Rattle.wap_context.specs.declared.waiting.Went.{Went}
 use Rattle.wap_context.specs.declared.waiting.Went.TheVariants.{Settled, Leads, Asks as AsksUser}
 use Rattle.wap_context.specs.declared.waiting.Step.{Step as Did}
 use Rattle.wap_context.specs.declared.waiting.Step.TheVariants.{Settled as Done, Asks as Waiting}
-use Rattle.wap_context.specs.Browsers.{Browser, IsOver}
+use Rattle.wap_context.specs.Browsers.{Browser, IsOver, place_held}
 use Rattle.wap_context.specs.Pausing.{Paused, waits_of}
 use Rattle.wap_context.specs.Sites.{fragment_call, site_of, IfOver}
 use Rattle.wap_context.specs.Acting.{lines_in, waiting_in, fed_of, Follows, Acts}
@@ -36,6 +36,7 @@ use Rattle.wap_context.specs.inside.Moving.{next_in, waits_in, Goes, Takes, Spen
 use Rattle.wap_context.specs.inside.Moving.{Ends, Pursues}
 use Rattle.wap_world.proofs.SiteLemmas.Failing.{Asks-fails, Fails-more}
 use Rattle.wap_context.proofs.Plays.{on_ok}
+use Rattle.wap_context.proofs.Places.{held_now}
 use Rattle.wap_context.proofs.Takings.{Rule, over_map, both_told}
 
 -- a rule for a whole call
@@ -160,20 +161,31 @@ behind_then pages rule seen now after b new before shown more went next first se
       (pursued next pages keys second.step.world));
 }
 
--- a task is taken alone
-abbrev pub Tasks : Task → Option Url → Rule
-Tasks one from pages keys world =
-    task_once (site_of pages) keys world (record { task = one; from = from })
+-- a task is taken alone, where a browser is
+abbrev pub Tasks : Task → Option Url → Browser → Rule
+Tasks one from b pages keys world =
+    task_by (site_of pages) (place_held b) keys world from one
+
+-- over pages that have its deck, all that the task leads to begins so
+task_is : (pages : Pages) (b : Browser) → IsOver (shelf_of pages) b → (task : Task)
+    (from : Option Url) (keys : List Key)
+    → act (site_of pages) keys b.world (record { task = task; from = from })
+    ≡ onward (act (site_of pages)) (Tasks task from b pages keys b.world)
+unfolding units_site
+task_is pages b over task from keys =
+    act_is pages keys b.world (record { task = task; from = from })
+    ∙ ap (λ (p : Option Place). onward (act (site_of pages))
+    (task_by (site_of pages) p keys b.world from task)) (held_now (shelf_of pages) b over)
 
 task_behind : (pages : Pages) (seen now : Seen) (old new : Browser) (before shown : List Line)
-    (task : Task) (from : Option Url) (went : Went)
-    → Goes pages (λ keys. Tasks task from pages keys old.world) seen now new before shown went
+    (task : Task) (from : Option Url) (went : Went) → IsOver (shelf_of pages) old
+    → Goes pages (λ keys. Tasks task from old pages keys old.world) seen now new before shown went
     → Behind pages (λ keys. pursued (Leads task from) pages keys old.world) seen now new before
     shown
     went
-task_behind pages seen now old new before shown task from went goes =
-    let one = goes_behind pages (λ keys. Tasks task from pages keys old.world) seen now new before
-    shown went goes in
+task_behind pages seen now old new before shown task from went over goes =
+    let one = goes_behind pages (λ keys. Tasks task from old pages keys old.world) seen now new
+    before shown went goes in
     record {
       step = one.step;
       world = one.world;
@@ -181,13 +193,13 @@ task_behind pages seen now old new before shown task from went goes =
       closed = one.closed;
       over = one.over;
       asks = one.asks;
-      on = λ keys. act_is pages keys old.world (record { task = task; from = from }) ∙ one.on keys;
+      on = λ keys. task_is pages old over task from keys ∙ one.on keys;
     }
 
 pub goes_on : (rule : StepRule) (seen now after : Seen) (old b new : Browser)
     (before shown more : List Line) (went : Went) (task : Task) (from : Option Url) (next : Went)
     → went ≡ Leads task from → Going rule seen now old b before shown went
-    → Takes (Tasks task from) now after b new shown more (Ok next)
+    → Takes (Tasks task from b) now after b new shown more (Ok next)
     → Going rule seen after old new before more next
 goes_on rule seen now after old b new before shown more went task from next is so_far takes =
     let done = subst (Going rule seen now old b before shown) is so_far in
@@ -195,13 +207,13 @@ goes_on rule seen now after old b new before shown more went task from next is s
       follows = both_told now after old b
           {P = λ pages. Behind pages (λ keys. rule pages keys old.world) seen now b before shown
           (Leads task from)}
-          {Q = λ pages. Goes pages (λ keys. Tasks task from pages keys b.world) now after new shown
-          more next}
+          {Q = λ pages. Goes pages (λ keys. Tasks task from b pages keys b.world) now after new
+          shown more next}
           takes.stays (λ pages behind. behind.over)
           (λ pages behind goes.
           behind_then pages (λ keys. rule pages keys old.world) seen now after b new before shown
           more (Leads task from) next behind
-          (task_behind pages now after b new shown more task from next goes))
+          (task_behind pages now after b new shown more task from next behind.over goes))
           done.follows takes.follows;
       steady = takes.steady ∙ done.steady;
       stays = Stays-then seen now after done.stays takes.stays;
@@ -256,17 +268,17 @@ went_err err is = cc
 fails_behind : (pages : Pages) (rule : List Key → Step) (seen now after : Seen) (b : Browser)
     (before shown : List Line) (task : Task) (from : Option Url) → Stays now after
     → Behind pages rule seen now b before shown (Leads task from)
-    → Fails (Tasks task from pages [] b.world).step.asked now after
+    → Fails (Tasks task from b pages [] b.world).step.asked now after
     → Fails (rule []).asked seen after
 fails_behind pages rule seen now after b before shown task from stays behind missed =
     let next : Next = record { task = task; from = from } in
-    let once = Tasks task from pages [] b.world in
+    let once = Tasks task from b pages [] b.world in
     let rest = asked_by (act (site_of pages)) once.step once.next in
     let whole : (rule []).asked ≡ behind.step.asked ++ (once.step.asked ++ rest.0) =
     ap (λ (s : Step). s.asked) (behind.on [])
     ∙ ap (λ (w : World). behind.step.asked ++ (act (site_of pages) [] w next).asked)
     (sym behind.world)
-    ∙ ap (λ (s : Step). behind.step.asked ++ s.asked) (act_is pages [] b.world next)
+    ∙ ap (λ (s : Step). behind.step.asked ++ s.asked) (task_is pages b behind.over task from [])
     ∙ ap (λ (a : List Question). behind.step.asked ++ a) rest.1 in
     subst (λ (a : List Question). Fails a seen after) (sym whole)
     (Asks-fails behind.step.asked (once.step.asked ++ rest.0) seen now after behind.asks
@@ -275,7 +287,7 @@ fails_behind pages rule seen now after b before shown task from stays behind mis
 pub fails : (rule : StepRule) (seen now after : Seen) (old b new : Browser)
     (before shown more : List Line) (went : Went) (task : Task) (from : Option Url) (err : RunErr)
     → went ≡ Leads task from → Going rule seen now old b before shown went
-    → Takes (Tasks task from) now after b new shown more (Err err)
+    → Takes (Tasks task from b) now after b new shown more (Err err)
     → Pursues rule seen after old new before (Err err)
 fails rule seen now after old b new before shown more went task from err is so_far takes =
     let done = subst (Going rule seen now old b before shown) is so_far in
@@ -285,7 +297,7 @@ fails rule seen now after old b new before shown more went task from err is so_f
       missed = λ failed. both_told now after old b
           {P = λ pages. Behind pages (λ keys. rule pages keys old.world) seen now b before shown
           (Leads task from)}
-          {Q = λ pages. Fails (Tasks task from pages [] b.world).step.asked now after}
+          {Q = λ pages. Fails (Tasks task from b pages [] b.world).step.asked now after}
           takes.stays (λ pages behind. behind.over)
           (λ pages behind missed.
           fails_behind pages (λ keys. rule pages keys old.world) seen now after b before shown task
@@ -300,7 +312,7 @@ pub fails_by : (rule : StepRule) (seen now after : Seen) (old b new : Browser)
     (before shown more : List Line) (went : Went) (task : Task) (from : Option Url) (err : RunErr)
     (result : Result Did RunErr) → result ≡ Err err
     → went ≡ Leads task from → Going rule seen now old b before shown went
-    → Takes (Tasks task from) now after b new shown more (Err err)
+    → Takes (Tasks task from b) now after b new shown more (Err err)
     → Pursues rule seen after old new before result
 fails_by rule seen now after old b new before shown more went task from err result same is so_far
     takes =

@@ -9,7 +9,7 @@ use Rattle.wap_base.specs.declared.fault.RunErr.TheVariants.{Store}
 use Rattle.wap_base.specs.declared.limits.Limits.{Limits}
 use Rattle.wap_url.specs.declared.url.Url.{Url}
 use Rattle.wap_base.specs.declared.key.Key.{Key}
-use Rattle.wap_execution.specs.Outcomes.{Outcome as Meant, fatal, waits, Ended}
+use Rattle.wap_execution.specs.Outcomes.{Outcome as Meant, waits, Ended}
 use Rattle.wap_execution.specs.laws.Simulation.{ComeToSame, IsKin}
 use Rattle.wap_machine.specs.Hosts.{AtMost, Fetches}
 use Rattle.wap_machine.specs.Stacks.{Stack}
@@ -22,11 +22,9 @@ use Rattle.wap_world.specs.site.Asking.{Seen, MayBe, RoseBy, Stays, Asks, Fails}
 use Rattle.wap_world.specs.declared.history.Entry.{Entry}
 use Rattle.wap_world.specs.World.{World, Place, place_now, deck_at, last_entry}
 use Rattle.wap_world.specs.Steps.{Step, Once, quiet, after_step}
-use Rattle.wap_cardrules.specs.declared.task.Task.{Task}
-use Rattle.wap_world.specs.Shelves.{Shelf}
-use Rattle.wap_world.specs.Starting.{in_world, end_done}
+use Rattle.wap_world.specs.Starting.{in_world}
 use Rattle.wap_world.proofs.Joining.{once_before, or_false}
-use Rattle.wap_world.specs.scripting.UnitSites.{Pages, shelf_of, host_of, unit_pages}
+use Rattle.wap_world.specs.scripting.UnitSites.{Pages, shelf_of, host_of, unit_pages, end_of}
 use Rattle.wap_world.specs.scripting.Views.{Counted, counted_all, View, viewing, view_of, Shows}
 use Rattle.wap_world.specs.scripting.Views.{IsAtHand, NoStep, NoView}
 use Rattle.wap_world.specs.scripting.Waiting.{Waits, inside}
@@ -43,7 +41,7 @@ use Rattle.wap_world.proofs.SiteLemmas.Failing.{Fails-more}
 use Rattle.wap_context.specs.inside.Moving.{Moves, Goes, Takes, next_in, waits_in}
 use Rattle.wap_context.specs.inside.Starting.{run_of, run_with, CameTo, RunsTo, end_at, waits_by}
 use Rattle.wap_context.proofs.Places.{held_now}
-use Rattle.wap_context.proofs.Ending.{half_is}
+use Rattle.wap_context.proofs.Ending.{end_is, half_is}
 
 -- ---- a run opens no dialog
 
@@ -275,7 +273,7 @@ module _ (machine : Stack) (base : Url) (first : List Line) (seen after : Seen)
     (old mid new : Browser)
     (before line shown : List Line) (outcome : Outcome) (more : List Line) (went : Went)
     (added : line ≡ before ++ more)
-    (moves : Moves (end_at base outcome (place_held mid) mid.world) (λ shelf. IsOver shelf mid) mid
+    (moves : Moves (end_at (place_held mid) base outcome mid.world) (λ shelf. IsOver shelf mid) mid
     new line shown (next_in went))
     (asks : waits_in went ≡ waits_by base outcome) (keeps : KeepsLimits machine.limits outcome)
   where
@@ -288,17 +286,17 @@ module _ (machine : Stack) (base : Url) (first : List Line) (seen after : Seen)
         let shelf = shelf_of pages in
         let end = run_of machine first pages old.world in
         let step = in_world (record end.state.world { turns = end.turns }) end.state in
-        let tail = end_at base outcome (place_held mid) mid.world in
+        let place = place_now shelf step.world in
+        let tail = end_at (place_held mid) base outcome mid.world in
         let did = after_step step (once_before step.keys tail) in
-        let tail_is : end_at base outcome (place_now shelf step.world) step.world ≡ tail =
-        ap (λ (w : World). end_at base outcome (place_now shelf w) w) (sym came.world)
-        ∙ ap (λ (p : Option Place). end_at base outcome p mid.world) (held_now shelf mid came.over)
+        let tail_is : end_at place base outcome step.world ≡ tail =
+        ap (λ (w : World). end_at (place_now shelf w) base outcome w) (sym came.world)
+        ∙ ap (λ (p : Option Place). end_at p base outcome mid.world) (held_now shelf mid came.over)
         in
-        let half : half_by machine.limits shelf base end.outcome end.turns end.state
+        let half : half_of machine.limits shelf base end
         ≡ record { once = did; waiting = waits_by base outcome } =
-        ap (λ (o : Meant). half_by machine.limits shelf base o end.turns end.state)
-        (sym came.outcome_is)
-        ∙ half_is machine.limits shelf base outcome end.turns end.state keeps
+        ap (λ (o : Meant). half_by machine.limits place base o step) (sym came.outcome_is)
+        ∙ half_is machine.limits place base outcome step keeps
         ∙ ap (λ (o : Once). record {
           once = after_step step (once_before step.keys o);
           waiting = waits_by base outcome;
@@ -327,7 +325,7 @@ module _ (machine : Stack) (base : Url) (first : List Line) (seen after : Seen)
 pub ended_ok : (machine : Stack) (base : Url) (first : List Line) (seen after : Seen)
     (old mid new : Browser) (before line shown : List Line) (outcome : Outcome) (more : List Line)
     (went : Went) → line ≡ before ++ more
-    → Moves (end_at base outcome (place_held mid) mid.world) (λ shelf. IsOver shelf mid) mid new
+    → Moves (end_at (place_held mid) base outcome mid.world) (λ shelf. IsOver shelf mid) mid new
     line
     shown (next_in went) → waits_in went ≡ waits_by base outcome
     → RunsTo machine first seen after old mid (Ok (outcome, more))
@@ -349,19 +347,12 @@ outcome_err : (err : RunErr) → ◌≡◌ {A = Result Went RunErr} (Err err) (E
 outcome_err err is = cc
 
 -- what is asked for at the end of a script
-done_asks : (shelf : Shelf) (base : Url) (step : Step) (pending : Option Task)
+half_asks : (limits : Limits) (place : Option Place) (base : Url) (outcome : Meant) (step : Step)
     → (rest : List Question)
-    × ((end_done shelf base pending step).step.asked ≡ step.asked ++ rest)
-done_asks shelf base step None = (_, refl)
-done_asks shelf base step (Some task) = ([], sym (append-nil step.asked))
-
-half_asks : (limits : Limits) (shelf : Shelf) (base : Url) (outcome : Meant) (turns : ℕ)
-    (state : Step) → (rest : List Question)
-    × ((half_by limits shelf base outcome turns state).once.step.asked ≡ state.asked ++ rest)
-half_asks limits shelf base (fatal why) turns state = (_, refl)
-half_asks limits shelf base (waits dialog frames) turns state = ([], sym (append-nil state.asked))
-half_asks limits shelf base _ turns state =
-    done_asks shelf base (in_world (record state.world { turns = turns }) state) state.world.pending
+    × ((half_by limits place base outcome step).once.step.asked ≡ step.asked ++ rest)
+half_asks limits place base (waits dialog frames) step = ([], sym (append-nil step.asked))
+half_asks limits place base outcome step =
+    (_, ap (λ (o : Once). o.step.asked) (end_is place base (end_of outcome) step))
 
 -- with keys
 once_asks : (pages : Pages) (once : Once) (o : Option Waits) (keys : List Key)
@@ -376,7 +367,9 @@ run_asks : (machine : Stack) (base : Url) (first : List Line) (pages : Pages) (o
 run_asks machine base first pages old =
     let end = run_of machine first pages old.world in
     let half = half_of machine.limits (shelf_of pages) base end in
-    let one = half_asks machine.limits (shelf_of pages) base end.outcome end.turns end.state in
+    let step = in_world (record end.state.world { turns = end.turns }) end.state in
+    let place = place_now (shelf_of pages) step.world in
+    let one = half_asks machine.limits place base end.outcome step in
     let other = once_asks pages half.once half.waiting [] in (
       one.0 ++ other.0,
       ap (λ (o : Once). o.step.asked)

@@ -10,12 +10,12 @@ use Rattle.wap_execution.specs.declared.fatal.Fatal.TheVariants.{Stopped}
 use Rattle.wap_execution.specs.Running.{resumed}
 use Rattle.wap_execution.specs.laws.Settings.{uncounted}
 use Rattle.wap_world.specs.site.Asking.{Seen, Stays, Asks, Fails}
-use Rattle.wap_world.specs.World.{World}
+use Rattle.wap_world.specs.World.{World, Place}
 use Rattle.wap_world.specs.Steps.{Step, still, quiet}
 use Rattle.wap_world.specs.Sites.{failed as failed_by, Ran}
 use Rattle.wap_world.specs.Starting.{ended_script}
 use Rattle.wap_world.specs.Tasks.{onward, act}
-use Rattle.wap_world.specs.Keys.{on_card, pass_time}
+use Rattle.wap_world.specs.Keys.{at_card, pass_time}
 use Rattle.wap_world.specs.session_laws.Ignored.{is_running}
 use Rattle.wap_world.specs.scripting.Dialogs.{tick_waiting}
 use Rattle.wap_world.specs.scripting.UnitSites.{Pages, shelf_of, keyed_host, ran_of}
@@ -78,9 +78,9 @@ pub record Acts (rule : Pages → List Key → World → Step) (before after : S
 -- ---- rules
 
 -- time that passes on a card
-abbrev pub tick : ℕ → Pages → List Key → World → Step
-tick n pages keys world = let site = site_of pages in
-    on_card site keys world (λ place. pass_time site keys n world.timer place world)
+abbrev pub tick : ℕ → Option Place → Pages → List Key → World → Step
+tick n place pages keys world =
+    at_card keys world (λ one. pass_time (site_of pages) keys n world.timer one world) place
 
 -- the script that waits goes on so far, and then all that it leads to
 abbrev pub gone_on : Paused → (Pages → List Key → World → Ran) → Pages → List Key → World → Step
@@ -108,4 +108,4 @@ stop paused = gone_on paused (λ pages keys world. record {
 abbrev pub Ticks : ℕ → Browser → Browser → Ticked → Type 0
 Ticks n old new NotRunning = (is_running old.world.timer ≡ false) × (new ≡ old)
 Ticks n old new (Counted lines) = (is_running old.world.timer ≡ true)
-    × Shows old new lines (λ shelf world. tick_waiting shelf n world.timer world)
+    × Shows (λ place world. tick_waiting place n world.timer world) old new [] lines

@@ -7,8 +7,10 @@ use Rattle.wap_cardrules.specs.declared.answers.Entered.TheVariants as entered
 use Rattle.wap_cardrules.specs.Entering.{TextEntered, enter_text, OptionChosen, none_chosen, choose}
 use Rattle.wap_tokens.specs.declared.markup.deck.Deck.{Deck}
 use Rattle.wap_world.specs.Shelves.{Shelf}
-use Rattle.wap_world.specs.World.{World, Place, place_in, deck_at, last_entry}
+use Rattle.wap_world.specs.World.{World, Place, deck_at, last_entry}
 use Rattle.wap_world.specs.Steps.{Scene}
+use Rattle.wap_world.specs.scripting.Views.{place_with}
+use Rattle.wap_state.specs.Scenes.{Line, Plays}
 
 -- what a browser keeps between two calls
 pub record Browser : Type 0 where
@@ -18,20 +20,18 @@ pub record Browser : Type 0 where
 
 -- the current card, once one was entered
 abbrev pub place_held : Browser → Option Place
-place_held browser = option_and_then (λ entry. option_and_then (place_in entry) browser.deck)
-    (last_entry browser.world)
+place_held browser = place_with browser.deck browser.world
 
 -- this shelf has the deck under the URL of the current card
 abbrev pub IsOver : Shelf → Browser → Type 0
 IsOver shelf browser =
     option_and_then (λ entry. deck_at shelf entry.url) (last_entry browser.world) ≡ browser.deck
 
--- a scene over any shelf that has the deck: where it leads, and its lines
-pub record Shows (old new : Browser) (lines : List (List ℕ)) (rule : Shelf → World → Scene) : Type 0
-  where
-    pub world : (shelf : Shelf) → IsOver shelf old → new.world ≡ (rule shelf old.world).world
-    pub tells : (shelf : Shelf) → IsOver shelf old → lines ≡ (rule shelf old.world).lines
-    pub over : (shelf : Shelf) → IsOver shelf old → IsOver shelf new
+-- a scene of the current card, and the lines so far: only variables and the timer are others
+pub record Shows (rule : Option Place → World → Scene) (old new : Browser)
+    (before after : List Line) : Type 0 where
+  pub plays : Plays (rule (place_held old) old.world) old.world new.world before after
+  pub deck : new.deck ≡ old.deck
 
 -- only the variables and the timer are others
 abbrev pub ChangesVarsAndTimer : Browser → Browser → Type 0

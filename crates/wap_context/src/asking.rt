@@ -2,7 +2,9 @@
 ghost use Rattle.std.specs.Prelude.{◌≡◌, IfOk};
 ghost use Rattle.wap_world.specs.Access.{may_enter};
 ghost use Rattle.wap_world.specs.Requests.{plain_get};
-ghost use Rattle.wap_context.specs.inside.Moving.{Asked, deck_answer, page_answer};
+ghost use Rattle.wap_world.specs.Tasks.{deck_or_refusal};
+ghost use Rattle.wap_context.specs.host.Finding.{shelved_page};
+ghost use Rattle.wap_context.specs.inside.Moving.{Asked, page_answer};
 
 use std::alloc::Global;
 use wap_base::{NoMemory, RunErr};
@@ -17,7 +19,7 @@ use wap_world::site::{Page, Pages, Shared};
 
 /// The deck that a page is, or why none is gone back to.
 pub(crate) fn deck_answer(page: Page) -> Result<Shared<GoodDeck>, Refusal>
-    ensures { result ≡ deck_answer page }
+    ensures { result ≡ deck_or_refusal (shelved_page page) }
 {
     match page {
         Page::Deck(deck) => Ok(deck),

@@ -85,7 +85,8 @@ impl Context {
         pages: &mut P,
         url: &Text,
     ) -> Result<Step, RunErr>
-        ensures { Acts (λ pages keys world. visit (site_of pages) keys world url.now)
+        ensures { Acts (λ pages keys world.
+            visit (site_of pages) (place_held self.old) keys world url.now)
             (P.seen pages.old) (P.seen pages.new) self.old self.new result }
     {
         let mut lines = Lines::new(alloc);
@@ -120,7 +121,8 @@ impl Context {
         pages: &mut P,
         time: u32,
     ) -> Result<Step, RunErr>
-        ensures { Acts (tick time) (P.seen pages.old) (P.seen pages.new) self.old self.new result }
+        ensures { Acts (tick time (place_held self.old))
+            (P.seen pages.old) (P.seen pages.new) self.old self.new result }
     {
         let lines = Lines::new(alloc);
         self.pass_time(alloc, pages, time, lines)
@@ -183,7 +185,7 @@ impl Context {
     /// Shows the current card, if there is one: its fields get their defaults, its timer starts,
     /// unless it has since the card was entered, and its screen is drawn.
     pub fn show(&mut self, alloc: Global) -> Result<Lines, NoMemory>
-        ensures shows { IfOk result (λ lines. Shows self.old self.new lines show) }
+        ensures shows { IfOk result (Shows show self.old self.new []) }
         ensures left { OnErr result (ChangesVarsAndTimer self.old self.new) }
     {
         let mut lines = Lines::new(alloc);
@@ -193,7 +195,7 @@ impl Context {
 
     /// The screen of the current card alone, if there is one.
     pub fn screen(&self, alloc: Global) -> Result<Lines, NoMemory>
-        ensures { IfOk result (λ lines. Shows self.now self.now lines show_screen) }
+        ensures { IfOk result (Shows show_screen self.now self.now []) }
     {
         let mut lines = Lines::new(alloc);
         self.add_screen(alloc, &mut lines)?;

@@ -1,14 +1,14 @@
 //! Entering a card (WAP-191, sections 9.2, 9.5 and 9.10).
-ghost use Rattle.std.specs.Prelude.{◌≡◌, ◌<◌, length, Some, Ok, IfOk, OnOk};
+ghost use Rattle.std.specs.Prelude.{◌≡◌, ◌<◌, [], length, Some, Ok, IfOk, OnOk};
 ghost use Rattle.std.specs.Option.{option_map};
 ghost use Rattle.wap_tokens.specs.markup.Cards.{cards_of};
 ghost use Rattle.wap_world.specs.Steps.{then_task};
-ghost use Rattle.wap_world.specs.Tasks.{card_for, is_new_context, in_context};
+ghost use Rattle.wap_world.specs.declared.timer.Timer.TheVariants.{NotStarted};
+ghost use Rattle.wap_world.specs.Entering.{event_task, begin_event, enter};
+ghost use Rattle.wap_world.specs.Tasks.{card_for, is_new_context, in_context, arrive, try_deck};
+ghost use Rattle.wap_world.specs.Tasks.{return, refusing, unless_refused};
 ghost use Rattle.wap_world.specs.History.{pushed, entry_of, in_deck, back_at};
 ghost use Rattle.wap_context.specs.Browsers.{IsOver, place_held};
-ghost use Rattle.wap_context.specs.inside.AtHand.{not_started, event_at, begun_at, enter_at, arrive_at};
-ghost use Rattle.wap_context.specs.inside.AtHand.{try_deck_at, return_at, refused_at};
-ghost use Rattle.wap_context.specs.inside.AtHand.{answered_at, returned_at};
 ghost use Rattle.wap_context.specs.inside.Moving.{Moves, HasDeck, Answers};
 
 use crate::asking::may_enter;
@@ -69,7 +69,7 @@ impl Context {
     /// The task of an event of the current card.
     pub(crate) fn event_task(&self, alloc: Global, event: Event) -> Result<Option<Task>, NoMemory>
         ensures { IfOk result
-            (λ task. task ≡ event_at event (place_held self.now) self.now.world) }
+            (λ task. task ≡ event_task (place_held self.now) event self.now.world) }
     {
         match self.here() {
             Some(here) => binding(alloc, here.deck, &here.card, event, self.vars()),
@@ -80,7 +80,9 @@ impl Context {
     /// The timer is not started.
     #[tactic(auto, using(wap_state::proofs::Keeping::keeps_reset))]
     fn reset_timer(&mut self)
-        ensures { self.new ≡ not_started self.old }
+        ensures { self.new ≡ record self.old {
+          world = record self.old.world { timer = NotStarted };
+        } }
     {
         self.state.timer = Timer::NotStarted;
     }
@@ -92,7 +94,8 @@ impl Context {
         event: Event,
         lines: &mut Lines,
     ) -> Result<Option<Task>, NoMemory>
-        ensures { IfOk result (λ next. Moves (begun_at event (place_held self.old) self.old.world)
+        ensures { IfOk result (λ next.
+            Moves (begin_event (place_held self.old) [] event self.old.world)
             (λ shelf. IsOver shelf self.old) self.old self.new lines.old lines.new
             (option_map then_task next)) }
     {
@@ -113,7 +116,7 @@ impl Context {
         event: Event,
         lines: &mut Lines,
     ) -> Result<Option<Task>, NoMemory>
-        ensures { IfOk result (λ next. Moves (enter_at event (place_held self.old) self.old.world)
+        ensures { IfOk result (λ next. Moves (enter (place_held self.old) [] event self.old.world)
             (λ shelf. IsOver shelf self.old) self.old self.new lines.old lines.new
             (option_map then_task next)) }
     {
@@ -129,7 +132,7 @@ impl Context {
         lines: &mut Lines,
     ) -> Result<Option<Task>, NoMemory>
         ensures { IfOk result (λ next.
-            Moves (refused_at refusal (place_held self.old) self.old.world)
+            Moves (refusing (place_held self.old) [] refusal self.old.world)
             (λ shelf. IsOver shelf self.old) self.old self.new lines.old lines.new
             (option_map then_task next)) }
     {
@@ -171,7 +174,7 @@ impl Context {
         lines: &mut Lines,
     ) -> Result<Option<Task>, NoMemory>
         ensures { IfOk result (λ next. Moves
-            (arrive_at sets url (place_held self.old) self.old.world deck)
+            (arrive (place_held self.old) [] sets url self.old.world deck)
             (HasDeck url deck) self.old self.new lines.old lines.new
             (option_map then_task next)) }
     {
@@ -191,7 +194,7 @@ impl Context {
         lines: &mut Lines,
     ) -> Result<Option<Task>, NoMemory>
         ensures { IfOk result (λ next. Moves
-            (try_deck_at sets caller.now url (place_held self.old) self.old.world deck)
+            (try_deck (place_held self.old) [] sets caller.now url self.old.world deck)
             (λ shelf. IsOver shelf self.old × HasDeck url deck shelf)
             self.old self.new lines.old lines.new
             (option_map then_task next)) }
@@ -216,7 +219,8 @@ impl Context {
         lines: &mut Lines,
     ) -> Result<Option<Task>, NoMemory>
         ensures { IfOk result (λ next. Moves
-            (answered_at sets caller.now url (place_held self.old) self.old.world answer)
+            (unless_refused (place_held self.old) [] self.old.world
+            (try_deck (place_held self.old) [] sets caller.now url self.old.world) answer)
             (Answers url answer self.old) self.old self.new lines.old lines.new
             (option_map then_task next)) }
     {
@@ -249,7 +253,7 @@ impl Context {
         lines: &mut Lines,
     ) -> Result<Option<Task>, NoMemory>
         ensures { IfOk result (λ next. Moves
-            (return_at sets earlier (place_held self.old) self.old.world deck)
+            (return (place_held self.old) [] sets earlier self.old.world deck)
             (HasDeck earlier.url deck) self.old self.new lines.old lines.new
             (option_map then_task next)) }
     {
@@ -268,7 +272,8 @@ impl Context {
         lines: &mut Lines,
     ) -> Result<Option<Task>, NoMemory>
         ensures { IfOk result (λ next. Moves
-            (returned_at sets earlier (place_held self.old) self.old.world answer)
+            (unless_refused (place_held self.old) [] self.old.world
+            (return (place_held self.old) [] sets earlier self.old.world) answer)
             (Answers earlier.url answer self.old) self.old self.new lines.old lines.new
             (option_map then_task next)) }
     {

@@ -1,9 +1,7 @@
 //! Go, open and prev (WAP-191, sections 9.2, 9.5 and 9.10).
 ghost use Rattle.std.specs.Prelude.{◌≡◌, Some, None, true, false, IfOk, IfSome};
-ghost use Rattle.std.specs.Option.{option_map, option_map_or};
-ghost use Rattle.wap_world.specs.World.{place_now};
-ghost use Rattle.wap_world.specs.Tasks.{base_now, with_turn, go, open_url, prev};
-ghost use Rattle.wap_world.specs.Tasks.{stay_or_ask, request, ask_back, back_from, task_once};
+ghost use Rattle.wap_world.specs.Tasks.{deck_url, base_url, go, open_url, open_by, prev};
+ghost use Rattle.wap_world.specs.Tasks.{stay_or_ask, request, ask_back, back_from, task_by};
 ghost use Rattle.wap_world.specs.scripting.UnitSites.{shelf_of};
 ghost use Rattle.wap_state.specs.page_urls.PageUrls.{IsPageUrl};
 ghost use Rattle.wap_context.specs.Browsers.{place_held};
@@ -28,8 +26,7 @@ use wap_world::site::{Pages, Shared};
 impl Context {
     /// A copy of the current deck's URL, if there is a current card.
     fn url(&self, alloc: Global) -> Result<Option<Url>, NoMemory>
-        ensures is { IfOk result
-            (λ url. url ≡ option_map (λ place. place.url) (place_held self.now)) }
+        ensures is { IfOk result (λ url. url ≡ deck_url (place_held self.now)) }
         ensures page { IfOk result (λ url. IfSome url IsPageUrl) }
         ensures whole { IfOk result (λ url. IfSome url (λ url. url.fragment ≡ None)) }
     {
@@ -82,7 +79,8 @@ impl Context {
         one: PageRequest,
         lines: &mut Lines,
     ) -> Result<Went, RunErr>
-        ensures { Takes (λ pages keys world. request (site_of pages) keys sets caller.now one world)
+        ensures { Takes (λ pages keys world.
+            request (site_of pages) (place_held self.old) keys sets caller.now one world)
             (P.seen pages.old) (P.seen pages.new) self.old self.new lines.old lines.new result }
     {
         let page = ask(alloc, pages, &one, lines)?;
@@ -106,8 +104,8 @@ impl Context {
         one: PageRequest,
         lines: &mut Lines,
     ) -> Result<Went, RunErr>
-        ensures { Takes (λ pages keys world. stay_or_ask (site_of pages) keys sets caller.now one world
-            (place_now (shelf_of pages) world))
+        ensures { Takes (λ pages keys world.
+            stay_or_ask (site_of pages) (place_held self.old) keys sets caller.now one world)
             (P.seen pages.old) (P.seen pages.new) self.old self.new lines.old lines.new result }
     {
         match self.page_here(alloc, &one)? {
@@ -121,8 +119,7 @@ impl Context {
 
     /// A copy of the current deck's URL; without a card, that of the script that asked.
     fn base(&self, alloc: Global, from: Option<PageUrl>) -> Result<Option<Url>, NoMemory>
-        ensures is { IfOk result (λ url. url ≡ option_map_or Some
-            (option_map (λ place. place.url) (place_held self.now)) from) }
+        ensures is { IfOk result (λ url. url ≡ base_url (place_held self.now) from) }
         ensures page { IfOk result (λ url. IfSome url IsPageUrl) }
     {
         match self.url(alloc)? {
@@ -141,7 +138,8 @@ impl Context {
         lines: &mut Lines,
     ) -> Result<Went, RunErr>
         ensures { Takes (λ pages keys world.
-            go (site_of pages) keys (base_now (shelf_of pages) world from) one world)
+            go (site_of pages) (place_held self.old) keys (base_url (place_held self.old) from)
+            one world)
             (P.seen pages.old) (P.seen pages.new) self.old self.new lines.old lines.new result }
     {
         let base = self.base(alloc, from)?;
@@ -162,7 +160,8 @@ impl Context {
         url: &Text,
         lines: &mut Lines,
     ) -> Result<Went, RunErr>
-        ensures { Takes (λ pages keys world. open_url (site_of pages) keys url.now world)
+        ensures { Takes (λ pages keys world.
+            open_url (site_of pages) (place_held self.old) keys url.now world)
             (P.seen pages.old) (P.seen pages.new) self.old self.new lines.old lines.new result }
     {
         let base = self.url(alloc)?;
@@ -184,7 +183,8 @@ impl Context {
         earlier: PageEntry,
         lines: &mut Lines,
     ) -> Result<Went, RunErr>
-        ensures { Takes (λ pages keys world. ask_back (shelf_of pages) keys sets earlier world)
+        ensures { Takes (λ pages keys world.
+            ask_back (shelf_of pages) (place_held self.old) keys sets earlier world)
             (P.seen pages.old) (P.seen pages.new) self.old self.new lines.old lines.new result }
     {
         let page = ask_for(alloc, pages, &earlier, lines)?;
@@ -200,8 +200,8 @@ impl Context {
         earlier: PageEntry,
         lines: &mut Lines,
     ) -> Result<Went, RunErr>
-        ensures { Takes (λ pages keys world. back_from (shelf_of pages) keys sets earlier world
-            (place_now (shelf_of pages) world))
+        ensures { Takes (λ pages keys world.
+            back_from (shelf_of pages) (place_held self.old) keys sets earlier world)
             (P.seen pages.old) (P.seen pages.new) self.old self.new lines.old lines.new result }
     {
         match self.page_under(alloc, earlier.url())? {
@@ -221,7 +221,8 @@ impl Context {
         sets: Rows<(Text, Text)>,
         lines: &mut Lines,
     ) -> Result<Went, RunErr>
-        ensures { Takes (λ pages keys world. prev (shelf_of pages) keys sets world)
+        ensures { Takes (λ pages keys world.
+            prev (shelf_of pages) (place_held self.old) keys sets world)
             (P.seen pages.old) (P.seen pages.new) self.old self.new lines.old lines.new result }
     {
         match self.state.earlier(alloc)? {
@@ -250,8 +251,8 @@ impl Context {
         url: &Text,
         lines: &mut Lines,
     ) -> Result<Went, RunErr>
-        ensures { Onces (λ pages keys world. with_turn (shelf_of pages) keys world world.turns
-            (open_url (site_of pages) keys url.now))
+        ensures { Onces (λ pages keys world.
+            open_by (site_of pages) (place_held self.old) keys url.now world)
             (P.seen pages.old) (P.seen pages.new) self.old self.new lines.old lines.new result }
     {
         if self.take_turn() {
@@ -271,7 +272,7 @@ impl Context {
         lines: &mut Lines,
     ) -> Result<Went, RunErr>
         ensures { Onces (λ pages keys world.
-            task_once (site_of pages) keys world (record { task = task; from = from }))
+            task_by (site_of pages) (place_held self.old) keys world from task)
             (P.seen pages.old) (P.seen pages.new) self.old self.new lines.old lines.new result }
     {
         match task {

@@ -1,13 +1,13 @@
 //! Scripts that run, and what follows their end (WAP-193, section 12).
-ghost use Rattle.std.specs.Prelude.{◌≡◌, None, Some, IfOk};
+ghost use Rattle.std.specs.Prelude.{◌≡◌, [], None, Some, IfOk};
 ghost use Rattle.std.specs.Option.{option_map};
 ghost use Rattle.wap_base.specs.Limits.{AreInRange};
-ghost use Rattle.wap_world.specs.Steps.{then_task};
+ghost use Rattle.wap_world.specs.Steps.{then_task, still, quiet};
+ghost use Rattle.wap_world.specs.Starting.{rest, end_done, end_failed};
 ghost use Rattle.wap_world.specs.Timers.{settled_timer};
 ghost use Rattle.wap_context.specs.Browsers.{IsOver, place_held};
 ghost use Rattle.wap_context.specs.inside.Moving.{Moves, Takes, next_in, waits_in};
-ghost use Rattle.wap_context.specs.inside.Starting.{RunsTo, run_with, rest_at, done_at, failed_at};
-ghost use Rattle.wap_context.specs.inside.Starting.{is_expired, end_at, waits_by};
+ghost use Rattle.wap_context.specs.inside.Starting.{RunsTo, run_with, end_at, waits_by};
 
 use crate::context::Context;
 use crate::host::Running;
@@ -32,16 +32,6 @@ fn settled_timer(timer: Timer) -> Timer
     match timer {
         Timer::Expired => Timer::Off,
         Timer::NotStarted | Timer::Running(_) | Timer::Off => timer,
-    }
-}
-
-/// Whether a timer ran out while a script waited.
-fn is_expired(timer: Timer) -> bool
-    ensures { result ≡ is_expired timer }
-{
-    match timer {
-        Timer::Expired => true,
-        Timer::NotStarted | Timer::Running(_) | Timer::Off => false,
     }
 }
 
@@ -83,16 +73,20 @@ impl Context {
     #[tactic(auto, using(wap_state::proofs::Keeping::keeps_off))]
     fn rest(&mut self, alloc: Global, lines: &mut Lines) -> Result<Option<Task>, NoMemory>
         ensures { IfOk result (λ next.
-            Moves (rest_at self.old.world.timer (place_held self.old) self.old.world)
+            Moves (rest (place_held self.old) [] self.old.world.timer self.old.world)
             (λ shelf. IsOver shelf self.old) self.old self.new lines.old lines.new
             (option_map then_task next)) }
     {
-        if is_expired(self.state.timer) {
-            self.state.timer = Timer::Off;
-            return self.begin_event(alloc, Event::Timer, lines);
+        match self.state.timer {
+            Timer::Expired => {
+                self.state.timer = Timer::Off;
+                self.begin_event(alloc, Event::Timer, lines)
+            }
+            Timer::NotStarted | Timer::Running(_) | Timer::Off => {
+                self.add_show(alloc, lines)?;
+                Ok(None)
+            }
         }
-        self.add_show(alloc, lines)?;
-        Ok(None)
     }
 
     /// A script came to its end: what it asked for is next, else the card is shown.
@@ -104,7 +98,8 @@ impl Context {
         lines: &mut Lines,
     ) -> Result<Went, NoMemory>
         ensures moves { IfOk result (λ went.
-            Moves (done_at base self.old.world.pending (place_held self.old) self.old.world)
+            Moves (end_done (place_held self.old) base self.old.world.pending
+            (quiet [] (still self.old.world)))
             (λ shelf. IsOver shelf self.old) self.old self.new lines.old lines.new (next_in went)) }
         ensures none { IfOk result (λ went. waits_in went ≡ None) }
     {
@@ -125,7 +120,7 @@ impl Context {
         lines: &mut Lines,
     ) -> Result<Went, NoMemory>
         ensures moves { IfOk result (λ went.
-            Moves (failed_at why.now (place_held self.old) self.old.world)
+            Moves (end_failed (place_held self.old) why.now (quiet [] (still self.old.world)))
             (λ shelf. IsOver shelf self.old) self.old self.new lines.old lines.new (next_in went)) }
         ensures none { IfOk result (λ went. waits_in went ≡ None) }
     {
@@ -143,7 +138,7 @@ impl Context {
         lines: &mut Lines,
     ) -> Result<Went, NoMemory>
         ensures moves { IfOk result (λ went.
-            Moves (end_at base outcome (place_held self.old) self.old.world)
+            Moves (end_at (place_held self.old) base outcome self.old.world)
             (λ shelf. IsOver shelf self.old) self.old self.new lines.old lines.new (next_in went)) }
         ensures asks { IfOk result (λ went. waits_in went ≡ waits_by base outcome) }
     {

@@ -1,11 +1,10 @@
 //! What a browser shows of its current card, and what it sets.
 ghost use Rattle.std.specs.Prelude.{◌≡◌, OnOk, OnErr};
-ghost use Rattle.wap_world.specs.Screens.{at_place};
-ghost use Rattle.wap_world.specs.Entering.{leave_place};
-ghost use Rattle.wap_context.specs.Browsers.{ChangesVarsAndTimer};
-ghost use Rattle.wap_context.specs.inside.AtHand.{held, show_at, screen_at, refuse_at};
-ghost use Rattle.wap_context.specs.inside.AtHand.{leave_and_set_at, refresh_at, restart_place};
-ghost use Rattle.wap_context.specs.inside.Moving.{PlaysAt};
+ghost use Rattle.wap_world.specs.Screens.{at_place, show, show_screen, refuse, restart_place};
+ghost use Rattle.wap_world.specs.Entering.{leave};
+ghost use Rattle.wap_world.specs.Tasks.{leave_and_set, refresh};
+ghost use Rattle.wap_context.specs.Browsers.{Shows, ChangesVarsAndTimer};
+ghost use Rattle.wap_context.specs.inside.AtHand.{held};
 ghost use Rattle.wap_world.specs.Setting.{set_variables};
 
 use crate::context::Context;
@@ -27,7 +26,7 @@ impl Context {
     /// Shows the current card, if there is one.
     #[tactic(auto, using(wap_state::proofs::Standing::stands_same))]
     pub(crate) fn add_show(&mut self, alloc: Global, lines: &mut Lines) -> Result<(), NoMemory>
-        ensures plays { OnOk result (PlaysAt show_at self.old self.new lines.old lines.new) }
+        ensures plays { OnOk result (Shows show self.old self.new lines.old lines.new) }
         ensures left { OnErr result (ChangesVarsAndTimer self.old self.new) }
     {
         let number = self.state.card_number();
@@ -39,7 +38,7 @@ impl Context {
 
     /// Adds the screen of the current card, if there is one.
     pub(crate) fn add_screen(&self, alloc: Global, lines: &mut Lines) -> Result<(), NoMemory>
-        ensures { OnOk result (PlaysAt screen_at self.now self.now lines.old lines.new) }
+        ensures { OnOk result (Shows show_screen self.now self.now lines.old lines.new) }
     {
         match self.here() {
             Some(here) => self.state.add_screen(alloc, &here, lines),
@@ -54,7 +53,8 @@ impl Context {
         refusal: Refusal,
         lines: &mut Lines,
     ) -> Result<(), NoMemory>
-        ensures { OnOk result (PlaysAt (refuse_at refusal) self.old self.new lines.old lines.new) }
+        ensures { OnOk result
+            (Shows (λ place. refuse place refusal) self.old self.new lines.old lines.new) }
     {
         add_refusal(refusal, lines)?;
         self.add_show(alloc, lines)
@@ -64,7 +64,7 @@ impl Context {
     #[tactic(auto, using(wap_state::proofs::Standing::stands_same))]
     fn leave(&mut self, alloc: Global, lines: &mut Lines) -> Result<(), NoMemory>
         ensures { OnOk result
-            (PlaysAt (at_place leave_place) self.old self.new lines.old lines.new) }
+            (Shows leave self.old self.new lines.old lines.new) }
     {
         let number = self.state.card_number();
         match here(&self.deck, number) {
@@ -82,7 +82,7 @@ impl Context {
         lines: &mut Lines,
     ) -> Result<(), NoMemory>
         ensures { OnOk result
-            (PlaysAt (λ place. set_variables sets) self.old self.new lines.old lines.new) }
+            (Shows (λ place. set_variables sets) self.old self.new lines.old lines.new) }
     {
         self.state.set_variables(alloc, sets, lines)
     }
@@ -95,7 +95,7 @@ impl Context {
         lines: &mut Lines,
     ) -> Result<(), NoMemory>
         ensures { OnOk result
-            (PlaysAt (leave_and_set_at sets) self.old self.new lines.old lines.new) }
+            (Shows (λ place. leave_and_set place sets) self.old self.new lines.old lines.new) }
     {
         self.leave(alloc, lines)?;
         self.set_variables(alloc, sets, lines)
@@ -105,7 +105,7 @@ impl Context {
     #[tactic(auto, using(wap_state::proofs::Standing::stands_same))]
     fn restart(&mut self, alloc: Global, lines: &mut Lines) -> Result<(), NoMemory>
         ensures { OnOk result
-            (PlaysAt (at_place restart_place) self.old self.new lines.old lines.new) }
+            (Shows (at_place restart_place) self.old self.new lines.old lines.new) }
     {
         let number = self.state.card_number();
         match here(&self.deck, number) {
@@ -122,7 +122,8 @@ impl Context {
         sets: Rows<(Text, Text)>,
         lines: &mut Lines,
     ) -> Result<(), NoMemory>
-        ensures { OnOk result (PlaysAt (refresh_at sets) self.old self.new lines.old lines.new) }
+        ensures { OnOk result
+            (Shows (λ place. refresh place sets) self.old self.new lines.old lines.new) }
     {
         if self.here().is_none() {
             return Ok(());

@@ -1,19 +1,20 @@
 //! Starting a script (WAP-193, section 8.3).
-ghost use Rattle.std.specs.Prelude.{◌≡◌, IfOk};
+ghost use Rattle.std.specs.Prelude.{◌≡◌, Ok, Err, IfOk};
 ghost use Rattle.std.specs.Option.{option_and_then};
 ghost use Rattle.wap_url.specs.Printing.{without_fragment};
-ghost use Rattle.wap_world.specs.Starting.{is_too_long};
+ghost use Rattle.wap_world.specs.Starting.{is_too_long, not_started, start_of, start_by};
+ghost use Rattle.wap_world.specs.Starting.{external_started, started};
 ghost use Rattle.wap_machine.specs.Standing.{CanEnter};
 ghost use Rattle.wap_machine.specs.Seen.{function_in};
 ghost use Rattle.std.specs.List.{list_any};
 ghost use Rattle.wap_parse.specs.invocation.Calculation.{call_of};
 ghost use Rattle.wap_context.specs.Browsers.{IsOver, place_held};
-ghost use Rattle.wap_context.specs.inside.Starting.{start_of, start_found, begun_with};
-ghost use Rattle.wap_context.specs.inside.Starting.{started_with, script_with};
-ghost use Rattle.wap_context.specs.inside.Starting.{not_started_at};
+ghost use Rattle.wap_context.specs.inside.Starting.{call_at};
+ghost use Rattle.wap_world.specs.Tasks.{try_script};
+ghost use Rattle.wap_world.specs.scripting.UnitSites.{shelf_of, unit_script};
 ghost use Rattle.wap_context.specs.inside.Moving.{Moves, Takes, next_in, waits_in};
-ghost use Rattle.wap_world.specs.scripting.Units.{external_in};
-ghost use Rattle.std.specs.Prelude.{None};
+ghost use Rattle.wap_world.specs.scripting.Units.{entrance_in, external_in};
+ghost use Rattle.std.specs.Prelude.{[], None};
 
 use crate::asking::may_enter;
 use crate::context::Context;
@@ -32,14 +33,9 @@ use wap_value::Value;
 use wap_verify::Verified;
 use wap_world::site::{Pages, Shared};
 
-/// What a URL to a script starts.
-#[derive(Drop)]
-pub enum Start {
-    /// Nothing.
-    Not(Fatal),
-    /// The function of an index, with arguments.
-    Runs(u8, Rows<Value>),
-}
+/// The index of the function that a URL to a script starts, with its arguments, or why it starts
+/// none.
+type Start = Result<(u8, Rows<Value>), Fatal>;
 
 /// Whether a value is a String longer than the limit.
 fn is_too_long(value: &Value, string: u32) -> bool
@@ -70,7 +66,7 @@ fn call_in(alloc: Global, url: &Url) -> Result<Option<Invocation>, NoMemory>
 
 /// What a call of a unit starts.
 fn start_with(unit: &Verified, call: Invocation, string: u32) -> Start
-    ensures { result ≡ start_found call.arguments string (external_in unit.now call.function) }
+    ensures { result ≡ start_of string call.arguments (external_in unit.now call.function) }
 {
     let Invocation {
         function,
@@ -79,24 +75,25 @@ fn start_with(unit: &Verified, call: Invocation, string: u32) -> Start
     match external_in(unit, &function) {
         Some(one) => {
             if one.arguments as usize != arguments.len() {
-                Start::Not(Fatal::Arguments)
+                Err(Fatal::Arguments)
             } else if is_one_too_long(arguments.as_slice(), string) {
-                Start::Not(Fatal::TooLong)
+                Err(Fatal::TooLong)
             } else {
-                Start::Runs(one.index, arguments)
+                Ok((one.index, arguments))
             }
         }
-        None => Start::Not(Fatal::NoFunction),
+        None => Err(Fatal::NoFunction),
     }
 }
 
 /// What a URL to a script starts.
-fn start_of(alloc: Global, unit: &Verified, string: u32, url: &PageUrl) -> Result<Start, NoMemory>
-    ensures { IfOk result (λ start. start ≡ start_of unit.now string url.now) }
+fn start_by(alloc: Global, unit: &Verified, string: u32, url: &PageUrl) -> Result<Start, NoMemory>
+    ensures { IfOk result
+        (λ start. start ≡ start_by (external_in unit.now) string (call_at url.now)) }
 {
     match call_in(alloc, url.as_url())? {
         Some(call) => Ok(start_with(unit, call, string)),
-        None => Ok(Start::Not(Fatal::NoFunction)),
+        None => Ok(Err(Fatal::NoFunction)),
     }
 }
 
@@ -114,7 +111,7 @@ impl Context {
     /// A script isn't started: its line is added, and the current card is shown again.
     fn reject(&mut self, alloc: Global, why: &Fatal, lines: &mut Lines) -> Result<Went, NoMemory>
         ensures moves { IfOk result (λ went.
-            Moves (not_started_at why.now (place_held self.old) self.old.world)
+            Moves (not_started (place_held self.old) [] why.now self.old.world)
             (λ shelf. IsOver shelf self.old) self.old self.new lines.old lines.new (next_in went)) }
         ensures none { IfOk result (λ went. waits_in went ≡ None) }
     {
@@ -146,7 +143,9 @@ impl Context {
         lines: &mut Lines,
     ) -> Result<Went, RunErr>
         requires { CanEnter (function_in unit (without_fragment url) caller.now index) arguments }
-        ensures { Takes (begun_with unit sets caller.now url index arguments)
+        ensures { Takes (λ pages keys world.
+            external_started (shelf_of pages) (unit_script pages unit) keys sets caller.now url
+            world index arguments)
             (P.seen pages.old) (P.seen pages.new) self.old self.new lines.old lines.new result }
     {
         let mut first = Lines::new(alloc);
@@ -177,14 +176,16 @@ impl Context {
         unit: Shared<Verified>,
         lines: &mut Lines,
     ) -> Result<Went, RunErr>
-        ensures { Takes (λ pages keys world. started_with unit sets caller.now url
-            (start_of unit world.limits.string url) pages keys world)
+        ensures { Takes (λ pages keys world.
+            started (shelf_of pages) (unit_script pages unit) (place_held self.old) keys sets
+            caller.now url world
+            (start_by (external_in unit) world.limits.string (call_at url)))
             (P.seen pages.old) (P.seen pages.new) self.old self.new lines.old lines.new result }
     {
         let string = self.limits().string;
-        match start_of(alloc, &unit, string, &url)? {
-            Start::Not(why) => Ok(self.reject(alloc, &why, lines)?),
-            Start::Runs(index, arguments) => {
+        match start_by(alloc, &unit, string, &url)? {
+            Err(why) => Ok(self.reject(alloc, &why, lines)?),
+            Ok((index, arguments)) => {
                 self.begin_script(
                     alloc, pages, sets, caller, url, unit, index, arguments, lines,
                 )
@@ -203,7 +204,9 @@ impl Context {
         unit: Shared<Verified>,
         lines: &mut Lines,
     ) -> Result<Went, RunErr>
-        ensures { Takes (script_with unit sets caller.now url)
+        ensures { Takes (λ pages keys world.
+            try_script (shelf_of pages) (unit_script pages unit) (place_held self.old) keys sets
+            caller.now url world (call_at url) (entrance_in unit))
             (P.seen pages.old) (P.seen pages.new) self.old self.new lines.old lines.new result }
     {
         let entrance = entrance_in(alloc, &unit)?;

@@ -2,10 +2,11 @@
 ghost use Rattle.std.specs.Prelude.{◌≡◌, OnOk, OnErr};
 ghost use Rattle.wap_world.specs.Screens.{at_place};
 ghost use Rattle.wap_context.specs.Acting.{tick};
-ghost use Rattle.wap_context.specs.Browsers.{place_held, ChangesVarsAndTimer};
-ghost use Rattle.wap_context.specs.inside.Moving.{PlaysAt, Pursues};
-ghost use Rattle.wap_context.specs.inside.Ticking.{left_at, end_place, run_out, expire_place};
-ghost use Rattle.wap_context.specs.inside.Ticking.{count_down_at};
+ghost use Rattle.wap_world.specs.declared.timer.Timer.TheVariants.{Running};
+ghost use Rattle.wap_world.specs.scripting.Dialogs.{run_out as expires, tick_waiting};
+ghost use Rattle.wap_context.specs.Browsers.{place_held, Shows, ChangesVarsAndTimer};
+ghost use Rattle.wap_context.specs.inside.Moving.{Pursues};
+ghost use Rattle.wap_context.specs.inside.Ticking.{left_at, end_place, run_out};
 
 use crate::context::Context;
 use crate::waiting::{Step, went_to};
@@ -36,7 +37,7 @@ impl Context {
     #[tactic(auto, using(wap_state::proofs::Standing::stands_same))]
     fn end_timer(&mut self, alloc: Global, lines: &mut Lines) -> Result<(), NoMemory>
         ensures { OnOk result
-            (PlaysAt (at_place end_place) self.old self.new lines.old lines.new) }
+            (Shows (at_place end_place) self.old self.new lines.old lines.new) }
     {
         let number = self.state.card_number();
         match here(&self.deck, number) {
@@ -52,7 +53,7 @@ impl Context {
         pages: &mut P,
         lines: Lines,
     ) -> Result<Step, RunErr>
-        ensures { Pursues run_out
+        ensures { Pursues (run_out (place_held self.old))
             (P.seen pages.old) (P.seen pages.new) self.old self.new lines result }
     {
         let mut shown = lines;
@@ -70,7 +71,7 @@ impl Context {
         time: u32,
         lines: Lines,
     ) -> Result<Step, RunErr>
-        ensures { Pursues (tick time)
+        ensures { Pursues (tick time (place_held self.old))
             (P.seen pages.old) (P.seen pages.new) self.old self.new lines result }
     {
         let Some(left) = self.time_left() else {
@@ -90,7 +91,7 @@ impl Context {
     #[tactic(auto, using(wap_state::proofs::Standing::stands_same))]
     fn expire(&mut self, alloc: Global, lines: &mut Lines) -> Result<(), NoMemory>
         ensures plays { OnOk result
-            (PlaysAt (at_place expire_place) self.old self.new lines.old lines.new) }
+            (Shows (at_place expires) self.old self.new lines.old lines.new) }
         ensures left { OnErr result (ChangesVarsAndTimer self.old self.new) }
     {
         let number = self.state.card_number();
@@ -109,8 +110,8 @@ impl Context {
         left: u32,
         lines: &mut Lines,
     ) -> Result<(), NoMemory>
-        ensures plays { OnOk result
-            (PlaysAt (count_down_at time left) self.old self.new lines.old lines.new) }
+        ensures plays { OnOk result (Shows (λ place. tick_waiting place time (Running left))
+            self.old self.new lines.old lines.new) }
         ensures left { OnErr result (ChangesVarsAndTimer self.old self.new) }
     {
         if time < left {

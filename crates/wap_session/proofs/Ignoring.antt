@@ -70,11 +70,11 @@ module _ (one : Key) (first last : Browser) (standing : Standing) (winners : Lis
       in_session one first winners {standing = standing} refl was
       (subst (λ (o : Option Waits). Acts (turn_rule o winners one) seen seen first last (Ok did))
       (sym stands.0)
-      (Acts-leads (press_rule winners one) (turn_rule None winners one)
+      (Acts-leads (press_rule (place_held last) winners one) (turn_rule None winners one)
       seen seen last first last (rest_leads one winners first last budget began same) (Ok did)
-      (Acts-ignored (press_rule winners one) seen last did refl
-      (λ pages over keys. fits one winners pages keys last
-      (ap (λ has_card. fits_nothing has_card one) place_stays ∙ nothing) over))))
+      (Acts-ignored (press_rule (place_held last) winners one) seen last did refl
+      (λ pages over keys. fits one winners pages keys last.world (place_held last)
+      (ap (λ has_card. fits_nothing has_card one) place_stays ∙ nothing)))))
 
   -- no push is taken
   kept : HaveWinners (taken_by old.waiting old.winners one) winners

@@ -30,6 +30,8 @@ use Rattle.wap_world.specs.scripting.Waiting.{Waits, inside, resumed_step}
 use Rattle.wap_world.proofs.ScriptingLawsLemmas.Replying.{stay_means}
 use Rattle.wap_context.specs.declared.waiting.Step.TheVariants.{Asks as AsksUser}
 use Rattle.wap_context.specs.Browsers.{Browser, Shows}
+use Rattle.wap_context.proofs.Places.{held_now}
+use Rattle.wap_context.proofs.Plays.{over_shown}
 use Rattle.wap_context.specs.Pausing.{Paused, waits_of}
 use Rattle.wap_context.specs.Sites.{fragment_call}
 use Rattle.wap_context.specs.Acting.{Acts, answer, stop}
@@ -85,32 +87,33 @@ out_apart (Some place) w =
     stored_apart (option_and_then timer_variable (timer_in place.card)) w
 
 -- and so does time that passes
-tick_apart : (shelf : Shelf) (n : ℕ) (timer : Timer) (w : World)
-    → let scene = tick_waiting shelf n timer (inside w) in
-    record scene { world = record scene.world { turns = w.turns } } ≡ tick_waiting shelf n timer w
-tick_apart shelf n (Running time) w = by (ltb n time)
+tick_apart : (place : Option Place) (n : ℕ) (timer : Timer) (w : World)
+    → let scene = tick_waiting place n timer (inside w) in
+    record scene { world = record scene.world { turns = w.turns } } ≡ tick_waiting place n timer w
+tick_apart place n (Running time) w = by (ltb n time)
   where
     by : (b : Bool) → let scene = cond b
         (still (record (inside w) { timer = Running (time - n) }))
-        (at_place run_out (place_now shelf w) (inside w)) in
+        (at_place run_out place (inside w)) in
         record scene { world = record scene.world { turns = w.turns } }
         ≡ cond b (still (record w { timer = Running (time - n) }))
-        (at_place run_out (place_now shelf w) w)
+        (at_place run_out place w)
     by true = refl
-    by false = out_apart (place_now shelf w) w
-tick_apart shelf n timer w = refl
+    by false = out_apart place w
+tick_apart place n timer w = refl
 
 -- or any key that is no answer
-apart : (shelf : Shelf) (one : Key) (w : World) → let scene = meanwhile shelf one (inside w) in
-    record scene { world = record scene.world { turns = w.turns } } ≡ meanwhile shelf one w
-apart shelf (key.Tick n) w = tick_apart shelf n w.timer w
-apart shelf one w = refl
+apart : (place : Option Place) (one : Key) (w : World)
+    → let scene = meanwhile place one (inside w) in
+    record scene { world = record scene.world { turns = w.turns } } ≡ meanwhile place one w
+apart place (key.Tick n) w = tick_apart place n w.timer w
+apart place one w = refl
 
 module _ (pages : Pages) (one : Waits) (key : Key) (w : World)
     (is : reply_to one.dialog key ≡ passes) where
   -- what the key does
   abbrev scene : Scene
-  scene = meanwhile (shelf_of pages) key w
+  scene = meanwhile (place_now (shelf_of pages) w) key w
 
   -- the dialog stays for the keys after it
   passes_so : (keys : List Key) → resumed_rule one key pages keys w
@@ -119,7 +122,7 @@ module _ (pages : Pages) (one : Waits) (key : Key) (w : World)
       stay_means fragment_call pages one w key is keys
       ∙ ap (λ (s : Scene). then_step (quiet [] s)
       (resumed_step fragment_call pages one keys s.world))
-      (apart (shelf_of pages) key w)
+      (apart (place_now (shelf_of pages) w) key w)
 
   -- and without these it is open
   left_so : resumed_rule one key pages [] w
@@ -136,7 +139,7 @@ module _ (pages : Pages) (one : Waits) (key : Key) (w : World)
 -- a browser after such a key, which asked for nothing
 pub passes_act : (dialog : Dialog) (paused : Paused) (one : Key) (seen : Seen)
     (old new : Browser) (lines : List (List ℕ)) → reply_to dialog one ≡ passes
-    → Shows old new lines (λ shelf world. meanwhile shelf one world)
+    → Shows (λ place. meanwhile place one) old new [] lines
     → Acts (resumed_rule (waits_of dialog paused) one) seen seen old new
     (Ok (AsksUser lines dialog paused))
 passes_act dialog paused one seen old new lines is shows =
@@ -145,13 +148,18 @@ passes_act dialog paused one seen old new lines is shows =
     record {
       follows = λ judged may over.
           let pages = unit_pages judged in
-          let shelf = shelf_of pages in
+          let here = held_now (shelf_of pages) old over in
           let left = left_so pages waits one w is in
           let shut = shut_so pages waits one w is in
           record {
-            leads = shows.world shelf over ∙ sym (ap (λ (s : Step). s.world) left);
-            tells = shows.tells shelf over ∙ sym (ap (λ (s : Step). s.lines) shut);
-            over = shows.over shelf over;
+            leads = shows.plays.world
+                ∙ ap (λ (p : Option Place). (meanwhile p one w).world) (sym here)
+                ∙ sym (ap (λ (s : Step). s.world) left);
+            tells = shows.plays.lines
+                ∙ ap (λ (p : Option Place). (meanwhile p one w).lines) (sym here)
+                ∙ sym (ap (λ (s : Step). s.lines) shut);
+            over = over_shown (λ place. meanwhile place one) old new [] lines shows
+                (shelf_of pages) over;
             asks_user = ap (λ (s : Step). s.is_open) left;
             on = λ keys. passes_so pages waits one w is keys
                 ∙ sym (ap (λ (s : Step). then_step s

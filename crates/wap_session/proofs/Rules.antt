@@ -11,7 +11,7 @@ use Rattle.wap_world.specs.site.Asking.{Seen, Stays, Asks, Fails}
 use Rattle.wap_world.proofs.SiteLemmas.Asking.{Asks-nil, Stays-same}
 use Rattle.wap_world.specs.declared.refusal.Refusal.TheVariants as refusals
 use Rattle.wap_world.specs.Shelves.{Shelf}
-use Rattle.wap_world.specs.World.{World}
+use Rattle.wap_world.specs.World.{World, Place}
 use Rattle.wap_world.specs.Lines.{refusal_line}
 use Rattle.wap_world.specs.Steps.{Scene, Step, then_step, quiet}
 use Rattle.wap_world.specs.Keys.{ignored}
@@ -21,7 +21,8 @@ use Rattle.wap_world.specs.scripting.Waiting.{Waits, left_over}
 use Rattle.wap_world.specs.scripting.Feeding.{meaning}
 use Rattle.wap_context.specs.declared.waiting.Step.{Step as Did}
 use Rattle.wap_context.specs.declared.waiting.Step.TheVariants.{Settled}
-use Rattle.wap_context.specs.Browsers.{Browser, IsOver, Shows}
+use Rattle.wap_context.specs.Browsers.{Browser, IsOver, place_held, Shows}
+use Rattle.wap_context.proofs.Plays.{over_shown}
 use Rattle.wap_context.specs.Sites.{fragment_call, IfOver}
 use Rattle.wap_context.specs.Acting.{waiting_in, Follows, Acts}
 use Rattle.wap_session.specs.Feeding.{left_open}
@@ -152,24 +153,32 @@ Acts-wants rule before after old new result stays wants =
 -- ---- a call that asks for no pages
 
 -- it leaves keys as they are, and asks for none
-pub Acts-shows : (scene : Shelf → World → Scene) (seen : Seen) (old new : Browser)
-    (lines : List (List ℕ)) → Shows old new lines scene
-    → Acts (λ pages keys world. quiet keys (scene (shelf_of pages) world)) seen seen old new
+pub Acts-shows : (rule : Option Place → World → Scene) (seen : Seen) (old new : Browser)
+    (lines : List (List ℕ)) → Shows rule old new [] lines
+    → Acts (λ pages keys world. quiet keys (rule (place_held old) world)) seen seen old new
     (Ok (Settled lines))
-Acts-shows scene seen old new lines shows = record {
-  follows = λ judged may is. let shelf = shelf_of (unit_pages judged) in record {
-    leads = shows.world shelf is;
-    tells = shows.tells shelf is;
-    over = shows.over shelf is;
-    asks_user = refl;
-    on = λ keys. sym (joined_nothing (quiet [] (scene shelf old.world)) keys);
-  };
-  asks = λ judged may is. Asks-nil seen;
-  steady = refl;
-  failed = λ is. absurd cc;
-  missed = λ is. absurd cc;
-  stays = Stays-same seen;
-}
+Acts-shows rule seen old new lines shows =
+    let scene = rule (place_held old) old.world in
+    record {
+      follows = λ judged may is. record {
+        leads = shows.plays.world;
+        tells = shows.plays.lines;
+        over = over_shown rule old new [] lines shows (shelf_of (unit_pages judged)) is;
+        asks_user = refl;
+        on = λ keys. sym (joined_nothing (quiet [] scene) keys);
+      };
+      asks = λ judged may is. Asks-nil seen;
+      steady = refl;
+      failed = λ is. absurd cc;
+      missed = λ is. absurd cc;
+      stays = Stays-same seen;
+    }
+
+-- lines alone
+pub shows_lines : (browser : Browser) (lines shown : List (List ℕ)) → shown ≡ lines
+    → Shows (λ place world. record { world = world; lines = lines }) browser browser [] shown
+shows_lines browser lines shown is =
+    record { plays = record { world = refl; lines = is; kept = refl }; deck = refl }
 
 -- a key that fits nothing
 pub Acts-ignored : (rule : Rule) (seen : Seen) (browser : Browser) (did : Did)
@@ -182,5 +191,5 @@ Acts-ignored rule seen browser did is same =
     subst (λ (one : Did). Acts rule seen seen browser browser (Ok one)) (sym is)
     (Acts-same (λ pages keys world. quiet keys (ignored world)) rule seen seen browser browser same
     (Ok (Settled lines))
-    (Acts-shows (λ shelf world. ignored world) seen browser browser lines
-    (record { world = λ shelf over. refl; tells = λ shelf over. refl; over = λ shelf over. over })))
+    (Acts-shows (λ place. ignored) seen browser browser lines
+    (shows_lines browser lines lines refl)))

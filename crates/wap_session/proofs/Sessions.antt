@@ -5,7 +5,7 @@ use Rattle.wap_base.specs.declared.key.Key.TheVariants as key
 use Rattle.wap_push.specs.Pushes.{push_at}
 use Rattle.wap_execution.specs.declared.dialog.Dialog.{Dialog}
 use Rattle.wap_execution.specs.declared.dialog.Dialog.TheVariants.{Prompt, Confirm, Alert}
-use Rattle.wap_world.specs.World.{World}
+use Rattle.wap_world.specs.World.{World, Place, place_now}
 use Rattle.wap_world.specs.Keys.{ignored}
 use Rattle.wap_world.specs.Shelves.{Shelf}
 use Rattle.wap_world.specs.Steps.{Scene, quiet}
@@ -51,7 +51,7 @@ module _ (pages : Pages) (phone : Phone) (waits : Waits) where
 
   -- where it passes, and only this is shown
   passed_by : (one : Key) → reply_to waits.dialog one ≡ passes
-      → ((shelf : Shelf) (w : World) → meanwhile shelf one w ≡ ignored w)
+      → ((place : Option Place) (w : World) → meanwhile place one w ≡ ignored w)
       → Passed (Some waits) one
   passed_by one is shows =
       feeds push_at fragment_call pages (record { phone = phone; waiting = Some waits }) one
@@ -65,7 +65,7 @@ module _ (pages : Pages) (phone : Phone) (waits : Waits) where
         step = quiet []
             (record scene { world = record scene.world { turns = phone.world.turns } });
         waiting = Some waits;
-      }) keys) (shows (shelf_of pages) (inside phone.world)))) []
+      }) keys) (shows (place_now (shelf_of pages) phone.world) (inside phone.world)))) []
       ∙ ap (before_all (quiet [] (ignored phone.world))) (none_played pages (Some waits) phone)
 
   passed : (one : Key) → is_of_inbox one ≡ true → Passed (Some waits) one

@@ -11,7 +11,7 @@ use Rattle.wap_push.specs.Inbox.{HaveWinners}
 use Rattle.wap_push.specs.Pushes.{push_at}
 use Rattle.wap_world.specs.site.Misses.{Asked}
 use Rattle.wap_world.specs.site.Asking.{Seen, Asks, Fails}
-use Rattle.wap_world.specs.World.{World}
+use Rattle.wap_world.specs.World.{World, Place}
 use Rattle.wap_world.specs.Steps.{Step, then_step}
 use Rattle.wap_world.specs.Keys.{renewed}
 use Rattle.wap_world.specs.inboxes.Winners.{winners_of, Alike}
@@ -19,12 +19,13 @@ use Rattle.wap_world.specs.inboxes.Inboxes.{Phone, Stepped}
 use Rattle.wap_world.specs.Sessions.{shown_by, StepAlike}
 use Rattle.wap_world.proofs.InboxesLemmas.Winning.{exactly}
 use Rattle.wap_world.proofs.InboxesLemmas.Alike.{winners_win, plays_alike}
-use Rattle.wap_world.specs.scripting.UnitSites.{Pages, unit_pages}
+use Rattle.wap_world.specs.scripting.UnitSites.{Pages, shelf_of, unit_pages, units_site}
 use Rattle.wap_world.specs.scripting.Waiting.{Waits, left_over, played_from}
 use Rattle.wap_world.specs.scripting.Feeding.{turned, meaning}
 use Rattle.wap_world.proofs.ScriptingLawsLemmas.Feeding.{feeds}
 use Rattle.wap_context.specs.declared.waiting.Step.{Step as Did}
-use Rattle.wap_context.specs.Browsers.{Browser}
+use Rattle.wap_context.specs.Browsers.{Browser, place_held}
+use Rattle.wap_context.proofs.Places.{held_now}
 use Rattle.wap_context.specs.Sites.{fragment_call, site_of, IfOver}
 use Rattle.wap_context.specs.Acting.{lines_in, waiting_in, Follows, Acts}
 use Rattle.wap_session.specs.declared.fault.SessionFault.{SessionFault}
@@ -208,18 +209,24 @@ module _ (key : Key) (old : State) where
 
 -- a key that has its turns
 rest_first : (key : Key) (pushes : List Indication) (old : Browser)
-    → LeadsTo [] (press_rule pushes key) (turn_rule None pushes key)
+    → LeadsTo [] (press_rule (place_held old) pushes key) (turn_rule None pushes key)
     (record old { world = renewed old.world }) old
-rest_first key pushes old pages over = (over, λ keys. refl)
+unfolding units_site
+rest_first key pushes old pages over = (
+  over,
+  λ keys.
+      ap (λ (p : Option Place). press_rule p pushes key pages keys (renewed old.world))
+      (held_now (shelf_of pages) old over),
+)
 
 -- where they were given to it
 pub rest_leads : (key : Key) (pushes : List Indication) (old mid : Browser) (budget : ℕ)
     → mid ≡ record old { world = record old.world { budget = budget; turns = budget } }
     → budget ≡ old.world.budget
-    → LeadsTo [] (press_rule pushes key) (turn_rule None pushes key) mid old
+    → LeadsTo [] (press_rule (place_held mid) pushes key) (turn_rule None pushes key) mid old
 rest_leads key pushes old mid budget began is =
     subst (λ (browser : Browser).
-    LeadsTo [] (press_rule pushes key) (turn_rule None pushes key) browser old)
+    LeadsTo [] (press_rule (place_held browser) pushes key) (turn_rule None pushes key) browser old)
     (sym (began ∙ ap (λ (n : ℕ). record old { world = record old.world { budget = n; turns = n } })
     is))
     (rest_first key pushes old)

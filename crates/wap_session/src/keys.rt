@@ -13,7 +13,6 @@ ghost use Rattle.wap_world.specs.Keys.{ignored, act_or, apply};
 ghost use Rattle.wap_world.specs.inboxes.Inboxes.{pushes_after, opening, play_pressed};
 ghost use Rattle.wap_push.specs.Pushes.{push_at};
 ghost use Rattle.wap_push.specs.Inbox.{HaveWinners};
-ghost use Rattle.wap_world.specs.scripting.UnitSites.{shelf_of};
 ghost use Rattle.wap_context.specs.Browsers.{place_held, Shows};
 ghost use Rattle.wap_context.specs.Sites.{site_of};
 ghost use Rattle.wap_context.specs.Acting.{Acts};
@@ -86,7 +85,7 @@ pub(crate) fn press<P: Pages>(
     pages: &mut P,
 ) -> Result<Step, RunErr>
     requires own { HaveWinners inbox.old inbox.old }
-    ensures acts { Acts (press_rule inbox.old key.now)
+    ensures acts { Acts (press_rule (place_held context.old) inbox.old key.now)
         (P.seen pages.old) (P.seen pages.new) context.old context.new result }
     ensures taken { OnOk result (HaveWinners (pushes_after push_at inbox.old key.now) inbox.new) }
     ensures own { HaveWinners inbox.new inbox.new }
@@ -120,7 +119,8 @@ fn follow_entry<P: Pages>(
     pages: &mut P,
 ) -> Result<Step, RunErr>
     ensures { Acts (λ of keys world.
-        play_pressed (site_of of) keys world (opening (url_in inbox.now number)))
+        play_pressed (site_of of) (place_held context.old) keys world
+        (opening (url_in inbox.now number)))
         (P.seen pages.old) (P.seen pages.new) context.old context.new result }
 {
     match url_in(inbox, alloc, usize::from(number))? {
@@ -153,7 +153,7 @@ fn act_or_show<P: Pages>(
     pages: &mut P,
 ) -> Result<Step, RunErr>
     ensures { Acts (λ of keys world.
-        act_or (show (shelf_of of) world) (site_of of) keys world task)
+        act_or (show (place_held context.old) world) (site_of of) keys world task)
         (P.seen pages.old) (P.seen pages.new) context.old context.new result }
 {
     match task {
@@ -181,7 +181,8 @@ fn run_do<P: Pages>(
     name: &Text,
     pages: &mut P,
 ) -> Result<Step, RunErr>
-    ensures { Acts (λ of keys world. apply (site_of of) keys world (the_keys.Do name.now))
+    ensures { Acts (λ of keys world.
+        apply (site_of of) (place_held context.old) keys world (the_keys.Do name.now))
         (P.seen pages.old) (P.seen pages.new) context.old context.new result }
 {
     if context.has_card() {
@@ -197,7 +198,8 @@ fn run_do_here<P: Pages>(
     name: &Text,
     pages: &mut P,
 ) -> Result<Step, RunErr>
-    ensures { Acts (λ of keys world. apply (site_of of) keys world (the_keys.Do name.now))
+    ensures { Acts (λ of keys world.
+        apply (site_of of) (place_held context.old) keys world (the_keys.Do name.now))
         (P.seen pages.old) (P.seen pages.new) context.old context.new result }
 {
     let task = task_of_do(context, alloc, name)?;
@@ -222,7 +224,8 @@ fn follow_link<P: Pages>(
     number: u16,
     pages: &mut P,
 ) -> Result<Step, RunErr>
-    ensures { Acts (λ of keys world. apply (site_of of) keys world (the_keys.Pick number))
+    ensures { Acts (λ of keys world.
+        apply (site_of of) (place_held context.old) keys world (the_keys.Pick number))
         (P.seen pages.old) (P.seen pages.new) context.old context.new result }
 {
     let task = task_of_link(context, alloc, number)?;
@@ -231,7 +234,8 @@ fn follow_link<P: Pages>(
 
 /// Goes back to the card before, once a card was entered.
 fn go_back<P: Pages>(context: &mut Context, alloc: Global, pages: &mut P) -> Result<Step, RunErr>
-    ensures { Acts (λ of keys world. apply (site_of of) keys world the_keys.Back)
+    ensures { Acts (λ of keys world.
+        apply (site_of of) (place_held context.old) keys world the_keys.Back)
         (P.seen pages.old) (P.seen pages.new) context.old context.new result }
 {
     if context.has_card() {
@@ -242,8 +246,9 @@ fn go_back<P: Pages>(context: &mut Context, alloc: Global, pages: &mut P) -> Res
 
 /// A refusal, and then the screen of the current card alone.
 fn then_screen(context: &Context, alloc: Global, refusal: Refusal) -> Result<Lines, NoMemory>
-    ensures { IfOk result (λ lines. Shows context.now context.now lines
-        (λ shelf world. behind (refusal_line refusal ∷ []) (show_screen shelf world))) }
+    ensures { IfOk result (Shows
+        (λ place world. behind (refusal_line refusal ∷ []) (show_screen place world))
+        context.now context.now []) }
 {
     let mut lines = refusal_lines(alloc, refusal)?;
     lines.append(&context.screen(alloc)?)?;
@@ -252,8 +257,7 @@ fn then_screen(context: &Context, alloc: Global, refusal: Refusal) -> Result<Lin
 
 /// A refusal, and then the current card.
 fn refuse(context: &mut Context, alloc: Global, refusal: Refusal) -> Result<Lines, NoMemory>
-    ensures { IfOk result (λ lines. Shows context.old context.new lines
-        (λ shelf world. refuse shelf refusal world)) }
+    ensures { IfOk result (Shows (λ place. refuse place refusal) context.old context.new []) }
 {
     let mut lines = refusal_lines(alloc, refusal)?;
     lines.append(&context.show(alloc)?)?;
@@ -269,7 +273,7 @@ fn enter_text(
     number: u16,
     text: &Text,
 ) -> Result<Lines, NoMemory>
-    ensures { IfOk result (λ lines. Shows context.old context.new lines (typed number text.now)) }
+    ensures { IfOk result (Shows (typed number text.now) context.old context.new []) }
 {
     match context.enter_text(alloc, number, text)? {
         Entered::NoInput => refusal_lines(alloc, Refusal::Ignored),
@@ -288,7 +292,8 @@ fn choose_option<P: Pages>(
     option: u16,
     pages: &mut P,
 ) -> Result<Step, RunErr>
-    ensures { Acts (λ of keys world. apply (site_of of) keys world (the_keys.Choose field option))
+    ensures { Acts (λ of keys world.
+        apply (site_of of) (place_held context.old) keys world (the_keys.Choose field option))
         (P.seen pages.old) (P.seen pages.new) context.old context.new result }
 {
     match context.choose(alloc, field, option)? {

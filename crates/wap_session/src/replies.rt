@@ -1,5 +1,5 @@
 //! Keys in a dialog (WAP-194, "Dialogs Library").
-ghost use Rattle.std.specs.Prelude.{◌≡◌, IfOk};
+ghost use Rattle.std.specs.Prelude.{◌≡◌, [], IfOk};
 ghost use Rattle.wap_world.specs.scripting.Dialogs.{reply_to_prompt, reply_to_buttons, reply_to};
 ghost use Rattle.wap_world.specs.scripting.Dialogs.{meanwhile};
 ghost use Rattle.wap_base.specs.declared.key.Key.TheVariants as the_keys;
@@ -99,8 +99,8 @@ fn reply_to(alloc: Global, dialog: &Dialog, key: &Key) -> Result<Reply, NoMemory
 
 /// Lets so many tenths of a second pass in a dialog.
 fn pass_time(context: &mut Context, alloc: Global, time: u32) -> Result<Lines, NoMemory>
-    ensures { IfOk result (λ lines. Shows context.old context.new lines
-        (λ shelf world. meanwhile shelf (the_keys.Tick time) world)) }
+    ensures { IfOk result (Shows (λ place. meanwhile place (the_keys.Tick time))
+        context.old context.new []) }
 {
     match context.tick_waiting(alloc, time)? {
         Ticked::Counted(lines) => Ok(lines),
@@ -110,8 +110,8 @@ fn pass_time(context: &mut Context, alloc: Global, time: u32) -> Result<Lines, N
 
 /// What a key does that leaves a dialog open.
 fn meanwhile(context: &mut Context, alloc: Global, key: &Key) -> Result<Lines, NoMemory>
-    ensures { IfOk result (λ lines. Shows context.old context.new lines
-        (λ shelf world. meanwhile shelf key.now world)) }
+    ensures { IfOk result (Shows (λ place. meanwhile place key.now)
+        context.old context.new []) }
 {
     match key {
         Key::Tick(time) => pass_time(context, alloc, *time),

@@ -29,8 +29,8 @@ use Rattle.wap_world.specs.Access.{may_enter}
 use Rattle.wap_world.specs.Screens.{show}
 use Rattle.wap_world.specs.Requests.{Request, plain_get, request_of, request_line, answer_to}
 use Rattle.wap_world.specs.Starting.{script_line}
-use Rattle.wap_world.specs.Tasks.{base_now, is_here, here_with, arrive, request, stay_or_ask}
-use Rattle.wap_world.specs.Tasks.{with_url, with_turn, go, task_once, onward, act_in, act}
+use Rattle.wap_world.specs.Tasks.{base_url, is_here, here_with, arrive, request, stay_or_ask}
+use Rattle.wap_world.specs.Tasks.{unless_refused, with_turn, go, task_once, onward, act_in, act}
 use Rattle.wap_world.specs.scripting.UnitSites.{Pages, shelf_of, keyed_host}
 use Rattle.wap_world.proofs.Laws.{denies_script}
 use Rattle.wap_world.proofs.ScriptingLawsLemmas.Refusing.{refuses_call}
@@ -38,19 +38,21 @@ use Rattle.wap_world.proofs.ScriptingLawsLemmas.Refusing.{refuses_call}
 -- ---- goes
 
 -- a page that isn't the current deck is asked for
-asks : (site : Site) (keys : List Key) (sets : Pairs) (caller : Option Url) (one : Request)
-    (world : World) (now : Option Place) → option_map_or (is_here one) now false ≡ false
-    → stay_or_ask site keys sets caller one world now ≡ request site keys sets caller one world
-asks site keys sets caller one world None elsewhere = refl
-asks site keys sets caller one world (Some place) elsewhere =
+asks : (site : Site) (place : Option Place) (keys : List Key) (sets : Pairs)
+    (caller : Option Url) (one : Request) (world : World)
+    → option_map_or (is_here one) place false ≡ false
+    → stay_or_ask site place keys sets caller one world
+    ≡ request site place keys sets caller one world
+asks site None keys sets caller one world elsewhere = refl
+asks site (Some place) keys sets caller one world elsewhere =
     ap (λ (b : Bool). if b
-    then arrive site.shelf keys sets (here_with place one.url) world place.deck
-    else request site keys sets caller one world) elsewhere
+    then arrive (Some place) keys sets (here_with place one.url) world place.deck
+    else request site (Some place) keys sets caller one world) elsewhere
 
 -- a request's line, name and test, and then the denial
-abbrev denial_step : Site → List Key → Option Url → Request → World → Step
-denial_step site keys caller one world =
-    let again = show site.shelf world in record {
+abbrev denial_step : Option Place → List Key → Option Url → Request → World → Step
+denial_step place keys caller one world =
+    let again = show place world in record {
       world = again.world;
       keys = keys;
       lines = request_line one ∷ script_line Denied ∷ again.lines;
@@ -61,28 +63,29 @@ denial_step site keys caller one world =
 
 pub denies_go : (site : Site) (keys : List Key) (one : Go) (from : Option Url) (world : World)
     (url : Url) (entrance : Option Entrance) (turns : ℕ)
-    → let caller = base_now site.shelf world from in
+    → let place = place_now site.shelf world in
+    let caller = base_url place from in
     let asked = request_of caller one url in
     world.turns ≡ suc turns → target_of caller one.href ≡ Ok url
-    → option_map_or (is_here asked) (place_now site.shelf world) false ≡ false
+    → option_map_or (is_here asked) place false ≡ false
     → answer_to site.shelf asked ≡ script_page entrance
     → may_enter asked.url entrance caller ≡ false
     → act site keys world (record { task = task.Go one; from = from })
-    ≡ denial_step site keys caller asked (record world { turns = turns })
+    ≡ denial_step place keys caller asked (record world { turns = turns })
 unfolding act
 denies_go site keys one from world url entrance turns some target elsewhere found no_entry =
-    let caller = base_now site.shelf world from in
+    let place = place_now site.shelf world in
+    let caller = base_url place from in
     let asked = request_of caller one url in
     let spent = record world { turns = turns } in
-    let now = place_now site.shelf world in
     let next : Next = record { task = task.Go one; from = from } in
-    let once : task_once site keys world next ≡ settled (denial_step site keys caller asked spent) =
-    ap (λ (n : ℕ).
-    with_turn site.shelf keys world n (λ w. go site keys (base_now site.shelf w from) one w)) some
-    ∙ ap (with_url site.shelf keys spent
-    (λ u. stay_or_ask site keys one.sets caller (request_of caller one u) spent now)) target
-    ∙ asks site keys one.sets caller asked spent now elsewhere
-    ∙ denies_script site keys one.sets caller asked spent entrance found no_entry in
+    let once : task_once site keys world next
+    ≡ settled (denial_step place keys caller asked spent) =
+    ap (λ (n : ℕ). with_turn place keys world n (go site place keys caller one)) some
+    ∙ ap (unless_refused place keys spent
+    (λ u. stay_or_ask site place keys one.sets caller (request_of caller one u) spent)) target
+    ∙ asks site place keys one.sets caller asked spent elsewhere
+    ∙ denies_script site place keys one.sets caller asked spent entrance found no_entry in
     ap (λ (n : ℕ). act_in n site keys world next) some
     ∙ ap (onward (act_in turns site)) once
 

@@ -24,7 +24,7 @@ ghost use Rattle.wap_world.specs.Access.{may_enter};
 ghost use Rattle.wap_world.specs.Screens.{show};
 ghost use Rattle.wap_world.specs.Requests.{plain_get, request_of, request_line, answer_to};
 ghost use Rattle.wap_world.specs.Starting.{script_line};
-ghost use Rattle.wap_world.specs.Tasks.{base_now, is_here, act};
+ghost use Rattle.wap_world.specs.Tasks.{base_url, is_here, act};
 ghost use Rattle.wap_world.specs.scripting.UnitSites.{Pages, shelf_of, keyed_host};
 
 /// A go to a script that may not be called takes its turn, and adds its request's line, its name
@@ -33,11 +33,12 @@ ghost use Rattle.wap_world.specs.scripting.UnitSites.{Pages, shelf_of, keyed_hos
 pub fn denied_goes_take_their_turn()
     ensures { (site : Site) (keys : List Key) (one : Go) (from : Option Url) (world : World)
         (url : Url) (entrance : Option Entrance) (turns : ℕ)
-        → let caller = base_now site.shelf world from in
+        → let place = place_now site.shelf world in
+        let caller = base_url place from in
         let asked = request_of caller one url in
-        let again = show site.shelf (record world { turns = turns }) in
+        let again = show place (record world { turns = turns }) in
         world.turns ≡ suc turns → target_of caller one.href ≡ Ok url
-        → option_map_or (is_here asked) (place_now site.shelf world) false ≡ false
+        → option_map_or (is_here asked) place false ≡ false
         → answer_to site.shelf asked ≡ script_page entrance
         → may_enter asked.url entrance caller ≡ false
         → act site keys world (record { task = task.Go one; from = from }) ≡ record {

@@ -1,3 +1,4 @@
+pub mod Scenes
 pub mod Standing
 pub mod Lasts
 pub mod Keeping

@@ -1,19 +1,14 @@
--- The card that a browser has at hand, and its deck: what it shows of them, and how it begins. This
--- project's own.
+-- The card that a browser has at hand, and its deck. This project's own.
 use Rattle.std.specs.Prelude.{ℕ, slice_get, List, [], ◌∷◌, Option, Some, None}
 use Rattle.std.specs.Option.{option_map, option_and_then}
 use Rattle.std.specs.Fmt.{decimal}
+use Rattle.wap_url.specs.declared.url.Url.{Url}
 use Rattle.wap_tokens.specs.declared.markup.deck.Deck.{Deck}
 use Rattle.wap_tokens.specs.declared.markup.deck.Node.{Node}
 use Rattle.wap_tokens.specs.markup.Cards.{cards_of}
-use Rattle.wap_cardrules.specs.Setting.{defaults}
 use Rattle.wap_cardrules.specs.Timers.{timer_in, timer_variable}
 use Rattle.wap_cardrules.specs.Values.{Pairs}
-use Rattle.wap_world.specs.World.{World}
-use Rattle.wap_world.specs.Steps.{Scene, and_then}
-use Rattle.wap_world.specs.Setting.{with_set}
-use Rattle.wap_world.specs.Timers.{timer_started, start_timer}
-use Rattle.wap_state.specs.screen_lines.Screens.{screen_of}
+use Rattle.wap_world.specs.World.{Place}
 
 -- a card and its deck
 pub record Held : Type 0 where
@@ -26,19 +21,9 @@ held_in deck number = option_and_then (λ one. option_and_then (λ n.
     option_map (λ card. record { deck = one; card = card }) (slice_get (cards_of one) n)) number)
     deck
 
--- its screen
-abbrev pub screen_held : Held → World → Scene
-screen_held held world = record { world = world; lines = screen_of world.vars held.deck held.card }
-
--- it is shown: its fields get their defaults, its timer starts unless it has, and its screen is
--- drawn
-abbrev pub show_held : Held → World → Scene
-show_held held world = and_then (with_set world (defaults world.vars held.card))
-    (λ w. screen_held held (timer_started w.timer held.card w))
-
--- its timer starts anew, and its screen is drawn
-abbrev pub restart_held : Held → World → Scene
-restart_held held world = screen_held held (start_timer held.card world)
+-- it is a place, whatever the URL of its deck
+abbrev pub placed : Url → Held → Place
+placed url held = record { url = url; deck = held.deck; card = held.card }
 
 -- what a timer with a name sets
 abbrev pub store_pairs : Option (List ℕ) → ℕ → Pairs

@@ -3,4 +3,3 @@ pub mod Scenes
 pub mod Standing
 pub mod Saved
 pub mod page_urls
-pub mod screen_lines

@@ -4,7 +4,9 @@ ghost use Rattle.wap_url.specs.Segments.{IsPrefix};
 ghost use Rattle.wap_cardrules.specs.Setting.{defaults};
 ghost use Rattle.wap_cards.specs.inputs.Stopped.{DefaultsStand};
 ghost use Rattle.wap_world.specs.Setting.{with_set};
-ghost use Rattle.wap_state.specs.CardAtHand.{screen_held, show_held, restart_held};
+ghost use Rattle.wap_state.specs.CardAtHand.{placed};
+ghost use Rattle.wap_url.specs.declared.url.Url.{Url};
+ghost use Rattle.wap_world.specs.Screens.{screen_lines, show_place, restart_place};
 ghost use Rattle.wap_state.specs.Scenes.{Plays, Leaves};
 
 use crate::hand::Current;
@@ -24,7 +26,8 @@ impl State {
         here: &Current<'_>,
         lines: &mut Lines,
     ) -> Result<(), NoMemory>
-        ensures plays { OnOk result (Plays (screen_held here.now self.now)
+        ensures plays { (url : Url) → OnOk result
+            (Plays (screen_lines (placed url here.now) self.now)
             self.now self.now lines.old lines.new) }
         ensures left { OnErr result (IsPrefix lines.old lines.new) }
     {
@@ -58,14 +61,15 @@ impl State {
         here: &Current<'_>,
         lines: &mut Lines,
     ) -> Result<(), NoMemory>
-        ensures plays { OnOk result (Plays (show_held here.now self.old)
+        ensures plays { (url : Url) → OnOk result
+            (Plays (show_place (placed url here.now) self.old)
             self.old self.new lines.old lines.new) }
         ensures history { self.new.history ≡ self.old.history }
         ensures left { OnErr result (Leaves self.old self.new lines.old lines.new) }
         ensures stopped { OnErr result
             (DefaultsStand self.old.vars here.now.card self.new.vars) }
-        ensures timer { OnErr result ((self.new.timer ≡ self.old.timer)
-            ⊎ (self.new.timer ≡ (show_held here.now self.old).world.timer)) }
+        ensures timer { (url : Url) → OnErr result ((self.new.timer ≡ self.old.timer)
+            ⊎ (self.new.timer ≡ (show_place (placed url here.now) self.old).world.timer)) }
     {
         self.apply_defaults(alloc, &here.card, lines)?;
         self.start(alloc, &here.card)?;
@@ -79,13 +83,14 @@ impl State {
         here: &Current<'_>,
         lines: &mut Lines,
     ) -> Result<(), NoMemory>
-        ensures plays { OnOk result (Plays (restart_held here.now self.old)
+        ensures plays { (url : Url) → OnOk result
+            (Plays (restart_place (placed url here.now) self.old)
             self.old self.new lines.old lines.new) }
         ensures history { self.new.history ≡ self.old.history }
         ensures left { OnErr result (Leaves self.old self.new lines.old lines.new) }
         ensures vars { self.new.vars ≡ self.old.vars }
-        ensures timer { OnErr result ((self.new.timer ≡ self.old.timer)
-            ⊎ (self.new.timer ≡ (restart_held here.now self.old).world.timer)) }
+        ensures timer { (url : Url) → OnErr result ((self.new.timer ≡ self.old.timer)
+            ⊎ (self.new.timer ≡ (restart_place (placed url here.now) self.old).world.timer)) }
     {
         self.start_timer(alloc, &here.card)?;
         self.add_screen(alloc, here, lines)

@@ -1,13 +1,13 @@
 -- What each change of a world keeps, and each script, every key keeps: the walk over one site,
 -- where nothing is lost.
-use Rattle.std.proofs.Common.{inl, List, Option, refl}
+use Rattle.std.proofs.Common.{◌≡◌, inl, List, Option, refl}
 use Rattle.std.specs.Prelude.{⊤}
 use Rattle.wap_base.specs.declared.key.Key.{Key}
 use Rattle.wap_url.specs.declared.url.Url.{Url}
 use Rattle.wap_cardrules.specs.declared.task.Go.{Go}
 use Rattle.wap_cardrules.specs.Values.{Pairs}
 use Rattle.wap_world.specs.Sites.{Ran, Site}
-use Rattle.wap_world.specs.World.{World}
+use Rattle.wap_world.specs.World.{World, Place, place_now}
 use Rattle.wap_world.specs.Steps.{Step, Once}
 use Rattle.wap_world.specs.Starting.{ended_script}
 use Rattle.wap_world.specs.Tasks.{go, prev, onward, act}
@@ -55,18 +55,20 @@ module _ (I : Fact) (site : Site) (kept : Keeps I site) (runs : RunsKeep I site)
   of_once a same = (unless_lost I Never (λ (once : Once). once.step) a a (λ lost. lost) same).1
 
   -- a go
-  pub go_keeps : (keys : List Key) (base : Option Url) (one : Go) (w : World) → I keys w
-      → let once = go site keys base one w in I once.step.keys once.step.world
-  go_keeps keys base one w i =
-      let once = go site keys base one w in
-      of_once once (go_alike I I Never Any Any site site itself keys base one w i)
+  pub go_keeps : (keys : List Key) (place : Option Place) (base : Option Url) (one : Go)
+      (w : World) → place_now site.shelf w ≡ place → I keys w
+      → let once = go site place keys base one w in I once.step.keys once.step.world
+  go_keeps keys place base one w is i =
+      let once = go site place keys base one w in
+      of_once once (go_alike I I Never Any Any site site itself keys place base one w is i)
 
   -- a prev
-  pub prev_keeps : (keys : List Key) (sets : Pairs) (w : World) → I keys w
-      → let once = prev site.shelf keys sets w in I once.step.keys once.step.world
-  prev_keeps keys sets w i =
-      let once = prev site.shelf keys sets w in
-      of_once once (prev_alike I I Never Any Any site site itself keys sets w i)
+  pub prev_keeps : (keys : List Key) (place : Option Place) (sets : Pairs) (w : World)
+      → place_now site.shelf w ≡ place → I keys w
+      → let once = prev site.shelf place keys sets w in I once.step.keys once.step.world
+  prev_keeps keys place sets w is i =
+      let once = prev site.shelf place keys sets w in
+      of_once once (prev_alike I I Never Any Any site site itself keys place sets w is i)
 
   -- the end of a script, and all that it leads to
   pub ended_keeps : (base : Url) (ran : Ran)

@@ -14,15 +14,15 @@ use Rattle.wap_world.specs.site.Pages.{Pages}
 use Rattle.wap_world.specs.declared.history.Entry.{Entry}
 use Rattle.wap_world.specs.declared.refusal.Refusal.TheVariants as refusals
 use Rattle.wap_world.specs.Shelves.{Entrance, deck_page, script_page}
-use Rattle.wap_world.specs.Sites.{Site, Ran}
+use Rattle.wap_world.specs.Sites.{Site, Call, Ran, script_of}
 use Rattle.wap_world.specs.Decks.{decks_site}
-use Rattle.wap_world.specs.World.{World}
-use Rattle.wap_world.specs.Steps.{settled, after_step}
+use Rattle.wap_world.specs.World.{World, Place, place_now}
+use Rattle.wap_world.specs.Steps.{Once, settled, after_step}
 use Rattle.wap_world.specs.History.{entry_of, in_deck, all_but_last, KeepsToLimit}
 use Rattle.wap_world.specs.Screens.{refuse, show}
 use Rattle.wap_world.specs.Access.{may_enter, entrance_of}
 use Rattle.wap_world.specs.Requests.{Request, request_line, answer_to, ask, test}
-use Rattle.wap_world.specs.Starting.{script_line, start_call, start_if, ended_script}
+use Rattle.wap_world.specs.Starting.{script_line, start_if, ended_script}
 use Rattle.wap_world.specs.Tasks.{request, answered, arrive_if, card_for, go, prev, onward, act}
 use Rattle.wap_world.specs.Keys.{react}
 use Rattle.wap_cardrules.specs.declared.task.Go.{Go}
@@ -103,19 +103,22 @@ module _ (site : Site) (falls : GivesNoTurns site) where
       react_keeps (FewTurns n) site (turns_few n site) (turns_given n) one keys world (omega arith)
 
   -- nor by a go
-  pub go_falls : (keys : List Key) (base : Option Url) (one : Go) (world : World)
-      → (go site keys base one world).step.world.turns ≤ world.turns
-  go_falls keys base one world =
+  pub go_falls : (keys : List Key) (place : Option Place) (base : Option Url) (one : Go)
+      (world : World) → place_now site.shelf world ≡ place
+      → (go site place keys base one world).step.world.turns ≤ world.turns
+  go_falls keys place base one world is =
       let n = world.turns in
-      go_keeps (FewTurns n) site (turns_few n site) (turns_given n) keys base one world
+      go_keeps (FewTurns n) site (turns_few n site) (turns_given n) keys place base one world is
       (omega arith)
 
   -- nor by a prev
-  pub prev_falls : (keys : List Key) (sets : Pairs) (world : World)
-      → (prev site.shelf keys sets world).step.world.turns ≤ world.turns
-  prev_falls keys sets world =
+  pub prev_falls : (keys : List Key) (place : Option Place) (sets : Pairs) (world : World)
+      → place_now site.shelf world ≡ place
+      → (prev site.shelf place keys sets world).step.world.turns ≤ world.turns
+  prev_falls keys place sets world is =
       let n = world.turns in
-      prev_keeps (FewTurns n) site (turns_few n site) (turns_given n) keys sets world (omega arith)
+      prev_keeps (FewTurns n) site (turns_few n site) (turns_given n) keys place sets world is
+      (omega arith)
 
 -- ---- the history
 
@@ -167,47 +170,48 @@ history_bound site runs one keys world bound =
 
 -- the request's line, name and test are added, and the current card is shown again; nothing is
 -- left, set or entered
-pub denies : (site : Site) (keys : List Key) (sets : Pairs) (caller : Option Url) (one : Request)
-    (world : World) (deck : Deck)
+pub denies : (site : Site) (place : Option Place) (keys : List Key) (sets : Pairs)
+    (caller : Option Url) (one : Request) (world : World) (deck : Deck)
     → answer_to site.shelf one ≡ deck_page deck
     → may_enter one.url (entrance_of deck) caller ≡ false
-    → request site keys sets caller one world ≡ settled (record {
-      world = (refuse site.shelf refusals.Denied world).world;
+    → request site place keys sets caller one world ≡ settled (record {
+      world = (refuse place refusals.Denied world).world;
       keys = keys;
-      lines = request_line one ∷ (refuse site.shelf refusals.Denied world).lines;
+      lines = request_line one ∷ (refuse place refusals.Denied world).lines;
       asked = (name_for one.url, one.fresh) ∷ [];
       tests = record { page = name_for one.url; caller = caller; allowed = false } ∷ [];
       is_open = false;
     })
-denies site keys sets caller one world deck found no_entry =
+denies site place keys sets caller one world deck found no_entry =
     ap (λ page. after_step (ask keys one world)
-    (answered site keys sets caller one.url world page)) found
+    (answered site place keys sets caller one.url world page)) found
     ∙ ap (λ (b : Bool). after_step (ask keys one world) (after_step (test keys (record {
       page = name_for one.url;
       caller = caller;
       allowed = b;
-    }) world) (arrive_if site.shelf keys sets one.url world deck b))) no_entry
+    }) world) (arrive_if place keys sets one.url world deck b))) no_entry
 
 -- nor is a script started that may not be
-pub denies_script : (site : Site) (keys : List Key) (sets : Pairs) (caller : Option Url)
-    (one : Request) (world : World) (entrance : Option Entrance)
+pub denies_script : (site : Site) (place : Option Place) (keys : List Key) (sets : Pairs)
+    (caller : Option Url) (one : Request) (world : World) (entrance : Option Entrance)
     → answer_to site.shelf one ≡ script_page entrance → may_enter one.url entrance caller ≡ false
-    → request site keys sets caller one world ≡ settled (record {
-      world = (show site.shelf world).world;
+    → request site place keys sets caller one world ≡ settled (record {
+      world = (show place world).world;
       keys = keys;
-      lines = request_line one ∷ script_line fatal.Denied ∷ (show site.shelf world).lines;
+      lines = request_line one ∷ script_line fatal.Denied ∷ (show place world).lines;
       asked = (name_for one.url, one.fresh) ∷ [];
       tests = record { page = name_for one.url; caller = caller; allowed = false } ∷ [];
       is_open = false;
     })
-denies_script site keys sets caller one world entrance found no_entry =
+denies_script site place keys sets caller one world entrance found no_entry =
     ap (λ page. after_step (ask keys one world)
-    (answered site keys sets caller one.url world page)) found
+    (answered site place keys sets caller one.url world page)) found
     ∙ ap (λ (b : Bool). after_step (ask keys one world) (after_step (test keys (record {
       page = name_for one.url;
       caller = caller;
       allowed = b;
-    }) world) (start_if site keys sets caller one.url world b))) no_entry
+    }) world) (start_if site.shelf (script_of site (name_for one.url)) place keys
+    sets caller one.url world (option_and_then site.call one.url.fragment) b))) no_entry
 
 -- ---- sites of decks
 
@@ -219,11 +223,13 @@ no_call pages (Some text) = refl
 
 -- so that no script is started
 starts_none : (pages : Pages) → LeavesKeys (decks_site pages)
-starts_none pages sets caller url w true keys =
-    ap (λ o. start_call (decks_site pages) keys sets caller url w o) (no_call pages url.fragment)
-    ∙ sym (ap (λ o. once_before keys (start_call (decks_site pages) [] sets caller url w o))
-    (no_call pages url.fragment))
-starts_none pages sets caller url w false keys = refl
+starts_none pages place sets caller url w true keys =
+    let site = decks_site pages in
+    let start : List Key → Option Call → Once = λ k call.
+    start_if site.shelf (script_of site (name_for url)) place k sets caller url w call true in
+    ap (start keys) (no_call pages url.fragment)
+    ∙ sym (ap (λ o. once_before keys (start [] o)) (no_call pages url.fragment))
+starts_none pages place sets caller url w false keys = refl
 
 -- a key sees none of the keys after it, and leaves them
 pub leaves_keys : (pages : Pages) (one : Key) (keys : List Key) (world : World)

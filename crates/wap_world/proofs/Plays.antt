@@ -10,7 +10,7 @@ use Rattle.wap_push.specs.declared.indication.Indication.{Indication}
 use Rattle.wap_push.specs.declared.fault.PushFault.{PushFault}
 use Rattle.wap_push.specs.Inbox.{entry_at}
 use Rattle.wap_world.specs.Sites.{Site}
-use Rattle.wap_world.specs.World.{World}
+use Rattle.wap_world.specs.World.{World, place_now}
 use Rattle.wap_world.specs.Steps.{Step, then_step}
 use Rattle.wap_world.specs.Keys.{renewed, react}
 use Rattle.wap_world.specs.inboxes.Winners.{entries_of}
@@ -90,16 +90,19 @@ module _ (I : Fact) (Lost : Loss) (losing : Losing Lost) (here there : Site)
       by (inl is) = inl is.1
       by (inr lost) = inr lost.0
 
-  -- what a key shows or plays
+  -- what a key shows or plays, where the world is
+  abbrev pressed_at : Site → List Key → World → Pressed → Step
+  pressed_at site keys w found =
+      play_pressed site (place_now site.shelf w) keys (renewed w) found
+
   presses : (found : Pressed) (keys : List Key) (w : World) → I keys w
-      → StepAlike I Lost (play_pressed here keys (renewed w) found)
-      (play_pressed there keys (renewed w) found)
+      → StepAlike I Lost (pressed_at here keys w found) (pressed_at there keys w found)
   unfolding react
   presses (shows lines) keys w i = by (told keys w i)
     where
       by : I keys (renewed w) ⊎ Lost [] [] false
-          → StepAlike I Lost (play_pressed here keys (renewed w) (shows lines))
-          (play_pressed there keys (renewed w) (shows lines))
+          → StepAlike I Lost (pressed_at here keys w (shows lines))
+          (pressed_at there keys w (shows lines))
       by (inl j) = inl (refl, j)
       by (inr lost) = inr (lost, lost)
   presses (plays one) keys w i = reacts one keys w i
@@ -121,12 +124,12 @@ module _ (I : Fact) (Lost : Loss) (losing : Losing Lost) (here there : Site)
         (react_with read there one keys (with_pushes w q))
     key_alike one keys w p q alike i =
         by (subst (λ (found : Pressed).
-        StepAlike I Lost (play_pressed here keys (renewed w) (pressed read p one))
-        (play_pressed there keys (renewed w) found)) (pressed_alike P shown read p q alike one)
+        StepAlike I Lost (pressed_at here keys w (pressed read p one))
+        (pressed_at there keys w found)) (pressed_alike P shown read p q alike one)
         (presses (pressed read p one) keys w i))
       where
-        by : StepAlike I Lost (play_pressed here keys (renewed w) (pressed read p one))
-            (play_pressed there keys (renewed w) (pressed read q one))
+        by : StepAlike I Lost (pressed_at here keys w (pressed read p one))
+            (pressed_at there keys w (pressed read q one))
             → Withs (react_with read here one keys (with_pushes w p))
             (react_with read there one keys (with_pushes w q))
         by (inl is) = inl (is.0, after_alike P shown read p q alike one, is.1)

@@ -17,7 +17,6 @@ use Rattle.wap_cardrules.specs.Entering.{enter_text, choose}
 use Rattle.wap_world.specs.declared.refusal.Refusal.TheVariants as refusals
 use Rattle.wap_world.specs.declared.timer.Timer.{Timer}
 use Rattle.wap_world.specs.declared.timer.Timer.TheVariants.{Running}
-use Rattle.wap_world.specs.Shelves.{Shelf}
 use Rattle.wap_world.specs.Sites.{Site}
 use Rattle.wap_world.specs.World.{World, Place, place_now}
 use Rattle.wap_world.specs.Lines.{refusal_line, variable_line}
@@ -40,38 +39,38 @@ act_or otherwise site keys world (Some task) = act site keys world (then_task ta
 -- ---- fields
 
 -- a text that a field takes is set and shown; one that it doesn't take leaves the screen as it was
-abbrev pub after_text : Shelf → World → Entered → Scene
-after_text shelf world entered.NoInput = ignored world
-after_text shelf world entered.Refused =
-    behind (refusal_line refusals.Mask ∷ []) (show_screen shelf world)
-after_text shelf world entered.Full = refuse shelf refusals.Full world
-after_text shelf world entered.Set = show shelf world
+abbrev pub after_text : Option Place → World → Entered → Scene
+after_text place world entered.NoInput = ignored world
+after_text place world entered.Refused =
+    behind (refusal_line refusals.Mask ∷ []) (show_screen place world)
+after_text place world entered.Full = refuse place refusals.Full world
+after_text place world entered.Set = show place world
 
 -- a text is entered into the field of a number
-abbrev pub type_text : Shelf → ℕ → List ℕ → Place → World → Scene
-type_text shelf n text place world =
+abbrev pub type_text : ℕ → List ℕ → Place → World → Scene
+type_text n text place world =
     let typed = enter_text world.vars place.card n text in
-    after_text shelf (record world { vars = typed.vars }) typed.answer
+    after_text (Some place) (record world { vars = typed.vars }) typed.answer
 
 -- the sets that were refused, and then the task of onpick, or show
-abbrev pub after_choice : Site → List Key → World → Chosen → Step
-after_choice site keys world chosen.NoOption = quiet keys (ignored world)
-after_choice site keys world (chosen.Set refused task) = followed
+abbrev pub after_choice : Site → List Key → Option Place → World → Chosen → Step
+after_choice site keys place world chosen.NoOption = quiet keys (ignored world)
+after_choice site keys place world (chosen.Set refused task) = followed
     (quiet keys (record { world = world; lines = flat_map fault_lines refused }))
-    (λ left w. act_or (show site.shelf w) site left w task)
+    (λ left w. act_or (show place w) site left w task)
 
 -- an option is chosen in the field of a number
 abbrev pub choose_option : Site → List Key → ℕ → ℕ → Place → World → Step
 choose_option site keys n m place world =
     let made = choose world.vars place.card n m in
-    after_choice site keys (record world { vars = made.vars }) made.answer
+    after_choice site keys (Some place) (record world { vars = made.vars }) made.answer
 
 -- ---- the timer
 
 -- the timer has run out: its variable is 0, and its task runs
 abbrev pub expire : Site → List Key → Place → World → Step
 expire site keys place world = followed (quiet keys (end_timer place.card world))
-    (λ left w. act_or (still w) site left w (event_task site.shelf event.Timer w))
+    (λ left w. act_or (still w) site left w (event_task (Some place) event.Timer w))
 
 -- some time passes: less than remains, or all
 abbrev pub pass_time : Site → List Key → ℕ → Timer → Place → World → Step
@@ -87,35 +86,31 @@ abbrev pub at_card : List Key → World → (Place → Step) → Option Place �
 at_card keys world rule None = quiet keys (ignored world)
 at_card keys world rule (Some place) = rule place
 
--- a rule for the card where the browser is
-abbrev pub on_card : Site → List Key → World → (Place → Step) → Step
-on_card site keys world rule = at_card keys world rule (place_now site.shelf world)
-
 -- each key has its turns
 abbrev pub renewed : World → World
 renewed world = record world { turns = world.budget }
 
--- what each key does; those of dialogs fit nothing outside one, and those of an inbox nothing
--- without one
-abbrev pub apply : Site → List Key → World → Key → Step
-apply site keys world (key.Open url) = visit site keys world url
-apply site keys world (key.Do name) = on_card site keys world
-    (λ place.
-    act_or (ignored world) site keys world (do_task world.vars place.deck place.card name))
-apply site keys world (key.Pick n) = on_card site keys world
-    (λ place. act_or (ignored world) site keys world (link_task world.vars place.card n))
-apply site keys world (key.Enter n text) = on_card site keys world
-    (λ place. quiet keys (type_text site.shelf n text place world))
-apply site keys world (key.Choose n m) = on_card site keys world
-    (λ place. choose_option site keys n m place world)
-apply site keys world key.Back = on_card site keys world
-    (λ place. act site keys world (then_task (Prev [])))
-apply site keys world (key.Tick n) = on_card site keys world
-    (λ place. pass_time site keys n world.timer place world)
-apply site keys world key.Vars =
+-- what each key does at a place; those of dialogs fit nothing outside one, and those of an inbox
+-- nothing without one
+abbrev pub apply : Site → Option Place → List Key → World → Key → Step
+apply site place keys world (key.Open url) = visit site place keys world url
+apply site place keys world (key.Do name) = at_card keys world
+    (λ one. act_or (ignored world) site keys world (do_task world.vars one.deck one.card name))
+    place
+apply site place keys world (key.Pick n) = at_card keys world
+    (λ one. act_or (ignored world) site keys world (link_task world.vars one.card n)) place
+apply site place keys world (key.Enter n text) = at_card keys world
+    (λ one. quiet keys (type_text n text one world)) place
+apply site place keys world (key.Choose n m) = at_card keys world
+    (λ one. choose_option site keys n m one world) place
+apply site place keys world key.Back = at_card keys world
+    (λ one. act site keys world (then_task (Prev []))) place
+apply site place keys world (key.Tick n) = at_card keys world
+    (λ one. pass_time site keys n world.timer one world) place
+apply site place keys world key.Vars =
     quiet keys (record { world = world; lines = map variable_line world.vars })
-apply site keys world other = quiet keys (ignored world)
+apply site place keys world other = quiet keys (ignored world)
 
--- a key, before keys that are left
+-- a key where the world is, before keys that are left
 unfoldable pub react : Site → Key → List Key → World → Step
-react site one keys world = apply site keys (renewed world) one
+react site one keys world = apply site (place_now site.shelf world) keys (renewed world) one

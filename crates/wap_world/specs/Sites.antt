@@ -32,6 +32,14 @@ pub record Ran : Type 0 where
   pub turns : ℕ
   pub step : Step
 
+-- what a script is to those who call it
+pub record Script : Type 0 where
+  -- its external functions
+  pub external : List ℕ → Option External
+  -- what the function of an index comes to: by the script's URL and that of who called, arguments,
+  -- turns and the step so far
+  pub run : Url → Option Url → ℕ → List Value → ℕ → Step → Ran
+
 -- what a browser is used with
 pub record Site : Type 0 where
   pub shelf : Shelf
@@ -42,3 +50,7 @@ pub record Site : Type 0 where
   pub run : List ℕ → Url → Option Url → ℕ → List Value → ℕ → Step → Ran
   -- what a fragment calls
   pub call : List ℕ → Option Call
+
+-- the script of a page's name
+abbrev pub script_of : Site → List ℕ → Script
+script_of site name = record { external = site.external name; run = site.run name }

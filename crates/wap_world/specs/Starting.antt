@@ -2,12 +2,12 @@
 -- 12; the pending navigation WAP-194, "WMLBrowser Library"). The words of refusals are this
 -- project's own.
 use Rattle.std.specs.Prelude.{ℕ, Bool, true, false, ◌==◌, nat_lt, if◌then◌else◌, List, [], ◌∷◌}
-use Rattle.std.specs.Prelude.{◌++◌, length, encode_utf8_all, Option, Some, None, codes}
-use Rattle.std.specs.Option.{option_and_then}
+use Rattle.std.specs.Prelude.{◌++◌, length, encode_utf8_all, Option, Some, None, Result, Ok, Err}
+use Rattle.std.specs.Prelude.{codes}
 use Rattle.std.specs.List.{list_any}
 use Rattle.wap_base.specs.declared.key.Key.{Key}
 use Rattle.wap_url.specs.declared.url.Url.{Url}
-use Rattle.wap_url.specs.Printing.{name_for, without_fragment}
+use Rattle.wap_url.specs.Printing.{without_fragment}
 use Rattle.wap_value.specs.declared.value.Value.{Value}
 use Rattle.wap_value.specs.declared.value.Value.TheVariants.{Str}
 use Rattle.wap_execution.specs.declared.fatal.Fatal.{Fatal}
@@ -18,13 +18,13 @@ use Rattle.wap_cardrules.specs.Values.{Pairs}
 use Rattle.wap_world.specs.declared.timer.Timer.{Timer}
 use Rattle.wap_world.specs.declared.timer.Timer.TheVariants.{Off, Expired}
 use Rattle.wap_world.specs.Shelves.{Shelf}
-use Rattle.wap_world.specs.World.{World}
-use Rattle.wap_world.specs.Steps.{Step, Once, then_task, still, behind, quiet, settled, after_step}
+use Rattle.wap_world.specs.World.{World, Place, place_now}
+use Rattle.wap_world.specs.Steps.{Step, Once, behind, quiet, settled, after_step}
 use Rattle.wap_world.specs.Setting.{set_variables}
 use Rattle.wap_world.specs.Timers.{settled_timer}
 use Rattle.wap_world.specs.Screens.{show}
-use Rattle.wap_world.specs.Entering.{event_task}
-use Rattle.wap_world.specs.Sites.{External, Call, End, done, failed, unanswered, Ran, Site}
+use Rattle.wap_world.specs.Entering.{begin_event}
+use Rattle.wap_world.specs.Sites.{External, Call, End, done, failed, unanswered, Ran, Script}
 
 -- ---- the line of a script that doesn't run, or ends abnormally
 
@@ -46,9 +46,9 @@ abbrev pub script_line : Fatal → List ℕ
 script_line why = codes "! script " ++ word_of_fatal why
 
 -- a script isn't started: the current card is shown again
-abbrev pub not_started : Shelf → List Key → Fatal → World → Once
-not_started shelf keys why world =
-    settled (quiet keys (behind (script_line why ∷ []) (show shelf world)))
+abbrev pub not_started : Option Place → List Key → Fatal → World → Once
+not_started place keys why world =
+    settled (quiet keys (behind (script_line why ∷ []) (show place world)))
 
 -- ---- the end of a script
 
@@ -56,26 +56,19 @@ not_started shelf keys why world =
 abbrev pub in_world : World → Step → Step
 in_world world step = record step { world = world }
 
--- a task that is next, or the current card is shown
-abbrev pub or_show : Shelf → List Key → Option Task → World → Once
-or_show shelf keys None world = settled (quiet keys (show shelf world))
-or_show shelf keys (Some task) world =
-    record { step = quiet keys (still world); next = Some (then_task task) }
-
 -- no navigation is done: where the timer ran out meanwhile, its task is next, else the card is
 -- shown
-abbrev pub rest : Shelf → List Key → Timer → World → Once
-rest shelf keys Expired world =
-    let late = record world { timer = Off } in
-    or_show shelf keys (event_task shelf event.Timer late) late
-rest shelf keys other world = settled (quiet keys (show shelf world))
+abbrev pub rest : Option Place → List Key → Timer → World → Once
+rest place keys Expired world =
+    begin_event place keys event.Timer (record world { timer = Off })
+rest place keys other world = settled (quiet keys (show place world))
 
 -- what the script asked for is next, from its own URL where there is no card, and a timer that ran
 -- out is off; where it asked for nothing, as above
-abbrev pub end_done : Shelf → Url → Option Task → Step → Once
-end_done shelf base None step =
-    after_step step (rest shelf step.keys step.world.timer step.world)
-end_done shelf base (Some task) step = record {
+abbrev pub end_done : Option Place → Url → Option Task → Step → Once
+end_done place base None step =
+    after_step step (rest place step.keys step.world.timer step.world)
+end_done place base (Some task) step = record {
   step = in_world (record step.world {
     pending = None;
     timer = settled_timer step.world.timer;
@@ -83,21 +76,25 @@ end_done shelf base (Some task) step = record {
   next = Some (record { task = task; from = Some base });
 }
 
--- by how it ended; where a dialog stays open the step says so
-abbrev pub end_by : Shelf → Url → End → Step → Once
-end_by shelf base done step = end_done shelf base step.world.pending step
--- what it asked for is dropped, and variables stay
-end_by shelf base (failed why) step =
+-- it ended abnormally: what it asked for is dropped, and variables stay
+abbrev pub end_failed : Option Place → Fatal → Step → Once
+end_failed place why step =
     let world = record step.world { pending = None } in
     after_step
     (record step { world = world; lines = step.lines ++ script_line why ∷ [] })
-    (rest shelf step.keys world.timer world)
-end_by shelf base unanswered step = settled (record step { is_open = true })
+    (rest place step.keys world.timer world)
 
--- the turns that are left are the world's again
+-- by how it ended; where a dialog stays open the step says so
+abbrev pub end_by : Option Place → Url → End → Step → Once
+end_by place base done step = end_done place base step.world.pending step
+end_by place base (failed why) step = end_failed place why step
+end_by place base unanswered step = settled (record step { is_open = true })
+
+-- the turns that are left are the world's again, whose card is the current one
 abbrev pub ended_script : Shelf → Url → Ran → Once
 ended_script shelf base ran =
-    end_by shelf base ran.end (in_world (record ran.step.world { turns = ran.turns }) ran.step)
+    let world = record ran.step.world { turns = ran.turns } in
+    end_by (place_now shelf world) base ran.end (in_world world ran.step)
 
 -- ---- the start
 
@@ -110,38 +107,46 @@ abbrev pub is_too_long : ℕ → Value → Bool
 is_too_long string (Str text) = nat_lt string (length (encode_utf8_all text))
 is_too_long string other = false
 
--- the task's variables are set just before
-abbrev pub external_started : Site → List Key → Pairs → Option Url → Url → World → ℕ → List Value
-    → Once
-external_started site keys sets caller url world index arguments =
-    let base = without_fragment url in
-    let set = set_variables sets world in
-    ended_script site.shelf base (site.run (name_for url) base caller index arguments
-    set.world.turns (quiet keys (record set { world = prepared set.world })))
+-- a function by its index, with arguments; or why none is started
+abbrev pub Start : Type 0
+Start = Result (ℕ × List Value) Fatal
 
 -- a function that is not external, another count of arguments, and a String that is too long are
 -- refused in this order
-abbrev pub start_external : Site → List Key → Pairs → Option Url → Url → World → List Value
-    → Option External → Once
-start_external site keys sets caller url world arguments None =
-    not_started site.shelf keys fatal.NoFunction world
-start_external site keys sets caller url world arguments (Some one) =
+abbrev pub start_of : ℕ → List Value → Option External → Start
+start_of string arguments None = Err fatal.NoFunction
+start_of string arguments (Some one) =
     if one.arguments == length arguments
-    then (if list_any (is_too_long world.limits.string) arguments
-    then not_started site.shelf keys fatal.TooLong world
-    else external_started site keys sets caller url world one.index arguments)
-    else not_started site.shelf keys fatal.Arguments world
+    then (if list_any (is_too_long string) arguments then Err fatal.TooLong
+    else Ok (one.index, arguments))
+    else Err fatal.Arguments
 
--- a fragment that is no call names no function
-abbrev pub start_call : Site → List Key → Pairs → Option Url → Url → World → Option Call → Once
-start_call site keys sets caller url world None =
-    not_started site.shelf keys fatal.NoFunction world
-start_call site keys sets caller url world (Some call) =
-    start_external site keys sets caller url world call.arguments
-    (site.external (name_for url) call.function)
+-- by these external functions; a fragment that is no call names no function
+abbrev pub start_by : (List ℕ → Option External) → ℕ → Option Call → Start
+start_by external string None = Err fatal.NoFunction
+start_by external string (Some call) = start_of string call.arguments (external call.function)
 
--- by the fragment of the URL, once the access decision is made
-abbrev pub start_if : Site → List Key → Pairs → Option Url → Url → World → Bool → Once
-start_if site keys sets caller url world true =
-    start_call site keys sets caller url world (option_and_then site.call url.fragment)
-start_if site keys sets caller url world false = not_started site.shelf keys fatal.Denied world
+-- the task's variables are set just before
+abbrev pub external_started : Shelf → Script → List Key → Pairs → Option Url → Url → World → ℕ
+    → List Value → Once
+external_started shelf script keys sets caller url world index arguments =
+    let base = without_fragment url in
+    let set = set_variables sets world in
+    ended_script shelf base (script.run base caller index arguments set.world.turns
+    (quiet keys (record set { world = prepared set.world })))
+
+-- what is started, or the line of why nothing is
+abbrev pub started : Shelf → Script → Option Place → List Key → Pairs → Option Url → Url → World
+    → Start → Once
+started shelf script place keys sets caller url world (Err why) = not_started place keys why world
+started shelf script place keys sets caller url world (Ok one) =
+    external_started shelf script keys sets caller url world one.0 one.1
+
+-- by the call in the fragment of the URL, once the access decision is made
+abbrev pub start_if : Shelf → Script → Option Place → List Key → Pairs → Option Url → Url → World
+    → Option Call → Bool → Once
+start_if shelf script place keys sets caller url world call true =
+    started shelf script place keys sets caller url world
+    (start_by script.external world.limits.string call)
+start_if shelf script place keys sets caller url world call false =
+    not_started place keys fatal.Denied world

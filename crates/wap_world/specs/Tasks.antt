@@ -22,6 +22,7 @@ use Rattle.std.specs.Prelude.{unwrap_or, slice_get, List, [], Option, Some, None
 use Rattle.std.specs.Option.{option_map, option_map_or, option_and_then}
 use Rattle.wap_base.specs.declared.key.Key.{Key}
 use Rattle.wap_url.specs.declared.url.Url.{Url}
+use Rattle.wap_url.specs.Printing.{name_for}
 use Rattle.wap_tokens.specs.declared.markup.deck.Deck.{Deck}
 use Rattle.wap_tokens.specs.declared.markup.name.AttrName.TheVariants as attrs
 use Rattle.wap_tokens.specs.markup.Cards.{cards_of, card_numbered}
@@ -34,17 +35,16 @@ use Rattle.wap_world.specs.declared.history.Entry.{Entry}
 use Rattle.wap_world.specs.declared.timer.Timer.TheVariants.{NotStarted}
 use Rattle.wap_world.specs.declared.refusal.Refusal.{Refusal}
 use Rattle.wap_world.specs.declared.refusal.Refusal.TheVariants as refusals
-use Rattle.wap_world.specs.Shelves.{Shelf, Shelved, deck_page, script_page, no_page}
-use Rattle.wap_world.specs.Sites.{Site}
+use Rattle.wap_world.specs.Shelves.{Entrance, Shelf, Shelved, deck_page, script_page, no_page}
+use Rattle.wap_world.specs.Sites.{Call, Script, Site, script_of}
 use Rattle.wap_world.specs.Access.{entrance_of}
 use Rattle.wap_world.specs.Starting.{start_if}
-use Rattle.wap_world.specs.World.{World, Place, place_now}
+use Rattle.wap_world.specs.World.{World, Place, place_in, place_now}
 use Rattle.wap_world.specs.Steps.{Scene, Step, Once, Next, and_then, quiet, followed, settled}
 use Rattle.wap_world.specs.Steps.{after_step}
 use Rattle.wap_world.specs.History.{entry_of, pushed, earlier_entry, in_deck, back_at}
 use Rattle.wap_world.specs.Setting.{set_variables}
-use Rattle.wap_world.specs.Timers.{start_timer}
-use Rattle.wap_world.specs.Screens.{here, screen_lines, refuse}
+use Rattle.wap_world.specs.Screens.{at_place, restart_place, refuse}
 use Rattle.wap_world.specs.Entering.{leave, enter}
 use Rattle.wap_world.specs.Urls.{target_of, is_same_page}
 use Rattle.wap_world.specs.Requests.{Request, plain_get, request_of, ask, answer_to, test_of, test}
@@ -52,30 +52,31 @@ use Rattle.wap_world.specs.Requests.{Request, plain_get, request_of, ask, answer
 -- ---- what navigations share
 
 -- a navigation that ends with a refusal, after which the current card is shown
-abbrev pub refusing : Shelf → List Key → Refusal → World → Once
-refusing shelf keys refusal world = settled (quiet keys (refuse shelf refusal world))
+abbrev pub refusing : Option Place → List Key → Refusal → World → Once
+refusing place keys refusal world = settled (quiet keys (refuse place refusal world))
 
 -- the current card is left, and variables are set
-abbrev pub leave_and_set : Shelf → Pairs → World → Scene
-leave_and_set shelf sets world = and_then (leave shelf world) (set_variables sets)
+abbrev pub leave_and_set : Option Place → Pairs → World → Scene
+leave_and_set place sets world = and_then (leave place world) (set_variables sets)
 
 -- the URL of the current deck
-abbrev pub url_now : Shelf → World → Option Url
-url_now shelf world = option_map (λ place. place.url) (place_now shelf world)
+abbrev pub deck_url : Option Place → Option Url
+deck_url place = option_map (λ one. one.url) place
 
 -- the URL of the current deck; without a card, that of the script that asked
-abbrev pub base_now : Shelf → World → Option Url → Option Url
-base_now shelf world from = option_map_or Some (url_now shelf world) from
+abbrev pub base_url : Option Place → Option Url → Option Url
+base_url place from = option_map_or Some (deck_url place) from
 
--- on with the URL, or its refusal
-abbrev pub with_url : Shelf → List Key → World → (Url → Once) → Result Url Refusal → Once
-with_url shelf keys world next (Ok url) = next url
-with_url shelf keys world next (Err refusal) = refusing shelf keys refusal world
+-- on with what was found, or its refusal
+abbrev pub unless_refused
+    : {A : Type 0} → Option Place → List Key → World → (A → Once) → Result A Refusal → Once
+unless_refused place keys world next (Ok found) = next found
+unless_refused place keys world next (Err refusal) = refusing place keys refusal world
 
 -- a turn is taken, if one is left
-abbrev pub with_turn : Shelf → List Key → World → ℕ → (World → Once) → Once
-with_turn shelf keys world zero next = refusing shelf keys refusals.Budget world
-with_turn shelf keys world (suc turns) next = next (record world { turns = turns })
+abbrev pub with_turn : Option Place → List Key → World → ℕ → (World → Once) → Once
+with_turn place keys world zero next = refusing place keys refusals.Budget world
+with_turn place keys world (suc turns) next = next (record world { turns = turns })
 
 -- ---- go, by the steps of its rule
 
@@ -95,40 +96,55 @@ in_context deck number world =
     then record world { vars = []; history = []; timer = NotStarted } else world
 
 -- 9 to 13: the old card is left, variables are set, the new card is pushed and entered
-abbrev pub arrive : Shelf → List Key → Pairs → Url → World → Deck → Once
-arrive shelf keys sets url world deck =
+abbrev pub arrive : Option Place → List Key → Pairs → Url → World → Deck → Once
+arrive place keys sets url world deck =
     let number = card_for deck url in
-    let left = leave_and_set shelf sets world in
-    let inside = pushed (in_context deck number left.world) (entry_of url number) in
-    after_step (quiet keys left) (enter shelf keys Forward inside)
+    let entry = entry_of url number in
+    let left = leave_and_set place sets world in
+    let inside = pushed (in_context deck number left.world) entry in
+    after_step (quiet keys left) (enter (place_in entry deck) keys Forward inside)
 
 -- 7: whether the deck may be entered
-abbrev pub arrive_if : Shelf → List Key → Pairs → Url → World → Deck → Bool → Once
-arrive_if shelf keys sets url world deck true = arrive shelf keys sets url world deck
-arrive_if shelf keys sets url world deck false = refusing shelf keys refusals.Denied world
+abbrev pub arrive_if : Option Place → List Key → Pairs → Url → World → Deck → Bool → Once
+arrive_if place keys sets url world deck true = arrive place keys sets url world deck
+arrive_if place keys sets url world deck false = refusing place keys refusals.Denied world
 
 -- the test is made, and the deck is entered where it may be
-abbrev pub try_deck : Shelf → List Key → Pairs → Option Url → Url → World → Deck → Once
-try_deck shelf keys sets caller url world deck =
+abbrev pub try_deck : Option Place → List Key → Pairs → Option Url → Url → World → Deck → Once
+try_deck place keys sets caller url world deck =
     let one = test_of url caller (entrance_of deck) in
-    after_step (test keys one world) (arrive_if shelf keys sets url world deck one.allowed)
+    after_step (test keys one world) (arrive_if place keys sets url world deck one.allowed)
+
+-- the test is made, and the script's function that is called is started where it may be
+abbrev pub try_script : Shelf → Script → Option Place → List Key → Pairs → Option Url → Url
+    → World → Option Call → Option Entrance → Once
+try_script shelf script place keys sets caller url world call entrance =
+    let one = test_of url caller entrance in
+    after_step (test keys one world)
+    (start_if shelf script place keys sets caller url world call one.allowed)
+
+-- the deck that a page is, or why it is none
+abbrev pub deck_or_refusal : Shelved → Result Deck Refusal
+deck_or_refusal (deck_page deck) = Ok deck
+deck_or_refusal no_page = Err refusals.Missing
+deck_or_refusal other = Err refusals.Refused
 
 -- by the page that answers
-abbrev pub answered : Site → List Key → Pairs → Option Url → Url → World → Shelved → Once
-answered site keys sets caller url world (deck_page deck) =
-    try_deck site.shelf keys sets caller url world deck
-answered site keys sets caller url world (script_page entrance) =
-    let one = test_of url caller entrance in
-    after_step (test keys one world) (start_if site keys sets caller url world one.allowed)
-answered site keys sets caller url world no_page = refusing site.shelf keys refusals.Missing world
-answered site keys sets caller url world other =
-    refusing site.shelf keys refusals.Refused world
+abbrev pub answered
+    : Site → Option Place → List Key → Pairs → Option Url → Url → World → Shelved → Once
+answered site place keys sets caller url world (script_page entrance) =
+    try_script site.shelf (script_of site (name_for url)) place keys sets caller url world
+    (option_and_then site.call url.fragment) entrance
+answered site place keys sets caller url world other =
+    unless_refused place keys world (try_deck place keys sets caller url world)
+    (deck_or_refusal other)
 
 -- 6: the page is asked for
-abbrev pub request : Site → List Key → Pairs → Option Url → Request → World → Once
-request site keys sets caller one world =
+abbrev pub request
+    : Site → Option Place → List Key → Pairs → Option Url → Request → World → Once
+request site place keys sets caller one world =
     after_step (ask keys one world)
-    (answered site keys sets caller one.url world (answer_to site.shelf one))
+    (answered site place keys sets caller one.url world (answer_to site.shelf one))
 
 -- 5: no request is made for the current deck, but for a post and for a page that is to be fetched
 -- anew
@@ -141,99 +157,94 @@ here_with place url = record place.url { fragment = url.fragment }
 
 -- the current deck is entered anew where it is asked for, else the page is asked for
 abbrev pub stay_or_ask
-    : Site → List Key → Pairs → Option Url → Request → World → Option Place → Once
-stay_or_ask site keys sets caller one world None = request site keys sets caller one world
-stay_or_ask site keys sets caller one world (Some place) =
+    : Site → Option Place → List Key → Pairs → Option Url → Request → World → Once
+stay_or_ask site None keys sets caller one world = request site None keys sets caller one world
+stay_or_ask site (Some place) keys sets caller one world =
     if is_here one place
-    then arrive site.shelf keys sets (here_with place one.url) world place.deck
-    else request site keys sets caller one world
+    then arrive (Some place) keys sets (here_with place one.url) world place.deck
+    else request site (Some place) keys sets caller one world
 
 -- 3 and 4: the URL, as a reference to that of the deck, with what the postfields make of it
-abbrev pub go : Site → List Key → Option Url → Go → World → Once
-go site keys base one world = with_url site.shelf keys world
-    (λ url. stay_or_ask site keys one.sets base (request_of base one url) world
-    (place_now site.shelf world))
+abbrev pub go : Site → Option Place → List Key → Option Url → Go → World → Once
+go site place keys base one world = unless_refused place keys world
+    (λ url. stay_or_ask site place keys one.sets base (request_of base one url) world)
     (target_of base one.href)
 
 -- ---- open: a go of a user, from no URL; a request is always made
 
 -- the text is a reference to the current deck's URL, or stands by itself without one
-abbrev pub open_url : Site → List Key → List ℕ → World → Once
-open_url site keys text world = with_url site.shelf keys world
-    (λ url. request site keys [] None (plain_get url) world)
-    (target_of (url_now site.shelf world) text)
+abbrev pub open_url : Site → Option Place → List Key → List ℕ → World → Once
+open_url site place keys text world = unless_refused place keys world
+    (λ url. request site place keys [] None (plain_get url) world)
+    (target_of (deck_url place) text)
 
 -- ---- prev
 
 -- the old card is left, variables are set, and the earlier card is entered
-abbrev pub return : Shelf → List Key → Pairs → Entry → World → Deck → Once
-return shelf keys sets earlier world deck =
-    let left = leave_and_set shelf sets world in
+abbrev pub return : Option Place → List Key → Pairs → Entry → World → Deck → Once
+return place keys sets earlier world deck =
+    let entry = in_deck deck earlier in
+    let left = leave_and_set place sets world in
     after_step (quiet keys left)
-    (enter shelf keys Backward (back_at left.world (in_deck deck earlier)))
+    (enter (place_in entry deck) keys Backward (back_at left.world entry))
 
 -- a script isn't gone back to
-abbrev pub returned : Shelf → List Key → Pairs → Entry → World → Shelved → Once
-returned shelf keys sets earlier world (deck_page deck) =
-    return shelf keys sets earlier world deck
-returned shelf keys sets earlier world no_page = refusing shelf keys refusals.Missing world
-returned shelf keys sets earlier world other =
-    refusing shelf keys refusals.Refused world
+abbrev pub returned : Option Place → List Key → Pairs → Entry → World → Shelved → Once
+returned place keys sets earlier world page =
+    unless_refused place keys world (return place keys sets earlier world) (deck_or_refusal page)
 
 -- the earlier card's deck, where it is not the current one, is asked for; access is not tested
-abbrev pub ask_back : Shelf → List Key → Pairs → Entry → World → Once
-ask_back shelf keys sets earlier world =
+abbrev pub ask_back : Shelf → Option Place → List Key → Pairs → Entry → World → Once
+ask_back shelf place keys sets earlier world =
     let one = plain_get earlier.url in
     after_step (ask keys one world)
-    (returned shelf keys sets earlier world (answer_to shelf one))
+    (returned place keys sets earlier world (answer_to shelf one))
 
 -- an earlier card of the current deck
 abbrev pub card_here : Place → Entry → Entry
 card_here place earlier = record earlier { url = place.url }
 
 -- the current deck is kept where the earlier card is one of it
-abbrev pub back_from : Shelf → List Key → Pairs → Entry → World → Option Place → Once
-back_from shelf keys sets earlier world None = ask_back shelf keys sets earlier world
-back_from shelf keys sets earlier world (Some place) =
+abbrev pub back_from : Shelf → Option Place → List Key → Pairs → Entry → World → Once
+back_from shelf None keys sets earlier world = ask_back shelf None keys sets earlier world
+back_from shelf (Some place) keys sets earlier world =
     if is_same_page earlier.url place.url
-    then return shelf keys sets (card_here place earlier) world place.deck
-    else ask_back shelf keys sets earlier world
+    then return (Some place) keys sets (card_here place earlier) world place.deck
+    else ask_back shelf (Some place) keys sets earlier world
 
 -- with one card or none there is no earlier one
-abbrev pub back_to : Shelf → List Key → Pairs → World → Option Entry → Once
-back_to shelf keys sets world None = refusing shelf keys refusals.First world
-back_to shelf keys sets world (Some earlier) =
-    back_from shelf keys sets earlier world (place_now shelf world)
+abbrev pub back_to : Shelf → Option Place → List Key → Pairs → World → Option Entry → Once
+back_to shelf place keys sets world None = refusing place keys refusals.First world
+back_to shelf place keys sets world (Some earlier) =
+    back_from shelf place keys sets earlier world
 
 -- back to the card that was entered before
-abbrev pub prev : Shelf → List Key → Pairs → World → Once
-prev shelf keys sets world = back_to shelf keys sets world (earlier_entry world)
+abbrev pub prev : Shelf → Option Place → List Key → Pairs → World → Once
+prev shelf place keys sets world = back_to shelf place keys sets world (earlier_entry world)
 
 -- ---- refresh
 
--- the card is left, variables are set, the timer starts, and the screen is shown; it takes no turn
-abbrev pub refresh_place : Shelf → Pairs → Place → World → Scene
-refresh_place shelf sets place world =
-    and_then (leave_and_set shelf sets world) (λ w. screen_lines place (start_timer place.card w))
-
--- without a card nothing happens
-abbrev pub refresh : Shelf → Pairs → World → Scene
-refresh shelf sets world = here shelf (refresh_place shelf sets) world
+-- the card is left, variables are set, the timer starts, and the screen is shown; it takes no
+-- turn, and without a card nothing happens
+abbrev pub refresh : Option Place → Pairs → World → Scene
+refresh place sets world = at_place
+    (λ one w. and_then (leave_and_set place sets w) (restart_place one)) place world
 
 -- ---- one navigation, repeated
 
--- by the URL that stands for the current deck's where there is no card
-abbrev pub task_by : Site → List Key → World → Option Url → Task → Once
-task_by site keys world from (task.Go one) = with_turn site.shelf keys world world.turns
-    (λ w. go site keys (base_now site.shelf w from) one w)
-task_by site keys world from (task.Prev sets) =
-    with_turn site.shelf keys world world.turns (prev site.shelf keys sets)
-task_by site keys world from (task.Refresh sets) =
-    settled (quiet keys (refresh site.shelf sets world))
+-- from the place that is shown, by the URL that stands for the deck's where there is none
+abbrev pub task_by : Site → Option Place → List Key → World → Option Url → Task → Once
+task_by site place keys world from (task.Go one) = with_turn place keys world world.turns
+    (go site place keys (base_url place from) one)
+task_by site place keys world from (task.Prev sets) =
+    with_turn place keys world world.turns (prev site.shelf place keys sets)
+task_by site place keys world from (task.Refresh sets) =
+    settled (quiet keys (refresh place sets world))
 
--- what a task comes to
+-- what a task comes to, where the world is
 abbrev pub task_once : Site → List Key → World → Next → Once
-task_once site keys world next = task_by site keys world next.from next.task
+task_once site keys world next =
+    task_by site (place_now site.shelf world) keys world next.from next.task
 
 -- a step, and then the task that is next, if there is one
 abbrev pub go_on : (List Key → World → Next → Step) → Step → Option Next → Step
@@ -254,7 +265,11 @@ act_in (suc turns) site keys world next =
 unfoldable pub act : Site → List Key → World → Next → Step
 act site keys world next = act_in world.turns site keys world next
 
--- a URL that a user opens, and all that it leads to
-unfoldable pub visit : Site → List Key → World → List ℕ → Step
-visit site keys world text =
-    onward (act site) (with_turn site.shelf keys world world.turns (open_url site keys text))
+-- a URL that a user opens from the place that is shown
+abbrev pub open_by : Site → Option Place → List Key → List ℕ → World → Once
+open_by site place keys text world =
+    with_turn place keys world world.turns (open_url site place keys text)
+
+-- and all that it leads to
+unfoldable pub visit : Site → Option Place → List Key → World → List ℕ → Step
+visit site place keys world text = onward (act site) (open_by site place keys text world)

@@ -20,7 +20,7 @@ ghost use Rattle.wap_world.specs.Urls.{target_of};
 ghost use Rattle.wap_world.specs.Requests.{plain_get, request_line};
 ghost use Rattle.wap_world.specs.Starting.{ended_script};
 ghost use Rattle.wap_world.specs.Tasks.{onward, act};
-ghost use Rattle.wap_world.specs.World.{World};
+ghost use Rattle.wap_world.specs.World.{World, place_now};
 ghost use Rattle.wap_world.specs.History.{KeepsToLimit};
 ghost use Rattle.wap_world.specs.session_laws.Scripts.{GivesNoTurns, MakesNoKeys, ScriptsKeep};
 ghost use Rattle.wap_world.specs.session_laws.Standing.{StandsOnCard};
@@ -96,7 +96,7 @@ pub fn dialogs_go_by_their_keys()
         (record stopped { step = record stopped.step { keys = keys } }) }
     ensures stays { (call : List ℕ → Option Call) (pages : Pages) (one : Waits) (world : World)
         (key : Key) → reply_to one.dialog key ≡ passes
-        → let scene = meanwhile (shelf_of pages) key (inside world) in
+        → let scene = meanwhile (place_now (shelf_of pages) world) key (inside world) in
         Means call pages (record {
           step = quiet [] (record scene { world = record scene.world { turns = world.turns } });
           waiting = Some one;

@@ -29,7 +29,7 @@ ghost use Rattle.wap_world.specs.Screens.{refuse, show};
 ghost use Rattle.wap_world.specs.Access.{may_enter, entrance_of};
 ghost use Rattle.wap_world.specs.Requests.{Request, request_of, request_line, answer_to};
 ghost use Rattle.wap_world.specs.Starting.{script_line};
-ghost use Rattle.wap_world.specs.Tasks.{request, is_here, with_turn, open_url, task_once};
+ghost use Rattle.wap_world.specs.Tasks.{request, is_here, open_by, task_once};
 ghost use Rattle.wap_world.specs.Tasks.{onward, act, visit};
 ghost use Rattle.wap_world.specs.Keys.{react};
 ghost use Rattle.wap_world.specs.inboxes.Inboxes.{Phone, taking_none, react_with};
@@ -73,12 +73,12 @@ pub fn keys_play_in_parts()
 /// card is shown again after the refusal, and that is all. So a go that asks for such a deck takes
 /// its turn, and neither leaves the card nor sets its variables nor enters.
 pub fn denied_decks_are_not_entered()
-    ensures of_request { (site : Site) (keys : List Key) (sets : Pairs) (caller : Option Url)
-        (one : Request) (world : World) (deck : Deck)
+    ensures of_request { (site : Site) (place : Option Place) (keys : List Key) (sets : Pairs)
+        (caller : Option Url) (one : Request) (world : World) (deck : Deck)
         → answer_to site.shelf one ≡ deck_page deck
         → may_enter one.url (entrance_of deck) caller ≡ false
-        → let again = refuse site.shelf refusals.Denied world in
-        request site keys sets caller one world ≡ settled (record {
+        → let again = refuse place refusals.Denied world in
+        request site place keys sets caller one world ≡ settled (record {
           world = again.world;
           keys = keys;
           lines = request_line one ∷ again.lines;
@@ -90,7 +90,7 @@ pub fn denied_decks_are_not_entered()
         (url : Url) (deck : Deck) (turns : ℕ)
         → let caller = Some place.url in
         let asked = request_of caller one url in
-        let again = refuse site.shelf refusals.Denied (record world { turns = turns }) in
+        let again = refuse (Some place) refusals.Denied (record world { turns = turns }) in
         world.turns ≡ suc turns → place_now site.shelf world ≡ Some place
         → target_of caller one.href ≡ Ok url → is_here asked place ≡ false
         → answer_to site.shelf asked ≡ deck_page deck
@@ -108,12 +108,12 @@ pub fn denied_decks_are_not_entered()
 /// Nor is a script started that may not be: the line of a script that is denied stands in place of
 /// the refusal's, and its arguments aren't looked at.
 pub fn denied_scripts_are_not_started()
-    ensures { (site : Site) (keys : List Key) (sets : Pairs) (caller : Option Url)
-        (one : Request) (world : World) (entrance : Option Entrance)
+    ensures { (site : Site) (place : Option Place) (keys : List Key) (sets : Pairs)
+        (caller : Option Url) (one : Request) (world : World) (entrance : Option Entrance)
         → answer_to site.shelf one ≡ script_page entrance
         → may_enter one.url entrance caller ≡ false
-        → let again = show site.shelf world in
-        request site keys sets caller one world ≡ settled (record {
+        → let again = show place world in
+        request site place keys sets caller one world ≡ settled (record {
           world = again.world;
           keys = keys;
           lines = request_line one ∷ script_line fatal.Denied ∷ again.lines;
@@ -141,9 +141,9 @@ pub fn tasks_are_followed_to_their_end()
     ensures of_task { (site : Site) (keys : List Key) (world : World) (one : Next)
         → GivesNoTurns site
         → act site keys world one ≡ onward (act site) (task_once site keys world one) }
-    ensures of_url { (site : Site) (keys : List Key) (world : World) (text : List ℕ)
-        → visit site keys world text ≡ onward (act site)
-        (with_turn site.shelf keys world world.turns (open_url site keys text)) }
+    ensures of_url { (site : Site) (place : Option Place) (keys : List Key) (world : World)
+        (text : List ℕ) → visit site place keys world text
+        ≡ onward (act site) (open_by site place keys text world) }
     ensures turns { (site : Site) (keys : List Key) (world : World) (one : Next)
         → GivesNoTurns site → let once = task_once site keys world one in
         IfSome once.next (λ next. once.step.world.turns < world.turns) }

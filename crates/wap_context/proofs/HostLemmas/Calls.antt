@@ -7,7 +7,6 @@ use Rattle.wap_base.specs.Utf8.{utf8_len}
 use Rattle.wap_value.specs.declared.value.Value.{Value}
 use Rattle.wap_value.specs.declared.value.Value.TheVariants.{Int, Bool as Boolean, Str, Invalid}
 use Rattle.wap_value.specs.declared.fault.ValueFault.TheVariants.{TooLong}
-use Rattle.wap_libs.specs.declared.outcome.LibOut.TheVariants as lib
 use Rattle.wap_execution.specs.declared.library.HostOut.{HostOut}
 use Rattle.wap_execution.specs.declared.library.HostOut.TheVariants as out
 use Rattle.wap_machine.specs.Hosts.{IsNoBudget}

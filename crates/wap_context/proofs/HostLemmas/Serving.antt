@@ -1,5 +1,5 @@
 -- Calls that ask for a page, and calls that don't, as calls of a host.
-use Rattle.std.proofs.Common.{◌≡◌, ◌∙◌, ◌+◌, ℕ, true, false, List, [], ◌∷◌, ◌++◌, Option}
+use Rattle.std.proofs.Common.{◌≡◌, ◌∙◌, ◌+◌, ℕ, List, [], ◌∷◌, ◌++◌, Option}
 use Rattle.std.proofs.Common.{Some, None, Ok, Err, refl, sym, ap, subst, append-nil, arith}
 use Rattle.std.specs.Prelude.{Result, IfSome, IsErr, IsErrAnd}
 use Rattle.std.proofs.lemmas.Bool.{false≢true}

@@ -14,32 +14,24 @@ use Rattle.wap_world.specs.declared.site.page.Page.TheVariants as page
 use Rattle.wap_world.specs.site.Pages.{Pages as JudgedPages, page_of, AreSitePages}
 use Rattle.wap_world.specs.site.Asking.{Seen, MayBe, Stays, Asks, Fails}
 use Rattle.wap_world.specs.declared.refusal.Refusal.{Refusal}
-use Rattle.wap_world.specs.declared.refusal.Refusal.TheVariants as refusals
 use Rattle.wap_world.specs.Shelves.{Shelf}
-use Rattle.wap_world.specs.World.{World, Place, deck_at}
-use Rattle.wap_world.specs.Steps.{Scene, Step, Once, Next, still, quiet}
+use Rattle.wap_world.specs.World.{World, deck_at}
+use Rattle.wap_world.specs.Steps.{Step, Once, Next, still, quiet}
 use Rattle.wap_world.specs.Requests.{Request, request_line}
-use Rattle.wap_world.specs.Tasks.{act}
+use Rattle.wap_world.specs.Tasks.{deck_or_refusal, act}
 use Rattle.wap_world.specs.scripting.UnitSites.{Pages, shelf_of}
 use Rattle.wap_world.specs.scripting.Waiting.{Waits, resumed_step}
 use Rattle.wap_world.specs.scripting.Halves.{once_by}
 use Rattle.wap_world.specs.scripting.Feeding.{Means}
-use Rattle.wap_state.specs.Scenes.{Line, Plays}
+use Rattle.wap_state.specs.Scenes.{Line}
 use Rattle.wap_context.specs.declared.waiting.Went.{Went}
 use Rattle.wap_context.specs.declared.waiting.Went.TheVariants.{Settled, Leads, Asks as AsksUser}
 use Rattle.wap_context.specs.declared.waiting.Step.{Step as Did}
-use Rattle.wap_context.specs.Browsers.{Browser, IsOver, place_held}
+use Rattle.wap_context.specs.Browsers.{Browser, IsOver}
 use Rattle.wap_context.specs.Pausing.{waits_of}
 use Rattle.wap_context.specs.Sites.{fragment_call, site_of, IfOver}
 use Rattle.wap_context.specs.Acting.{lines_in, waiting_in}
-
--- ---- scenes
-
--- a rule for the place at hand
-pub record PlaysAt (rule : Option Place → World → Scene) (old new : Browser)
-    (before after : List Line) : Type 0 where
-  pub plays : Plays (rule (place_held old) old.world) old.world new.world before after
-  pub deck : new.deck ≡ old.deck
+use Rattle.wap_context.specs.host.Finding.{shelved_page}
 
 -- ---- navigations that start no script
 
@@ -58,18 +50,10 @@ pub record Moves (once : Once) (IsSuch : Shelf → Type 0) (old new : Browser)
 abbrev pub HasDeck : Url → Deck → Shelf → Type 0
 HasDeck url deck shelf = deck_at shelf url ≡ Some deck
 
--- the deck that a page is, or why none is gone back to
-abbrev pub deck_answer : Page → Result Deck Refusal
-deck_answer (page.Deck deck) = Ok deck
-deck_answer page.Missing = Err refusals.Missing
-deck_answer other = Err refusals.Refused
-
--- the same of a page that is asked for, or the script that it is
+-- the deck that a page is, or why none is entered; or the script that it is
 abbrev pub page_answer : Page → Result (Result Deck Refusal) Unit
-page_answer (page.Deck deck) = Ok (Ok deck)
 page_answer (page.Script unit) = Err unit
-page_answer page.Missing = Ok (Err refusals.Missing)
-page_answer other = Ok (Err refusals.Refused)
+page_answer other = Ok (deck_or_refusal (shelved_page other))
 
 -- the shelf is the browser's, and has the deck that answers
 abbrev pub Answers : Url → Result Deck Refusal → Browser → Shelf → Type 0

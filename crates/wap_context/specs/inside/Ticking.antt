@@ -1,6 +1,6 @@
 -- The passing of time over the place that a browser has at hand. Contracts inside the crate cite
 -- it; those of its public calls don't. This project's own.
-use Rattle.std.specs.Prelude.{ℕ, ◌-◌, nat_lt, List, Option, Some, None, is_some, if◌then◌else◌}
+use Rattle.std.specs.Prelude.{ℕ, List, Option, Some, None, is_some, if◌then◌else◌}
 use Rattle.wap_base.specs.declared.key.Key.{Key}
 use Rattle.wap_cardrules.specs.declared.event.Event.TheVariants as event
 use Rattle.wap_world.specs.declared.timer.Timer.{Timer}
@@ -8,11 +8,10 @@ use Rattle.wap_world.specs.declared.timer.Timer.TheVariants.{Running}
 use Rattle.wap_world.specs.World.{World, Place}
 use Rattle.wap_world.specs.Steps.{Scene, Step, still, quiet, followed}
 use Rattle.wap_world.specs.Timers.{end_timer}
-use Rattle.wap_world.specs.Screens.{at_place, here}
+use Rattle.wap_world.specs.Screens.{at_place}
 use Rattle.wap_world.specs.Entering.{event_task}
 use Rattle.wap_world.specs.Keys.{act_or}
-use Rattle.wap_world.specs.scripting.Dialogs.{run_out as expires}
-use Rattle.wap_world.specs.scripting.UnitSites.{Pages, shelf_of}
+use Rattle.wap_world.specs.scripting.UnitSites.{Pages}
 use Rattle.wap_context.specs.Sites.{site_of}
 
 -- what remains of a timer that runs, and of that of a card
@@ -27,19 +26,6 @@ left_at place timer = if is_some place then left_of timer else None
 abbrev pub end_place : Place → World → Scene
 end_place place world = end_timer place.card world
 
-abbrev pub run_out : Pages → List Key → World → Step
-run_out pages keys world = followed (quiet keys (here (shelf_of pages) end_place world))
-    (λ left w.
-    act_or (still w) (site_of pages) left w (event_task (shelf_of pages) event.Timer w))
-
--- ---- in a dialog
-
--- the timer has run out while a script waits
-abbrev pub expire_place : Place → World → Scene
-expire_place place world = expires place world
-
--- some time passes, of what remains
-abbrev pub count_down_at : (time left : ℕ) → Option Place → World → Scene
-count_down_at time left place world =
-    if nat_lt time left then still (record world { timer = Running (left - time) })
-    else at_place expire_place place world
+abbrev pub run_out : Option Place → Pages → List Key → World → Step
+run_out place pages keys world = followed (quiet keys (at_place end_place place world))
+    (λ left w. act_or (still w) (site_of pages) left w (event_task place event.Timer w))

@@ -215,7 +215,7 @@ impl Sight {
         ensures is { IfOk result
             (λ is_drawn. is_drawn ≡ is_some (place_with self.now.deck self.now.world)) }
         ensures lines { OnOk result (lines.new ≡ lines.old
-            ++ option_map_or (screen self.now.world.vars)
+            ++ option_map_or (λ place. screen self.now.world.vars place.deck place.card)
             (place_with self.now.deck self.now.world) []) }
     {
         match place_at_hand(&self.state, &self.deck) {

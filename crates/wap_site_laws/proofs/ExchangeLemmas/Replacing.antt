@@ -505,7 +505,7 @@ module _ {P : Type 0} (language : LanguageOf P) (compiler : P → Unit)
   run_same : (name : List ℕ) (base : Url) (referer : Option Url) (index : ℕ)
       (arguments : List Value)
       (turns : ℕ) (step : Step)
-      → run_unit others name base referer index arguments turns step
+      → run_unit others (unit_under others name) base referer index arguments turns step
       ≡ run_script language pages name base referer index arguments turns step
   run_same name base referer index arguments turns step =
       let limits = step.world.limits in

@@ -1,10 +1,8 @@
 -- A query that postfields go after may stand in a URL still.
-use Rattle.std.proofs.Common.{◌≡◌, ℕ, ◌/◌, ◌%◌, Bool, true, false, List, [], ◌∷◌, ◌++◌, map, refl}
-use Rattle.std.proofs.Common.{ap, ◌∙◌, sym}
+use Rattle.std.proofs.Common.{◌≡◌, ℕ, ◌/◌, ◌%◌, Bool, true, false, List, [], ◌∷◌, refl}
 use Rattle.std.proofs.Common.{Some, None, Option, IfSome, cond, arith, encode_utf8_all}
-use Rattle.std.specs.List.{list_all, flat_map, join_with_byte}
-use Rattle.std.specs.Prelude.{codes}
-use Rattle.std.proofs.lemmas.Bool.{and_parts, and_from, agree_below_at}
+use Rattle.std.specs.List.{list_all, flat_map}
+use Rattle.std.proofs.lemmas.Bool.{and_from, agree_below_at}
 use Rattle.std.specs.Fmt.{digit_glyph}
 use Rattle.percent_encoding.specs.Percent.{percent_encode_byte}
 use Rattle.wap_url.specs.declared.url.Url.{Url}

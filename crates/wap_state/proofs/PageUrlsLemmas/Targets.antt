@@ -1,5 +1,5 @@
 -- What a go or an open comes to from the URL of a page is the URL of a page.
-use Rattle.std.proofs.Common.{◌≡◌, ◌∙◌, ℕ, Bool, true, false, not, List, refl, ap, sym, subst, cond}
+use Rattle.std.proofs.Common.{◌≡◌, ℕ, Bool, true, false, not, List, refl, subst, cond}
 use Rattle.std.proofs.Common.{Some, None, Option, IfSome, IsSome, Result, Ok, Err}
 use Rattle.std.specs.Prelude.{is_none, ◌||◌, unwrap_or, codes}
 use Rattle.std.specs.Option.{option_map_or}

@@ -6,7 +6,7 @@ ghost use Rattle.wap_cardrules.specs.Flow.{flow_of, title_of};
 ghost use Rattle.wap_cardrules.specs.Dos.{do_labels};
 ghost use Rattle.wap_world.specs.declared.screen.TheConstants.{COLUMNS};
 ghost use Rattle.wap_world.specs.Lines.{title_line, do_line};
-ghost use Rattle.wap_state.specs.screen_lines.Screens.{screen_of};
+ghost use Rattle.wap_world.specs.Screens.{screen};
 
 use crate::screen_lines::lines::{do_line, title_line};
 use std::alloc::Global;
@@ -75,7 +75,7 @@ pub fn add_screen(
     vars: &Vars,
     lines: &mut Lines,
 ) -> Result<(), NoMemory>
-    ensures ok { OnOk result (lines.new ≡ lines.old ++ screen_of vars.now deck.now card.now) }
+    ensures ok { OnOk result (lines.new ≡ lines.old ++ screen vars.now deck.now card.now) }
     ensures left { OnErr result (IsPrefix lines.old lines.new) }
 {
     add_title(alloc, card, vars, lines)?;

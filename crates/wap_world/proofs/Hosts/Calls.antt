@@ -174,8 +174,9 @@ module _ (k : Kinship) (pair : Pair k.So) where
     refresh_alike None = inl (refl, kin)
     refresh_alike (Some place) =
         subst (λ (w : World). Alike (refreshed s (Some place))
-        (gives (Str []) (with_lines (screen w.vars place) t))) (same_world k s t kin)
-        (inl (refl, more_kin k s t kin (screen s.world.vars place ++ []) [] []))
+        (gives (Str []) (with_lines (screen w.vars place.deck place.card) t)))
+        (same_world k s t kin)
+        (inl (refl, more_kin k s t kin (screen s.world.vars place.deck place.card ++ []) [] []))
 
     -- the same card is at hand
     now_same : pair.one.now s.world ≡ pair.other.now t.world

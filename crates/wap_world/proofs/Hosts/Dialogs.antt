@@ -13,7 +13,7 @@ use Rattle.wap_execution.specs.laws.Keyed.{answered_in}
 use Rattle.wap_world.specs.declared.timer.Timer.{Timer}
 use Rattle.wap_world.specs.declared.timer.Timer.TheVariants.{Running, Expired}
 use Rattle.wap_world.specs.Shelves.{Shelf}
-use Rattle.wap_world.specs.World.{World, Place, place_now}
+use Rattle.wap_world.specs.World.{Place, place_now}
 use Rattle.wap_world.specs.Steps.{Scene, Step, still}
 use Rattle.wap_world.specs.Screens.{at_place}
 use Rattle.wap_world.specs.Starting.{in_world}
@@ -37,10 +37,9 @@ pub record Dwells (k : Kinship) : Type 0 where
   pub expires : (time : ℕ) (s : Step) → s.world.timer ≡ Running time → k.So s
       → k.So (in_world (record s.world { timer = Expired }) s)
 
-module _ (k : Kinship) (dwells : Dwells k) (shelf shelf' : Shelf)
-    (here : (s : Step) → k.So s → place_now shelf s.world ≡ place_now shelf' s.world) where
-  -- ---- keys that are no answer
+-- ---- keys that are no answer
 
+module _ (k : Kinship) (dwells : Dwells k) (place : Option Place) where
   -- the timer's variable is set
   stores_hold : (name : Option (List ℕ)) (s : Step) → k.So s
       → k.So (in_world (store_under name 0 s.world).world s)
@@ -51,54 +50,46 @@ module _ (k : Kinship) (dwells : Dwells k) (shelf shelf' : Shelf)
   out_holds : (time : ℕ) (o : Option Place) (s : Step) → s.world.timer ≡ Running time → k.So s
       → k.So (in_world (at_place run_out o s.world).world s)
   out_holds time None s is so = so
-  out_holds time (Some place) s is so =
-      stores_hold (option_and_then timer_variable (timer_in place.card))
+  out_holds time (Some one) s is so =
+      stores_hold (option_and_then timer_variable (timer_in one.card))
       (in_world (record s.world { timer = Expired }) s) (dwells.expires time s is so)
 
   -- time passes
   tick_holds : (n : ℕ) (timer : Timer) (s : Step) → s.world.timer ≡ timer → k.So s
-      → k.So (in_world (tick_waiting shelf n timer s.world).world s)
+      → k.So (in_world (tick_waiting place n timer s.world).world s)
   tick_holds n (Running time) s is so = by (ltb n time)
     where
       by : (b : Bool) → k.So (in_world (cond b
           (still (record s.world { timer = Running (time - n) }))
-          (at_place run_out (place_now shelf s.world) s.world)).world s)
+          (at_place run_out place s.world)).world s)
       by true = dwells.counts time (time - n) s is so
-      by false = out_holds time (place_now shelf s.world) s is so
+      by false = out_holds time place s is so
   tick_holds n timer s is so = so
 
   -- any key
   pub meanwhile_holds : (one : Key) (s : Step) → k.So s
-      → k.So (in_world (meanwhile shelf one s.world).world s)
+      → k.So (in_world (meanwhile place one s.world).world s)
   meanwhile_holds (key.Tick n) s so = tick_holds n s.world.timer s refl so
   meanwhile_holds one s so = so
 
-  -- time passes the same
-  tick_same : (n : ℕ) (timer : Timer) (w : World) → place_now shelf w ≡ place_now shelf' w
-      → tick_waiting shelf n timer w ≡ tick_waiting shelf' n timer w
-  tick_same n (Running time) w same =
-      ap (λ (o : Option Place). cond (ltb n time)
-      (still (record w { timer = Running (time - n) })) (at_place run_out o w)) same
-  tick_same n timer w same = refl
+-- ---- two shelves that have the same place
 
-  -- any key does the same
-  meanwhile_same : (one : Key) (w : World) → place_now shelf w ≡ place_now shelf' w
-      → meanwhile shelf one w ≡ meanwhile shelf' one w
-  meanwhile_same (key.Tick n) w same = tick_same n w.timer w same
-  meanwhile_same one w same = refl
-
-  -- and leaves kin steps
+module _ (k : Kinship) (dwells : Dwells k) (shelf shelf' : Shelf)
+    (here : (s : Step) → k.So s → place_now shelf s.world ≡ place_now shelf' s.world) where
+  -- a key that is no answer leaves kin steps
   meanwhile_kin : (one : Key) (s t : Step) → Kin k s t
-      → Kin k (with_scene (meanwhile shelf one s.world) s)
-      (with_scene (meanwhile shelf' one t.world) t)
+      → Kin k (with_scene (meanwhile (place_now shelf s.world) one s.world) s)
+      (with_scene (meanwhile (place_now shelf' t.world) one t.world) t)
   meanwhile_kin one s t kin =
-      let a = meanwhile shelf one s.world in
-      let same : a ≡ meanwhile shelf' one t.world =
-      meanwhile_same one s.world (here s kin.so)
-      ∙ ap (meanwhile shelf' one) (same_world k s t kin) in
+      let place = place_now shelf s.world in
+      let a = meanwhile place one s.world in
+      let same : a ≡ meanwhile (place_now shelf' t.world) one t.world =
+      ap (λ o. meanwhile o one s.world) (here s kin.so)
+      ∙ ap (λ w. meanwhile (place_now shelf' w) one w) (same_world k s t kin) in
       subst (λ (b : Scene). Kin k (with_scene a s) (with_scene b t)) same
       (more_kin k (in_world a.world s) (in_world a.world t)
-      (world_kin k s t kin a.world a.world refl (meanwhile_holds one s kin.so)) a.lines [] [])
+      (world_kin k s t kin a.world a.world refl (meanwhile_holds k dwells place one s kin.so))
+      a.lines [] [])
 
   -- ---- answers
 
@@ -114,8 +105,8 @@ module _ (k : Kinship) (dwells : Dwells k) (shelf shelf' : Shelf)
       → Given (after_reply shelf reply one keys s later)
       (after_reply shelf' reply one keys t later')
   reply_given passes one keys s t later later' laters kin =
-      laters (with_scene (meanwhile shelf one s.world) (before keys s))
-      (with_scene (meanwhile shelf' one t.world) (before keys t))
+      laters (with_scene (meanwhile (place_now shelf s.world) one s.world) (before keys s))
+      (with_scene (meanwhile (place_now shelf' t.world) one t.world) (before keys t))
       (meanwhile_kin one (before keys s) (before keys t) kin)
   reply_given reply one keys s t later later' laters kin = (refl, kin)
 

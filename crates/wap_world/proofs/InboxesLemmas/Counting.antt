@@ -5,7 +5,7 @@ use Rattle.wap_base.specs.declared.key.Key.{Key}
 use Rattle.wap_push.specs.declared.indication.Indication.{Indication}
 use Rattle.wap_push.specs.declared.fault.PushFault.{PushFault}
 use Rattle.wap_world.specs.Sites.{Site}
-use Rattle.wap_world.specs.World.{World}
+use Rattle.wap_world.specs.World.{World, place_now}
 use Rattle.wap_world.specs.Steps.{Step, then_step, still, quiet}
 use Rattle.wap_world.specs.Keys.{renewed, react}
 use Rattle.wap_world.proofs.Joining.{joined_assoc}
@@ -32,7 +32,8 @@ module _ (read : List ℕ → Result Indication PushFault) (site : Site) where
   module _ (falls : MakesNoKeys site) where
     -- lines leave the keys after them, and a key that is played makes none
     few_by : (found : Pressed) (keys : List Key) (world : World)
-        → length (play_pressed site keys (renewed world) found).keys ≤ length keys
+        → length (play_pressed site (place_now site.shelf world) keys (renewed world) found).keys
+        ≤ length keys
     unfolding react
     few_by (shows lines) keys world = omega arith
     few_by (plays one) keys world = keys_fall site falls one keys world

@@ -9,7 +9,7 @@ use Rattle.wap_push.specs.declared.fault.PushFault.{PushFault}
 use Rattle.wap_world.specs.site.Pages.{Pages}
 use Rattle.wap_world.specs.Decks.{decks_site}
 use Rattle.wap_world.specs.Sites.{Site}
-use Rattle.wap_world.specs.World.{World}
+use Rattle.wap_world.specs.World.{World, place_now}
 use Rattle.wap_world.specs.Steps.{Step}
 use Rattle.wap_world.specs.Keys.{renewed, react}
 use Rattle.wap_world.proofs.Joining.{before}
@@ -30,8 +30,8 @@ module _ (read : List ℕ → Result Indication PushFault) (pages : Pages) where
 
   -- a key sees none of the keys after it, and leaves them
   leaves_by : (found : Pressed) (keys : List Key) (world : World)
-      → play_pressed site keys (renewed world) found
-      ≡ before keys (play_pressed site [] (renewed world) found)
+      → play_pressed site (place_now site.shelf world) keys (renewed world) found
+      ≡ before keys (play_pressed site (place_now site.shelf world) [] (renewed world) found)
   unfolding react
   leaves_by (shows lines) keys world = refl
   leaves_by (plays one) keys world = leaves_keys pages one keys world

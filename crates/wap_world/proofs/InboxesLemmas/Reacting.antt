@@ -7,7 +7,7 @@ use Rattle.wap_base.specs.declared.key.Key.TheVariants as key
 use Rattle.wap_push.specs.declared.indication.Indication.{Indication}
 use Rattle.wap_push.specs.declared.fault.PushFault.{PushFault}
 use Rattle.wap_world.specs.Sites.{Site}
-use Rattle.wap_world.specs.World.{World}
+use Rattle.wap_world.specs.World.{World, place_now}
 use Rattle.wap_world.specs.Steps.{quiet}
 use Rattle.wap_world.specs.Keys.{ignored, renewed, react}
 use Rattle.wap_world.specs.inboxes.Notices.{no_push_line, notice_lines}
@@ -57,7 +57,8 @@ module _ (read : List ℕ → Result Indication PushFault) (site : Site) where
   unfolding react
   entry_opened keys phone n url is =
       ap (λ (found : Option (List ℕ)).
-      taking_none phone (play_pressed site keys (renewed phone.world) (opening found))) is
+      taking_none phone (play_pressed site (place_now site.shelf phone.world) keys
+      (renewed phone.world) (opening found))) is
 
   -- and one that has none, or isn't there
   pub entry_ignored : (keys : List Key) (phone : Phone) (n : ℕ)
@@ -66,7 +67,8 @@ module _ (read : List ℕ → Result Indication PushFault) (site : Site) where
       ≡ taking_none phone (quiet keys (ignored (renewed phone.world)))
   entry_ignored keys phone n is =
       ap (λ (found : Option (List ℕ)).
-      taking_none phone (play_pressed site keys (renewed phone.world) (opening found))) is
+      taking_none phone (play_pressed site (place_now site.shelf phone.world) keys
+      (renewed phone.world) (opening found))) is
 
   -- no entry has a number in an empty inbox
   none_at : (n : ℕ) → url_at [] n ≡ None

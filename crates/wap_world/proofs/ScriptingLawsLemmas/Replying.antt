@@ -9,7 +9,7 @@ use Rattle.wap_execution.specs.Running.{resumed}
 use Rattle.wap_execution.specs.laws.Settings.{uncounted}
 use Rattle.wap_execution.specs.laws.Keyed.{gone_on}
 use Rattle.wap_world.specs.Shelves.{Shelf}
-use Rattle.wap_world.specs.World.{World}
+use Rattle.wap_world.specs.World.{World, Place, place_now}
 use Rattle.wap_world.specs.Steps.{Step, Once, then_step, quiet, still}
 use Rattle.wap_world.specs.Sites.{Call, failed}
 use Rattle.wap_world.specs.Starting.{ended_script}
@@ -24,7 +24,7 @@ use Rattle.wap_world.proofs.Joining.{once_before, joined_nothing, onward_after}
 use Rattle.wap_world.specs.scripting.Halves.{half_of, once_of}
 use Rattle.wap_world.proofs.Hosts.Kin.{Kinship, staying}
 use Rattle.wap_world.proofs.Hosts.Dialogs.{Dwells, meanwhile_holds}
-use Rattle.wap_world.proofs.ScriptingLawsLemmas.Runs.{no_turn_holds, keys_fatal, answered_front}
+use Rattle.wap_world.proofs.ScriptingLawsLemmas.Runs.{no_turn_holds, keys_ended, answered_front}
 use Rattle.wap_world.proofs.ScriptingLawsLemmas.Runs.{gone_alike, ran_front, resumes}
 
 -- ---- meanwhile no turn is taken
@@ -43,10 +43,10 @@ no_turn_dwells = record {
 }
 
 -- nor is one after a key that is no answer
-meanwhile_turns : (shelf : Shelf) (one : Key) (w : World) → w.turns ≡ 0
-    → (meanwhile shelf one w).world.turns ≡ 0
-meanwhile_turns shelf one w none =
-    meanwhile_holds no_turn no_turn_dwells shelf shelf (λ u so. refl) one (quiet [] (still w)) none
+meanwhile_turns : (place : Option Place) (one : Key) (w : World) → w.turns ≡ 0
+    → (meanwhile place one w).world.turns ≡ 0
+meanwhile_turns place one w none =
+    meanwhile_holds no_turn no_turn_dwells place one (quiet [] (still w)) none
 
 module _ (call : List ℕ → Option Call) (pages : Pages) (one : Waits) (w : World) where
   -- the shelf of the pages
@@ -106,18 +106,18 @@ module _ (call : List ℕ → Option Call) (pages : Pages) (one : Waits) (w : Wo
   stop_means one_key is keys =
       by_reply one_key ends_it is keys
       ∙ ap (onward (act (units_site call pages)))
-      (keys_fatal shelf one.base Stopped w.turns keys (quiet [] (still (inside w))))
+      (keys_ended shelf one.base (failed Stopped) w.turns keys (quiet [] (still (inside w))))
 
   -- the dialog stays
   pub stay_means : (one_key : Key) → reply_to one.dialog one_key ≡ passes
-      → let scene = meanwhile shelf one_key (inside w) in
+      → let scene = meanwhile (place_now shelf w) one_key (inside w) in
       Means call pages (record {
         step = quiet [] (record scene { world = record scene.world { turns = w.turns } });
         waiting = Some one;
       }) (λ keys. resumed_step call pages one (one_key ∷ keys) w)
   unfolding resumed_step
   stay_means one_key is keys =
-      let scene = meanwhile shelf one_key (inside w) in
+      let scene = meanwhile (place_now shelf w) one_key (inside w) in
       let p = quiet [] scene in
       let s = quiet keys (still scene.world) in
       let got = answered_by shelf one.dialog keys s in
@@ -132,4 +132,4 @@ module _ (call : List ℕ → Option Call) (pages : Pages) (one : Waits) (w : Wo
       ∙ ap (λ (v : World). then_step p
       (on (ended (go (answered_by shelf one.dialog keys (quiet keys (still v)))))))
       (ap (λ (t : ℕ). record scene.world { turns = t })
-      (meanwhile_turns shelf one_key (inside w) refl))
+      (meanwhile_turns (place_now shelf w) one_key (inside w) refl))

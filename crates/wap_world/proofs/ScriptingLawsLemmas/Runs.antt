@@ -7,11 +7,10 @@ use Rattle.wap_url.specs.declared.url.Url.{Url}
 use Rattle.wap_value.specs.declared.value.Value.{Value}
 use Rattle.wap_cardrules.specs.declared.task.Task.{Task}
 use Rattle.wap_execution.specs.declared.dialog.Dialog.{Dialog}
-use Rattle.wap_execution.specs.declared.fatal.Fatal.{Fatal}
 use Rattle.wap_execution.specs.declared.library.HostOut.{HostOut}
 use Rattle.wap_execution.specs.declared.library.HostOut.TheVariants as out
 use Rattle.wap_execution.specs.Frames.{Frame}
-use Rattle.wap_execution.specs.Outcomes.{Outcome, fatal, waits, Ended}
+use Rattle.wap_execution.specs.Outcomes.{Outcome, waits, Ended}
 use Rattle.wap_execution.specs.Running.{ended, resumed, finished}
 use Rattle.wap_execution.specs.laws.Settings.{uncounted}
 use Rattle.wap_execution.specs.laws.Keyed.{gone_on, unrolled}
@@ -22,16 +21,17 @@ use Rattle.wap_execution.proofs.LawsLemmas.SimLaws as sim_laws
 use Rattle.wap_world.specs.declared.timer.Timer.{Timer}
 use Rattle.wap_world.specs.declared.timer.Timer.TheVariants.{Expired}
 use Rattle.wap_world.specs.Shelves.{Shelf}
-use Rattle.wap_world.specs.World.{World}
+use Rattle.wap_world.specs.World.{World, Place, place_now}
 use Rattle.wap_world.specs.Steps.{Scene, Step, Once, then_step, after_step, still, quiet, settled}
 use Rattle.wap_world.specs.Sites.{End, done, failed, unanswered}
-use Rattle.wap_world.specs.Starting.{script_line, in_world, or_show, rest, end_done, ended_script}
+use Rattle.wap_world.specs.Entering.{or_show}
+use Rattle.wap_world.specs.Starting.{script_line, in_world, rest, end_done, end_by, ended_script}
 use Rattle.wap_world.specs.scripting.Dialogs.{answered_by, by_keys}
 use Rattle.wap_world.specs.scripting.UnitSites.{Pages, shelf_of, host_of, keyed_host, end_of}
 use Rattle.wap_world.specs.scripting.UnitSites.{ran_of}
 use Rattle.wap_world.specs.scripting.Views.{NoStep}
 use Rattle.wap_world.specs.scripting.Waiting.{inside}
-use Rattle.wap_world.specs.scripting.Halves.{half_by, half_of, once_of, GoesOnWithKeys}
+use Rattle.wap_world.specs.scripting.Halves.{half_of, once_of, GoesOnWithKeys}
 use Rattle.wap_world.proofs.Joining.{before, once_before, or_true, after_assoc, joined_nothing}
 use Rattle.wap_world.proofs.Hosts.Kin.{Kinship, Kin, Holds, after, turns_changed}
 use Rattle.wap_world.proofs.Hosts.Calls.{itself}
@@ -79,75 +79,78 @@ front_alike pages p =
 -- ---- how scripts end: other keys
 
 -- a task that is next, before other keys
-keys_or_show : (shelf : Shelf) (some other : List Key) (task : Option Task) (w : World)
-    → or_show shelf other task w ≡ once_before other (or_show shelf some task w)
-keys_or_show shelf some other None w = refl
-keys_or_show shelf some other (Some task) w = refl
+keys_or_show : (place : Option Place) (some other : List Key) (task : Option Task) (w : World)
+    → or_show place other task w ≡ once_before other (or_show place some task w)
+keys_or_show place some other None w = refl
+keys_or_show place some other (Some task) w = refl
 
 -- the end without a navigation, before other keys
-keys_rest : (shelf : Shelf) (some other : List Key) (timer : Timer) (w : World)
-    → rest shelf other timer w ≡ once_before other (rest shelf some timer w)
-keys_rest shelf some other Expired w = keys_or_show shelf some other _ _
-keys_rest shelf some other timer w = refl
+keys_rest : (place : Option Place) (some other : List Key) (timer : Timer) (w : World)
+    → rest place other timer w ≡ once_before other (rest place some timer w)
+keys_rest place some other Expired w = keys_or_show place some other _ _
+keys_rest place some other timer w = refl
 
 -- the end of a script that is done, before other keys
-keys_done : (shelf : Shelf) (base : Url) (pending : Option Task) (other : List Key) (step : Step)
-    → end_done shelf base pending (before other step)
-    ≡ once_before other (end_done shelf base pending step)
-keys_done shelf base None other step =
-    ap (after_step step) (keys_rest shelf step.keys other step.world.timer step.world)
-keys_done shelf base (Some task) other step = refl
-
--- of one that gave a value
-keys_value : (shelf : Shelf) (base : Url) (turns : ℕ) (other : List Key) (step : Step)
-    → ended_script shelf base (record { end = done; turns = turns; step = before other step })
-    ≡ once_before other (ended_script shelf base
-    (record { end = done; turns = turns; step = step }))
-keys_value shelf base turns other step =
-    keys_done shelf base step.world.pending other
-    (in_world (record step.world { turns = turns }) step)
-
--- of one that failed
-pub keys_fatal : (shelf : Shelf) (base : Url) (why : Fatal) (turns : ℕ) (other : List Key)
+keys_done : (place : Option Place) (base : Url) (pending : Option Task) (other : List Key)
     (step : Step)
-    → ended_script shelf base (record { end = failed why; turns = turns; step = before other step })
-    ≡ once_before other
-    (ended_script shelf base (record { end = failed why; turns = turns; step = step }))
-keys_fatal shelf base why turns other step =
-    let world = record step.world { turns = turns; pending = None } in
+    → end_done place base pending (before other step)
+    ≡ once_before other (end_done place base pending step)
+keys_done place base None other step =
+    ap (after_step step) (keys_rest place step.keys other step.world.timer step.world)
+keys_done place base (Some task) other step = refl
+
+-- any end
+pub keys_end : (place : Option Place) (base : Url) (end : End) (other : List Key) (step : Step)
+    → end_by place base end (before other step) ≡ once_before other (end_by place base end step)
+keys_end place base done other step = keys_done place base step.world.pending other step
+keys_end place base (failed why) other step =
+    let world = record step.world { pending = None } in
     ap (after_step (record step { world = world; lines = step.lines ++ script_line why ∷ [] }))
-    (keys_rest shelf step.keys other world.timer world)
+    (keys_rest place step.keys other world.timer world)
+keys_end place base unanswered other step = refl
+
+pub keys_ended : (shelf : Shelf) (base : Url) (end : End) (turns : ℕ) (other : List Key)
+    (step : Step)
+    → ended_script shelf base (record { end = end; turns = turns; step = before other step })
+    ≡ once_before other
+    (ended_script shelf base (record { end = end; turns = turns; step = step }))
+keys_ended shelf base end turns other step =
+    let world = record step.world { turns = turns } in
+    keys_end (place_now shelf world) base end other (in_world world step)
 
 -- ---- what stands before
 
 -- the end of a script that is done, behind a step
-front_done : (p : Step) (shelf : Shelf) (base : Url) (pending : Option Task) (step : Step)
-    → end_done shelf base pending (then_step p step)
-    ≡ after_step p (end_done shelf base pending step)
-front_done p shelf base None step =
-    after_assoc p step (rest shelf step.keys step.world.timer step.world)
-front_done p shelf base (Some task) step = refl
+front_done : (p : Step) (place : Option Place) (base : Url) (pending : Option Task) (step : Step)
+    → end_done place base pending (then_step p step)
+    ≡ after_step p (end_done place base pending step)
+front_done p place base None step =
+    after_assoc p step (rest place step.keys step.world.timer step.world)
+front_done p place base (Some task) step = refl
 
 -- any end behind a step
-front_ended : (p : Step) (shelf : Shelf) (base : Url) (end : End) (turns : ℕ) (step : Step)
-    → ended_script shelf base (record { end = end; turns = turns; step = then_step p step })
-    ≡ after_step p
-    (ended_script shelf base (record { end = end; turns = turns; step = step }))
-front_ended p shelf base done turns step =
-    front_done p shelf base step.world.pending (in_world (record step.world { turns = turns }) step)
-front_ended p shelf base (failed why) turns step =
-    let world = record step.world { turns = turns; pending = None } in
+pub front_end : (p : Step) (place : Option Place) (base : Url) (end : End) (step : Step)
+    → end_by place base end (then_step p step) ≡ after_step p (end_by place base end step)
+front_end p place base done step = front_done p place base step.world.pending step
+front_end p place base (failed why) step =
+    let world = record step.world { pending = None } in
     let late = in_world world step in
-    let last = rest shelf step.keys world.timer world in
+    let last = rest place step.keys world.timer world in
     ap (λ s. after_step s last)
     (λ i. record (then_step p late) {
       lines = append_assoc p.lines step.lines (script_line why ∷ []) i;
     })
     ∙ after_assoc p (record late { lines = step.lines ++ script_line why ∷ [] }) last
-front_ended p shelf base unanswered turns step =
-    ap (λ b. settled (record (then_step p (in_world (record step.world { turns = turns }) step)) {
-      is_open = b;
-    })) (sym (or_true p.is_open))
+front_end p place base unanswered step =
+    ap (λ b. settled (record (then_step p step) { is_open = b })) (sym (or_true p.is_open))
+
+front_ended : (p : Step) (shelf : Shelf) (base : Url) (end : End) (turns : ℕ) (step : Step)
+    → ended_script shelf base (record { end = end; turns = turns; step = then_step p step })
+    ≡ after_step p
+    (ended_script shelf base (record { end = end; turns = turns; step = step }))
+front_ended p shelf base end turns step =
+    let world = record step.world { turns = turns } in
+    front_end p (place_now shelf world) base end (in_world world step)
 
 module _ (pages : Pages) (base : Url) (limits : Limits) where
   -- the shelf of the pages
@@ -193,7 +196,7 @@ module _ (pages : Pages) (base : Url) (limits : Limits) where
       → let got = by_keys shelf (before keys step) dialog in
       ended_script shelf base
       (ran_of (gone_on (uncounted limits (keyed_host pages)) (λ end. end) frames got.0 turns got.1))
-      ≡ once_of pages (half_by limits shelf base (waits dialog frames) turns step) keys
+      ≡ once_of pages (half_of limits shelf base (ended (waits dialog frames) turns step)) keys
   waiting_goes_on dialog frames turns step keys none =
       let p = in_world (record step.world { turns = turns }) step in
       let w : World = inside p.world in
@@ -224,11 +227,11 @@ module _ (pages : Pages) (base : Url) (limits : Limits) where
   goes_on_by : (outcome : Outcome) (turns : ℕ) (step : Step) (keys : List Key)
       → step.world.turns ≡ 0
       → unrolls (ended outcome turns (before keys step))
-      ≡ once_of pages (half_by limits shelf base outcome turns step) keys
-  goes_on_by (fatal why) turns step keys none = keys_fatal shelf base why turns keys step
+      ≡ once_of pages (half_of limits shelf base (ended outcome turns step)) keys
   goes_on_by (waits dialog frames) turns step keys none =
       waiting_goes_on dialog frames turns step keys none
-  goes_on_by outcome turns step keys none = keys_value shelf base turns keys step
+  goes_on_by outcome turns step keys none =
+      keys_ended shelf base (end_of outcome) turns keys step
 
   -- the run without keys tells what the run with keys comes to
   goes_on : (keys : List Key) (end end' : Ended Step)

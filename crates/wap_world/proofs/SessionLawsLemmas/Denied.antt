@@ -2,7 +2,6 @@
 use Rattle.std.proofs.Common.{◌≡◌, ℕ, suc, Bool, false, List, [], ◌∷◌, Option, Some, None, ap, ◌∙◌}
 use Rattle.wap_world.specs.Shelves.{deck_page}
 use Rattle.std.specs.Prelude.{Ok, if◌then◌else◌}
-use Rattle.std.specs.Option.{option_map, option_map_or}
 use Rattle.wap_base.specs.declared.key.Key.{Key}
 use Rattle.wap_url.specs.declared.url.Url.{Url}
 use Rattle.wap_url.specs.Printing.{name_for}
@@ -12,19 +11,19 @@ use Rattle.wap_cardrules.specs.declared.task.Task.TheVariants as task
 use Rattle.wap_world.specs.declared.refusal.Refusal.TheVariants as refusals
 use Rattle.wap_world.specs.Sites.{Site}
 use Rattle.wap_world.specs.World.{World, Place, place_now}
-use Rattle.wap_world.specs.Steps.{Step, Once, settled, then_task}
+use Rattle.wap_world.specs.Steps.{Step, settled, then_task}
 use Rattle.wap_world.specs.Screens.{refuse}
 use Rattle.wap_world.specs.Access.{may_enter, entrance_of}
 use Rattle.wap_world.specs.Urls.{target_of}
 use Rattle.wap_world.specs.Requests.{Request, request_of, request_line, answer_to}
-use Rattle.wap_world.specs.Tasks.{is_here, here_with, arrive, request, stay_or_ask, with_url}
-use Rattle.wap_world.specs.Tasks.{go, base_now, with_turn, task_once, onward, act_in, act}
+use Rattle.wap_world.specs.Tasks.{is_here, here_with, arrive, request, stay_or_ask, unless_refused}
+use Rattle.wap_world.specs.Tasks.{go, with_turn, task_by, task_once, onward, act_in, act}
 use Rattle.wap_world.proofs.Laws.{denies}
 
 -- a request's line, name and test, and then the refusal
-abbrev refusal_step : Site → List Key → Option Url → Request → World → Step
-refusal_step site keys caller one world =
-    let again = refuse site.shelf refusals.Denied world in record {
+abbrev refusal_step : Option Place → List Key → Option Url → Request → World → Step
+refusal_step place keys caller one world =
+    let again = refuse place refusals.Denied world in record {
       world = again.world;
       keys = keys;
       lines = request_line one ∷ again.lines;
@@ -42,25 +41,23 @@ pub denies_go : (site : Site) (keys : List Key) (one : Go) (world : World) (plac
     → target_of caller one.href ≡ Ok url → is_here asked place ≡ false
     → answer_to site.shelf asked ≡ deck_page deck
     → may_enter asked.url (entrance_of deck) caller ≡ false
-    → act site keys world (then_task (task.Go one)) ≡ refusal_step site keys caller asked spent
+    → act site keys world (then_task (task.Go one))
+    ≡ refusal_step (Some place) keys caller asked spent
 unfolding act
 denies_go site keys one world place url deck turns some here target elsewhere found no_entry =
     let caller = Some place.url in
     let asked = request_of caller one url in
     let spent = record world { turns = turns } in
-    let with_request : Url → Option Place → Once =
-    λ u now. stay_or_ask site keys one.sets caller (request_of caller one u) spent now in
+    let now = Some place in
     let once : task_once site keys world (then_task (task.Go one))
-    ≡ settled (refusal_step site keys caller asked spent) =
-    ap (λ n.
-    with_turn site.shelf keys world n (λ w. go site keys (base_now site.shelf w None) one w)) some
-    ∙ ap (λ now. go site keys
-    (option_map_or Some (option_map (λ (p : Place). p.url) now) None) one spent) here
-    ∙ ap (with_url site.shelf keys spent (λ u. with_request u (place_now site.shelf spent))) target
-    ∙ ap (with_request url) here
+    ≡ settled (refusal_step now keys caller asked spent) =
+    ap (λ o. task_by site o keys world None (task.Go one)) here
+    ∙ ap (λ n. with_turn now keys world n (go site now keys caller one)) some
+    ∙ ap (unless_refused now keys spent
+    (λ u. stay_or_ask site now keys one.sets caller (request_of caller one u) spent)) target
     ∙ ap (λ (b : Bool). if b
-    then arrive site.shelf keys one.sets (here_with place asked.url) spent place.deck
-    else request site keys one.sets caller asked spent) elsewhere
-    ∙ denies site keys one.sets caller asked spent deck found no_entry in
+    then arrive now keys one.sets (here_with place asked.url) spent place.deck
+    else request site now keys one.sets caller asked spent) elsewhere
+    ∙ denies site now keys one.sets caller asked spent deck found no_entry in
     ap (λ n. act_in n site keys world (then_task (task.Go one))) some
     ∙ ap (onward (act_in turns site)) once

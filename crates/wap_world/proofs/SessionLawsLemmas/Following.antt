@@ -9,9 +9,9 @@ use Rattle.wap_cardrules.specs.declared.task.Task.TheVariants as task
 use Rattle.wap_world.specs.site.Pages.{Pages}
 use Rattle.wap_world.specs.Sites.{Site}
 use Rattle.wap_world.specs.Decks.{decks_site}
-use Rattle.wap_world.specs.World.{World}
+use Rattle.wap_world.specs.World.{World, Place, place_now}
 use Rattle.wap_world.specs.Steps.{Step, Once, Next, then_step}
-use Rattle.wap_world.specs.Tasks.{go, prev, base_now, with_turn, open_url, task_by, task_once}
+use Rattle.wap_world.specs.Tasks.{go, prev, base_url, with_turn, open_by, task_by, task_once}
 use Rattle.wap_world.specs.Tasks.{go_on, onward, act_in, act, visit}
 use Rattle.wap_world.specs.Keys.{react}
 use Rattle.wap_world.proofs.Laws.{go_falls, prev_falls, leaves_keys}
@@ -28,28 +28,31 @@ any_next None Fact fact = tt
 any_next (Some x) Fact fact = fact
 
 module _ (site : Site) (falls : GivesNoTurns site) where
-  turn_spent : (keys : List Key) (world : World) (turns : ℕ) (next : World → Once)
-      → world.turns ≡ turns → ((w : World) → (next w).step.world.turns ≤ w.turns)
-      → Spends world (with_turn site.shelf keys world turns next)
-  turn_spent keys world zero next is fall = tt
-  turn_spent keys world (suc turns) next is fall =
+  turn_spent : (keys : List Key) (place : Option Place) (world : World) (turns : ℕ)
+      (next : World → Once) → place_now site.shelf world ≡ place → world.turns ≡ turns
+      → ((w : World) → place_now site.shelf w ≡ place → (next w).step.world.turns ≤ w.turns)
+      → Spends world (with_turn place keys world turns next)
+  turn_spent keys place world zero next here is fall = tt
+  turn_spent keys place world (suc turns) next here is fall =
       let spent = record world { turns = turns } in
       any_next (next spent).next ((next spent).step.world.turns < world.turns)
-      (omega (is, fall spent, arith))
+      (omega (is, fall spent here, arith))
 
-  by_spends : (keys : List Key) (world : World) (from : Option Url) (one : Task)
-      → Spends world (task_by site keys world from one)
-  by_spends keys world from (task.Go one) =
-      turn_spent keys world world.turns (λ w. go site keys (base_now site.shelf w from) one w) refl
-      (λ w. go_falls site falls keys (base_now site.shelf w from) one w)
-  by_spends keys world from (task.Prev sets) =
-      turn_spent keys world world.turns (prev site.shelf keys sets) refl
-      (prev_falls site falls keys sets)
-  by_spends keys world from (task.Refresh sets) = tt
+  by_spends : (keys : List Key) (place : Option Place) (world : World) (from : Option Url)
+      (one : Task) → place_now site.shelf world ≡ place
+      → Spends world (task_by site place keys world from one)
+  by_spends keys place world from (task.Go one) here =
+      turn_spent keys place world world.turns (go site place keys (base_url place from) one) here
+      refl (go_falls site falls keys place (base_url place from) one)
+  by_spends keys place world from (task.Prev sets) here =
+      turn_spent keys place world world.turns (prev site.shelf place keys sets) here refl
+      (prev_falls site falls keys place sets)
+  by_spends keys place world from (task.Refresh sets) here = tt
 
   pub task_spends : (keys : List Key) (world : World) (next : Next)
       → Spends world (task_once site keys world next)
-  task_spends keys world next = by_spends keys world next.from next.task
+  task_spends keys world next =
+      by_spends keys (place_now site.shelf world) world next.from next.task refl
 
 -- ---- all that a task leads to
 
@@ -126,11 +129,11 @@ module _ (site : Site) (falls : GivesNoTurns site) where
       (λ next spends.
       enough world.turns once.step.keys once.step.world next (omega (spends, arith))))
 
-pub visit_goes_on : (site : Site) (keys : List Key) (world : World) (text : List ℕ)
-    → visit site keys world text
-    ≡ onward (act site) (with_turn site.shelf keys world world.turns (open_url site keys text))
+pub visit_goes_on : (site : Site) (place : Option Place) (keys : List Key) (world : World)
+    (text : List ℕ)
+    → visit site place keys world text ≡ onward (act site) (open_by site place keys text world)
 unfolding visit
-visit_goes_on site keys world text = refl
+visit_goes_on site place keys world text = refl
 
 -- ---- keys
 

@@ -72,9 +72,9 @@ pub ignores_type : (site : Site) (keys : List Key) (world : World) (place : Plac
 unfolding react
 ignores_type site keys world place n text here none =
     ap
-    (at_card keys (renewed world) (λ p. quiet keys (type_text site.shelf n text p (renewed world))))
+    (at_card keys (renewed world) (λ p. quiet keys (type_text n text p (renewed world))))
     here
-    ∙ ap (λ o. quiet keys (after_text site.shelf (record (renewed world) {
+    ∙ ap (λ o. quiet keys (after_text (Some place) (record (renewed world) {
       vars = (enter_in world.vars text o).vars;
     }) (enter_in world.vars text o).answer)) none
 
@@ -91,7 +91,7 @@ pub ignores_option : (site : Site) (keys : List Key) (world : World) (place : Pl
 unfolding react
 ignores_option site keys world place n m here none =
     ap (at_card keys (renewed world) (λ p. choose_option site keys n m p (renewed world))) here
-    ∙ ap (λ (made : OptionChosen). after_choice site keys (record (renewed world) {
+    ∙ ap (λ (made : OptionChosen). after_choice site keys (Some place) (record (renewed world) {
       vars = made.vars;
     }) made.answer) (chooses_none world.vars m (field_with tags.Select place.card n) none)
 

@@ -9,7 +9,7 @@ use Rattle.wap_push.specs.declared.indication.Indication.{Indication}
 use Rattle.wap_push.specs.declared.fault.PushFault.{PushFault}
 use Rattle.wap_push.specs.Inbox.{entry_at}
 use Rattle.wap_world.specs.Sites.{Site}
-use Rattle.wap_world.specs.World.{World}
+use Rattle.wap_world.specs.World.{World, Place, place_now}
 use Rattle.wap_world.specs.Steps.{Step, quiet}
 use Rattle.wap_world.specs.declared.refusal.Refusal.TheVariants.{Ignored}
 use Rattle.wap_world.specs.Lines.{refusal_line}
@@ -70,10 +70,10 @@ abbrev pub opening : Option (List ℕ) → Pressed
 opening None = shows (refusal_line Ignored ∷ [])
 opening (Some url) = plays (key.Open url)
 
--- what that comes to
-abbrev pub play_pressed : Site → List Key → World → Pressed → Step
-play_pressed site keys world (shows lines) = telling keys world lines
-play_pressed site keys world (plays one) = apply site keys world one
+-- what that comes to at a place
+abbrev pub play_pressed : Site → Option Place → List Key → World → Pressed → Step
+play_pressed site place keys world (shows lines) = telling keys world lines
+play_pressed site place keys world (plays one) = apply site place keys world one
 
 -- what is pushed is read like this
 module _ (read : List ℕ → Result Indication PushFault) where
@@ -92,6 +92,7 @@ module _ (read : List ℕ → Result Indication PushFault) where
   -- a key, before keys that are left; each has its turns
   abbrev pub react_with : Site → Key → List Key → Phone → Stepped
   react_with site one keys phone = record {
-    step = play_pressed site keys (renewed phone.world) (pressed phone.pushes one);
+    step = play_pressed site (place_now site.shelf phone.world) keys (renewed phone.world)
+        (pressed phone.pushes one);
     pushes = pushes_after phone.pushes one;
   }

@@ -89,7 +89,8 @@ current_card base step (Some place) = gives (Str (card_reference base step.world
 -- the screen alone, without defaults and timer
 abbrev pub refreshed : Step → Option Place → HostOut × Step
 refreshed step None = gives Invalid step
-refreshed step (Some place) = gives (Str []) (with_lines (screen step.world.vars place) step)
+refreshed step (Some place) =
+    gives (Str []) (with_lines (screen step.world.vars place.deck place.card) step)
 
 -- WAP-194, "getVar"
 abbrev pub browser_get_var : Value → Step → HostOut × Step

@@ -1,7 +1,7 @@
 -- Dialogs and the keys in them (WAP-194, "Dialogs Library"). The lines, the keys, and that time
 -- passes in a dialog, are this project's own.
 use Rattle.std.specs.Prelude.{ℕ, ◌-◌, nat_lt, if◌then◌else◌, true, false, List, [], ◌∷◌, ◌++◌, map}
-use Rattle.std.specs.Prelude.{codes}
+use Rattle.std.specs.Prelude.{codes, Option}
 use Rattle.wap_base.specs.declared.key.Key.{Key}
 use Rattle.wap_base.specs.declared.key.Key.TheVariants as key
 use Rattle.wap_value.specs.declared.value.Value.{Value}
@@ -14,11 +14,11 @@ use Rattle.wap_execution.specs.declared.library.HostOut.TheVariants as out
 use Rattle.wap_world.specs.declared.timer.Timer.{Timer}
 use Rattle.wap_world.specs.declared.timer.Timer.TheVariants.{Running, Expired}
 use Rattle.wap_world.specs.Shelves.{Shelf}
-use Rattle.wap_world.specs.World.{World, Place}
+use Rattle.wap_world.specs.World.{World, Place, place_now}
 use Rattle.wap_world.specs.Lines.{variable_line}
 use Rattle.wap_world.specs.Steps.{Scene, Step, still}
 use Rattle.wap_world.specs.Timers.{store_time}
-use Rattle.wap_world.specs.Screens.{here}
+use Rattle.wap_world.specs.Screens.{at_place}
 use Rattle.wap_world.specs.Keys.{ignored}
 use Rattle.wap_world.specs.scripting.Additions.{with_scene}
 
@@ -68,18 +68,18 @@ abbrev pub run_out : Place → World → Scene
 run_out place world = store_time place.card 0 (record world { timer = Expired })
 
 -- some time passes in a dialog: less than remains, or all
-abbrev pub tick_waiting : Shelf → ℕ → Timer → World → Scene
-tick_waiting shelf n (Running time) world =
+abbrev pub tick_waiting : Option Place → ℕ → Timer → World → Scene
+tick_waiting place n (Running time) world =
     if nat_lt n time then still (record world { timer = Running (time - n) })
-    else here shelf run_out world
-tick_waiting shelf n other world = ignored world
+    else at_place run_out place world
+tick_waiting place n other world = ignored world
 
 -- what a key does that is no answer; the dialog stays open
-abbrev pub meanwhile : Shelf → Key → World → Scene
-meanwhile shelf (key.Tick n) world = tick_waiting shelf n world.timer world
-meanwhile shelf key.Vars world =
+abbrev pub meanwhile : Option Place → Key → World → Scene
+meanwhile place (key.Tick n) world = tick_waiting place n world.timer world
+meanwhile place key.Vars world =
     record { world = world; lines = map variable_line world.vars }
-meanwhile shelf other world = ignored world
+meanwhile place other world = ignored world
 
 -- ---- answers
 
@@ -90,7 +90,8 @@ after_reply shelf (answers v) one keys step later = (out.Value v, record step { 
 after_reply shelf ends_it one keys step later =
     (out.Fatal Stopped, record step { keys = keys })
 after_reply shelf passes one keys step later =
-    later (with_scene (meanwhile shelf one step.world) (record step { keys = keys }))
+    later (with_scene (meanwhile (place_now shelf step.world) one step.world)
+    (record step { keys = keys }))
 
 -- the keys that are left answer a dialog; where they end, it stays open
 abbrev pub answered_by : Shelf → Dialog → List Key → Step → HostOut × Step

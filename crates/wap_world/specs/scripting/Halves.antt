@@ -6,14 +6,15 @@ use Rattle.wap_base.specs.declared.key.Key.{Key}
 use Rattle.wap_url.specs.declared.url.Url.{Url}
 use Rattle.wap_value.specs.declared.value.Value.{Value}
 use Rattle.wap_execution.specs.Frames.{Frame}
-use Rattle.wap_execution.specs.Outcomes.{Outcome, value, exit, fatal, waits, stuck, Ended}
-use Rattle.wap_execution.specs.Running.{ended, resumed, finished}
+use Rattle.wap_execution.specs.Outcomes.{Outcome, waits, Ended}
+use Rattle.wap_execution.specs.Running.{resumed, finished}
 use Rattle.wap_execution.specs.laws.Settings.{uncounted}
 use Rattle.wap_world.specs.Shelves.{Shelf}
-use Rattle.wap_world.specs.World.{World}
+use Rattle.wap_world.specs.World.{World, Place, place_now}
 use Rattle.wap_world.specs.Steps.{Scene, Step, Once, still, quiet, settled, after_step}
-use Rattle.wap_world.specs.Starting.{in_world, ended_script}
-use Rattle.wap_world.specs.scripting.UnitSites.{Pages, shelf_of, host_of, keyed_host, ran_of}
+use Rattle.wap_world.specs.Starting.{in_world, end_by, ended_script}
+use Rattle.wap_world.specs.scripting.UnitSites.{Pages, shelf_of, host_of, keyed_host, end_of}
+use Rattle.wap_world.specs.scripting.UnitSites.{ran_of}
 use Rattle.wap_world.specs.scripting.Waiting.{Waits, resumed_once}
 
 -- a navigation before any key is read: all of it, or what was done until a dialog, which waits
@@ -21,22 +22,10 @@ pub record Half : Type 0 where
   pub once : Once
   pub waiting : Option Waits
 
--- the run of a script so far, by its outcome, within these limits and from this URL
-abbrev pub half_by : Limits → Shelf → Url → Outcome → ℕ → Step → Half
-half_by limits shelf base (value v) turns step = record {
-  once = ended_script shelf base (ran_of (ended (value v) turns step));
-  waiting = None;
-}
-half_by limits shelf base (exit v) turns step = record {
-  once = ended_script shelf base (ran_of (ended (exit v) turns step));
-  waiting = None;
-}
-half_by limits shelf base (fatal why) turns step = record {
-  once = ended_script shelf base (ran_of (ended (fatal why) turns step));
-  waiting = None;
-}
-half_by limits shelf base (waits dialog frames) turns step = record {
-  once = settled (in_world (record step.world { turns = turns }) step);
+-- what a run came to, at this place, within these limits and from this URL
+abbrev pub half_by : Limits → Option Place → Url → Outcome → Step → Half
+half_by limits place base (waits dialog frames) step = record {
+  once = settled step;
   waiting = Some (record {
     dialog = dialog;
     limits = limits;
@@ -44,14 +33,14 @@ half_by limits shelf base (waits dialog frames) turns step = record {
     base = base;
   });
 }
-half_by limits shelf base stuck turns step = record {
-  once = ended_script shelf base (ran_of (ended stuck turns step));
-  waiting = None;
-}
+half_by limits place base other step =
+    record { once = end_by place base (end_of other) step; waiting = None }
 
--- the same of the end of a run
+-- the same of the end of a run, at the place where it leaves the world
 abbrev pub half_of : Limits → Shelf → Url → Ended Step → Half
-half_of limits shelf base end = half_by limits shelf base end.outcome end.turns end.state
+half_of limits shelf base end =
+    let world = record end.state.world { turns = end.turns } in
+    half_by limits (place_now shelf world) base end.outcome (in_world world end.state)
 
 -- with keys: what was done stays, and a dialog that waits is answered by them
 abbrev pub once_by : Pages → Once → Option Waits → List Key → Once

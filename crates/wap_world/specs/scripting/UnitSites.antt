@@ -15,7 +15,7 @@ use Rattle.wap_world.specs.declared.site.page.Page.{Page}
 use Rattle.wap_world.specs.declared.site.page.Page.TheVariants as page
 use Rattle.wap_world.specs.Shelves.{Shelf}
 use Rattle.wap_world.specs.Steps.{Step}
-use Rattle.wap_world.specs.Sites.{External, Call, End, done, failed, unanswered, Ran, Site}
+use Rattle.wap_world.specs.Sites.{External, Call, End, done, failed, unanswered, Ran, Site, Script}
 use Rattle.wap_world.specs.scripting.Units.{entrance_in, external_in}
 use Rattle.wap_world.specs.scripting.ScriptPages.{PageOf, deck, script, words, refused, PagesOf}
 use Rattle.wap_world.specs.scripting.ScriptPages.{Scripts, shelf_by, script_under, externals_by}
@@ -83,17 +83,17 @@ started_at function arguments None = []
 started_at function arguments (Some code) =
     if length arguments == code.args then begun function code arguments ∷ [] else []
 
--- what a function of the unit of a name comes to
-abbrev pub run_unit : Pages → List ℕ → Url → Option Url → ℕ → List Value → ℕ → Step → Ran
-run_unit pages name base referer index arguments turns step =
-    let function : Function = record {
-      unit = unit_under pages name;
-      base = base;
-      referer = referer;
-      index = index;
-    } in
+-- what a function of a unit comes to
+abbrev pub run_unit : Pages → Unit → Url → Option Url → ℕ → List Value → ℕ → Step → Ran
+run_unit pages unit base referer index arguments turns step =
+    let function : Function =
+    record { unit = unit; base = base; referer = referer; index = index } in
     ran_of (finished (uncounted step.world.limits (keyed_host pages))
     (started_at function arguments (code_at function)) turns step)
+
+-- a unit, as those see it who call it
+abbrev pub unit_script : Pages → Unit → Script
+unit_script pages unit = record { external = external_in unit; run = run_unit pages unit }
 
 -- ---- judged pages
 
@@ -117,6 +117,6 @@ unfoldable pub units_site : (List ℕ → Option Call) → Pages → Site
 units_site call pages = record {
   shelf = shelf_of pages;
   external = externals_of pages;
-  run = run_unit pages;
+  run = λ name. run_unit pages (unit_under pages name);
   call = call;
 }

@@ -7,7 +7,7 @@ use Rattle.wap_world.specs.Steps.{quiet}
 use Rattle.wap_world.specs.Setting.{fault_lines}
 use Rattle.wap_world.specs.Screens.{show}
 use Rattle.wap_world.specs.Keys.{ignored, act_or, apply}
-use Rattle.wap_world.specs.scripting.UnitSites.{shelf_of}
+use Rattle.wap_context.specs.Browsers.{place_held}
 use Rattle.wap_context.specs.Sites.{site_of}
 use Rattle.wap_session.specs.inside.Turns.{IsBehind}
 use Rattle.wap_session.proofs.Rules.{Acts-ok, Acts-err, Acts-leads, Acts-ignored, Acts-wants}
@@ -20,7 +20,8 @@ returns-in_ok-ignore-in-NoOption g c =
     let mid = c.choose.new.self in
     let did = c.in_ok-ignore-in-NoOption.field-0 in
     Acts-leads (λ pages keys world. quiet keys (ignored world))
-    (λ pages keys world. apply (site_of pages) keys world (key.Choose c.args.field c.args.option))
+    (λ pages keys world. apply (site_of pages) (place_held c.args.context.now) keys world
+    (key.Choose c.args.field c.args.option))
     seen seen mid c.args.context.now mid
     (chosen_none c.args.context.now mid c.args.field c.args.option
     c.in_ok-choose.ensures.vars (sym c.in-NoOption.is ∙ c.in_ok-choose.ensures.answer))
@@ -44,8 +45,9 @@ returns-in_err-did-in-Set g c =
     c.from_residual-in_err-did-in-Set.ensures.1 in
     rw (p.1, p.2) (Acts-err (flat_map fault_lines c.in-Set.faults)
     (λ pages keys world.
-    act_or (show (shelf_of pages) world) (site_of pages) keys world c.in-Set.task)
-    (λ pages keys world. apply (site_of pages) keys world (key.Choose c.args.field c.args.option))
+    act_or (show (place_held c.choose.new.self) world) (site_of pages) keys world c.in-Set.task)
+    (λ pages keys world. apply (site_of pages) (place_held c.args.context.now) keys world
+    (key.Choose c.args.field c.args.option))
     (g.P.Pages.seen c.args.pages.now) (g.P.Pages.seen c.act_or_show.new.pages)
     c.choose.new.self c.args.context.now c.act_or_show.new.context leads
     c.in_err-did-in-Set.field-0.0 c.in_err-did-in-Set.ensures)
@@ -59,8 +61,9 @@ returns-in_ok-behind-in-Set g c =
     let further = c.in_ok-behind-in-Set.field-0 in
     Acts-ok (flat_map fault_lines c.in-Set.faults)
     (λ pages keys world.
-    act_or (show (shelf_of pages) world) (site_of pages) keys world c.in-Set.task)
-    (λ pages keys world. apply (site_of pages) keys world (key.Choose c.args.field c.args.option))
+    act_or (show (place_held c.choose.new.self) world) (site_of pages) keys world c.in-Set.task)
+    (λ pages keys world. apply (site_of pages) (place_held c.args.context.now) keys world
+    (key.Choose c.args.field c.args.option))
     (g.P.Pages.seen c.args.pages.now) (g.P.Pages.seen c.act_or_show.new.pages)
     c.choose.new.self c.args.context.now c.act_or_show.new.context leads did further
     (subst (λ (lines : List (List ℕ)). IsBehind lines did further)

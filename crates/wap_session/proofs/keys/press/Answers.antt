@@ -21,10 +21,11 @@ use Rattle.wap_world.specs.scripting.UnitSites.{Pages, shelf_of}
 use Rattle.wap_context.specs.declared.waiting.Step.{Step as Did}
 use Rattle.wap_context.specs.declared.waiting.Step.TheVariants.{Settled}
 use Rattle.wap_context.specs.Acting.{Acts}
-use Rattle.wap_context.specs.Browsers.{Browser}
+use Rattle.wap_context.specs.Browsers.{Browser, place_held}
 use Rattle.wap_context.specs.Sites.{site_of}
 use Rattle.wap_session.specs.inside.Pressing.{typed, press_rule}
-use Rattle.wap_session.proofs.Rules.{Acts-same, Acts-shows, Acts-ignored, Acts-wants, anyhow}
+use Rattle.wap_session.proofs.Rules.{Acts-same, Acts-shows, Acts-ignored, Acts-wants, shows_lines}
+use Rattle.wap_session.proofs.Rules.{anyhow}
 use Rattle.wap_session.proofs.Typing.{typed_keys}
 use Rattle.wap_session.proofs.keys.press.Goals as goal
 
@@ -56,9 +57,11 @@ returns-in_ok-enter_text-in-Enter-clause-acts g c =
     let seen = g.P.Pages.seen c.args.pages.now in
     let lines = c.in_ok-enter_text-in-Enter.field-0 in
     rw c.in-Enter.is
-    (Acts-same (λ pages keys world. quiet keys (typed n text (shelf_of pages) world))
-    (λ pages keys world. apply (site_of pages) keys world (key.Enter n text)) seen seen old new
-    (λ pages is keys. typed_keys n text pages keys old.world) (Ok (Settled lines))
+    (Acts-same (λ pages keys world. quiet keys (typed n text (place_held old) world))
+    (λ pages keys world. apply (site_of pages) (place_held old) keys world (key.Enter n text))
+    seen seen old new
+    (λ pages is keys. typed_keys (site_of pages) keys old.world n text (place_held old))
+    (Ok (Settled lines))
     (Acts-shows (typed n text) seen old new lines c.in_ok-enter_text-in-Enter.ensures))
 
 pub returns-in-Choose-clause-acts : goal.returns-in-Choose-clause-acts
@@ -105,25 +108,27 @@ pub returns-in_ok-variable_lines-in-Vars-clause-acts :
     goal.returns-in_ok-variable_lines-in-Vars-clause-acts
 returns-in_ok-variable_lines-in-Vars-clause-acts g c =
     rw c.in-Vars.is (Acts-shows
-    (λ shelf world. record { world = world; lines = map variable_line world.vars })
+    (λ place world. record { world = world; lines = map variable_line world.vars })
     (g.P.Pages.seen c.args.pages.now) c.args.context.now c.args.context.now
     c.in_ok-variable_lines-in-Vars.field-0 (record {
-      world = λ shelf over. refl;
-      tells = λ shelf over.
-          c.in_ok-variable_lines-in-Vars.ensures ∙ ap (map variable_line) c.vars.ensures;
-      over = λ shelf over. over;
+      plays = record {
+        world = refl;
+        lines = c.in_ok-variable_lines-in-Vars.ensures ∙ ap (map variable_line) c.vars.ensures;
+        kept = refl;
+      };
+      deck = refl;
     }))
 
 -- a key that fits nothing outside a dialog
 ignores : (one : Key) (pushes : List Indication) (seen : Seen) (browser : Browser) (did : Did)
     → did ≡ Settled (refusal_line refusals.Ignored ∷ []) → (other : Key) → one ≡ other
     → ((pages : Pages) (keys : List Key) (w : World)
-    → press_rule pushes other pages keys w ≡ quiet keys (ignored w))
-    → Acts (press_rule pushes one) seen seen browser browser (Ok did)
+    → press_rule (place_held browser) pushes other pages keys w ≡ quiet keys (ignored w))
+    → Acts (press_rule (place_held browser) pushes one) seen seen browser browser (Ok did)
 ignores one pushes seen browser did is other same fits =
-    Acts-ignored (press_rule pushes one) seen browser did is
+    Acts-ignored (press_rule (place_held browser) pushes one) seen browser did is
     (λ pages over keys.
-    ap (λ (key : Key). press_rule pushes key pages keys browser.world) same
+    ap (λ (key : Key). press_rule (place_held browser) pushes key pages keys browser.world) same
     ∙ fits pages keys browser.world)
 
 pub returns-in_ok-ignore-in-Ok-clause-acts : goal.returns-in_ok-ignore-in-Ok-clause-acts
@@ -148,8 +153,8 @@ told : (lines : List (List ℕ)) (seen : Seen) (browser : Browser) (shown : List
     → shown ≡ lines → Acts (λ pages keys world. telling keys world lines) seen seen browser browser
     (Ok (Settled shown))
 told lines seen browser shown is =
-    Acts-shows (λ shelf world. record { world = world; lines = lines }) seen browser browser shown
-    (record { world = λ shelf over. refl; tells = λ shelf over. is; over = λ shelf over. over })
+    Acts-shows (λ place world. record { world = world; lines = lines }) seen browser browser shown
+    (shows_lines browser lines shown is)
 
 pub returns-in_err-take_push-in-Push-clause-acts : goal.returns-in_err-take_push-in-Push-clause-acts
 returns-in_err-take_push-in-Push-clause-acts g c =
@@ -193,7 +198,8 @@ pub returns-in-Follow-clause-acts : goal.returns-in-Follow-clause-acts
 returns-in-Follow-clause-acts g c =
     let winners = c.args.inbox.now in
     rw c.in-Follow.is (subst (λ (all : List Indication).
-    Acts (λ pages keys world. play_pressed (site_of pages) keys world
+    Acts (λ pages keys world.
+    play_pressed (site_of pages) (place_held c.args.context.now) keys world
     (opening (option_and_then (λ entry. entry.href)
     (entry_at (inbox_of all) c.in-Follow.number))))
     (g.P.Pages.seen c.args.pages.now) (g.P.Pages.seen c.follow_entry.new.pages)

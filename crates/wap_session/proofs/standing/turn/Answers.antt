@@ -1,4 +1,5 @@
 use Rattle.std.proofs.Common.{None}
+use Rattle.wap_context.specs.Browsers.{place_held}
 use Rattle.wap_session.specs.inside.Turns.{turn_rule}
 use Rattle.wap_session.specs.inside.Pressing.{press_rule}
 use Rattle.wap_session.proofs.Rules.{Acts-leads, anyhow}
@@ -12,7 +13,7 @@ returns-in-Rest-clause-acts g c =
     let old = c.args.context.now in
     let mid = c.begin_key.new.self in
     rw c.in-Rest.is
-    (Acts-leads (press_rule winners key) (turn_rule None winners key)
+    (Acts-leads (press_rule (place_held mid) winners key) (turn_rule None winners key)
     (g.P.Pages.seen c.args.pages.now) (g.P.Pages.seen c.press.new.pages) mid old
     c.press.new.context
     (rest_leads key winners old mid c.budget-budget.result c.begin_key.ensures

@@ -6,7 +6,7 @@ use Rattle.wap_machine.specs.Seen.{function_in}
 use Rattle.wap_machine.specs.Stacks.{IsEntered}
 use Rattle.wap_world.specs.Setting.{set_variables}
 use Rattle.wap_state.specs.Scenes.{Line}
-use Rattle.wap_context.specs.inside.Moving.{PlaysAt}
+use Rattle.wap_context.specs.Browsers.{Shows}
 use Rattle.wap_context.proofs.Takings.{takes_rejected}
 use Rattle.wap_context.proofs.Beginning.{begin_takes}
 use Rattle.wap_context.proofs.context.Context.begin_script.Goals as goal
@@ -53,7 +53,7 @@ returns g c =
     c.args.self.now c.set_variables.new.self c.clear_pending.new.self c.set_variables.new.lines
     c.in_ok-machine.machine c.without_fragment-base.result c.limits-limits.result
     (subst (λ (lines : List Line).
-    PlaysAt (λ place. set_variables c.args.sets) c.args.self.now c.set_variables.new.self lines
+    Shows (λ place. set_variables c.args.sets) c.args.self.now c.set_variables.new.self lines
     c.set_variables.new.lines) c.new-first.ensures c.in_ok-set_variables.ensures)
     c.clear_pending.ensures c.without_fragment-base.ensures c.limits-limits.ensures.value entered
     (g.P.Pages.seen c.args.pages.now) (g.P.Pages.seen c.go_on.new.pages) c.go_on.new.self

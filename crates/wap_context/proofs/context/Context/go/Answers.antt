@@ -1,40 +1,45 @@
-use Rattle.std.proofs.Common.{◌∙◌, sym}
-use Rattle.wap_world.specs.World.{place_now}
-use Rattle.wap_world.specs.Tasks.{stay_or_ask, go, base_now}
-use Rattle.wap_world.specs.scripting.UnitSites.{shelf_of}
+use Rattle.std.proofs.Common.{◌∙◌, sym, ap}
+use Rattle.wap_url.specs.declared.url.Url.{Url}
+use Rattle.std.specs.Prelude.{Option}
+use Rattle.wap_world.specs.Tasks.{base_url, go, stay_or_ask}
+use Rattle.wap_context.specs.Browsers.{place_held}
 use Rattle.wap_context.specs.Sites.{site_of}
+use Rattle.wap_context.proofs.Navigations.{go_is, go_refused}
 use Rattle.wap_context.proofs.Takings.{takes_from, takes_rejected}
-use Rattle.wap_context.proofs.Requesting.{refused_takes, go_by, go_no}
+use Rattle.wap_context.proofs.Requesting.{refused_takes}
 use Rattle.wap_context.proofs.context.Context.go.Goals as goal
 
 pub returns-in_ok-request-in-Ok : goal.returns-in_ok-request-in-Ok
 returns-in_ok-request-in-Ok g c =
-    takes_from (λ pages keys world.
-    go (site_of pages) keys (base_now (shelf_of pages) world c.args.from) c.args.one world)
-    (λ pages keys world.
-    stay_or_ask (site_of pages) keys c.args.one.sets c.in_ok-base.base c.in_ok-request-in-Ok.request
-    world (place_now (shelf_of pages) world))
-    (g.P.Pages.seen c.args.pages.now)
-    (g.P.Pages.seen c.stay_or_ask.new.pages) c.args.self.now c.stay_or_ask.new.self
-    c.args.lines.now c.stay_or_ask.new.lines c.stay_or_ask.result
+    let old = c.args.self.now in
+    let place = place_held old in
+    takes_from (λ pages keys.
+    go (site_of pages) place keys (base_url place c.args.from) c.args.one)
+    (λ pages keys. stay_or_ask (site_of pages) place keys c.args.one.sets c.in_ok-base.base
+    c.in_ok-request-in-Ok.request)
+    (g.P.Pages.seen c.args.pages.now) (g.P.Pages.seen c.stay_or_ask.new.pages) old
+    c.stay_or_ask.new.self c.args.lines.now c.stay_or_ask.new.lines c.stay_or_ask.result
     (λ pages over keys.
-    go_by pages c.args.self.now over keys c.args.from c.in_ok-base.base c.args.one c.in-Ok.url
-    c.in_ok-request-in-Ok.request
-    c.in_ok-base.ensures.is (sym c.in-Ok.is ∙ c.in_ok-url.ensures) c.in_ok-request-in-Ok.ensures)
+    go_is (site_of pages) place keys old.world c.in_ok-base.base c.args.one c.in-Ok.url
+    c.in_ok-request-in-Ok.request (sym c.in-Ok.is ∙ c.in_ok-url.ensures)
+    c.in_ok-request-in-Ok.ensures
+    ∙ ap (λ (base : Option Url). go (site_of pages) place keys base c.args.one old.world)
+    c.in_ok-base.ensures.is)
     c.stay_or_ask.ensures
 
 pub returns-in_ok-refuse-in-Err : goal.returns-in_ok-refuse-in-Err
 returns-in_ok-refuse-in-Err g c =
-    refused_takes (g.P.Pages.seen c.args.pages.now)
-    c.args.self.now c.refuse.new.self c.args.lines.now
-    (λ pages keys world.
-    go (site_of pages) keys (base_now (shelf_of pages) world c.args.from) c.args.one world)
+    let old = c.args.self.now in
+    let place = place_held old in
+    refused_takes (g.P.Pages.seen c.args.pages.now) old c.refuse.new.self c.args.lines.now
+    (λ pages keys. go (site_of pages) place keys (base_url place c.args.from) c.args.one)
     c.refuse.new.lines c.in_ok-refuse-in-Err.field-0 c.went_to.result c.in-Err.refusal
     c.went_to.ensures.next c.went_to.ensures.none
-    (λ pages over keys.
-    go_no pages c.args.self.now over keys c.args.from c.in_ok-base.base c.args.one c.in-Err.refusal
-    c.in_ok-base.ensures.is
-    (sym c.in-Err.is ∙ c.in_ok-url.ensures))
+    (λ pages keys.
+    sym (ap (λ (base : Option Url). go (site_of pages) place keys base c.args.one old.world)
+    c.in_ok-base.ensures.is)
+    ∙ go_refused (site_of pages) place keys old.world c.in_ok-base.base c.args.one
+    c.in-Err.refusal (sym c.in-Err.is ∙ c.in_ok-url.ensures))
     c.in_ok-refuse-in-Err.ensures
 
 pub returns-in_err-url : goal.returns-in_err-url

@@ -1,4 +1,4 @@
-use Rattle.std.proofs.Common.{refl, ap, subst}
+use Rattle.std.proofs.Common.{ap, subst}
 use Rattle.std.specs.Prelude.{OnOk}
 use Rattle.wap_tokens.specs.declared.markup.deck.Node.{Node}
 use Rattle.wap_world.specs.Entering.{leave_place}
@@ -10,12 +10,12 @@ use Rattle.wap_context.proofs.context.Context.leave.Goals as goal
 
 pub returns-in-Some : goal.returns-in-Some
 returns-in-Some c =
-    plays_here leave_place (λ one w. store_left w.timer one.card w) (λ entry one w. refl)
+    plays_here leave_place
     c.self.inside.state c.self.inside.deck c.args.self.now c.self.view_is
     c.card_number-number.result c.card_number-number.ensures c.here.result c.here.ensures
     c.in-Some.here c.in-Some.is
     c.store_left.new.self c.args.lines.now c.store_left.new.lines c.store_left.result
-    (subst (λ (card : Node). OnOk c.store_left.result
+    (λ url. subst (λ (card : Node). OnOk c.store_left.result
     (Plays (store_left c.self.inside.state.timer card c.self.inside.state)
     c.self.inside.state c.store_left.new.self
     c.args.lines.now c.store_left.new.lines))

@@ -1,40 +1,45 @@
-use Rattle.std.proofs.Common.{◌∙◌, ap₂, sym, None}
+use Rattle.std.proofs.Common.{None, ◌∙◌, sym, ap, ap₂}
+use Rattle.std.specs.Prelude.{Option}
+use Rattle.wap_url.specs.declared.url.Url.{Url}
 use Rattle.wap_cardrules.specs.Values.{Pairs}
 use Rattle.wap_world.specs.Requests.{Request}
-use Rattle.wap_world.specs.Tasks.{open_url, request}
+use Rattle.wap_world.specs.Urls.{target_of}
+use Rattle.wap_world.specs.Tasks.{request, open_url}
+use Rattle.wap_context.specs.Browsers.{place_held}
 use Rattle.wap_context.specs.Sites.{site_of}
+use Rattle.wap_context.proofs.Navigations.{open_is, open_refused}
 use Rattle.wap_context.proofs.Takings.{takes_from, takes_rejected}
-use Rattle.wap_context.proofs.Requesting.{open_by, open_no, refused_takes}
+use Rattle.wap_context.proofs.Requesting.{refused_takes}
 use Rattle.wap_context.proofs.context.Context.open_url.Goals as goal
 
 pub returns-in-Ok : goal.returns-in-Ok
 returns-in-Ok g c =
-    takes_from (λ pages keys world. open_url (site_of pages) keys c.args.url.now world)
-    (λ pages keys world.
-    request (site_of pages) keys c.new-sets.result None c.get.result world)
-    (g.P.Pages.seen c.args.pages.now)
-    (g.P.Pages.seen c.request.new.pages) c.args.self.now c.request.new.self
+    let old = c.args.self.now in
+    let place = place_held old in
+    takes_from (λ pages keys. open_url (site_of pages) place keys c.args.url.now)
+    (λ pages keys. request (site_of pages) place keys c.new-sets.result None c.get.result)
+    (g.P.Pages.seen c.args.pages.now) (g.P.Pages.seen c.request.new.pages) old c.request.new.self
     c.args.lines.now c.request.new.lines c.request.result
     (λ pages over keys.
-    ap₂ (λ (s : Pairs) (r : Request).
-    request (site_of pages) keys s None r c.args.self.now.world)
+    ap₂ (λ (s : Pairs) (r : Request). request (site_of pages) place keys s None r old.world)
     c.new-sets.ensures c.get.ensures
-    ∙ open_by pages c.args.self.now over keys c.in_ok-base.base c.args.url.now c.in-Ok.url
-    c.in_ok-base.ensures.is
-    (sym c.in-Ok.is ∙ c.in_ok-url.ensures))
+    ∙ open_is (site_of pages) place keys old.world c.args.url.now c.in-Ok.url
+    (sym c.in-Ok.is ∙ c.in_ok-url.ensures
+    ∙ ap (λ (base : Option Url). target_of base c.args.url.now) c.in_ok-base.ensures.is))
     c.request.ensures
 
 pub returns : goal.returns
 returns g c =
-    refused_takes (g.P.Pages.seen c.args.pages.now)
-    c.args.self.now c.refuse.new.self c.args.lines.now
-    (λ pages keys world. open_url (site_of pages) keys c.args.url.now world)
-    c.refuse.new.lines c.in_ok-refuse-in-Err.field-0 c.went_to.result c.in-Err.refusal
+    let old = c.args.self.now in
+    let place = place_held old in
+    refused_takes (g.P.Pages.seen c.args.pages.now) old c.refuse.new.self c.args.lines.now
+    (λ pages keys. open_url (site_of pages) place keys c.args.url.now) c.refuse.new.lines
+    c.in_ok-refuse-in-Err.field-0 c.went_to.result c.in-Err.refusal
     c.went_to.ensures.next c.went_to.ensures.none
-    (λ pages over keys.
-    open_no pages c.args.self.now over keys c.in_ok-base.base c.args.url.now c.in-Err.refusal
-    c.in_ok-base.ensures.is
-    (sym c.in-Err.is ∙ c.in_ok-url.ensures))
+    (λ pages keys.
+    open_refused (site_of pages) place keys old.world c.args.url.now c.in-Err.refusal
+    (sym c.in-Err.is ∙ c.in_ok-url.ensures
+    ∙ ap (λ (base : Option Url). target_of base c.args.url.now) c.in_ok-base.ensures.is))
     c.in_ok-refuse-in-Err.ensures
 
 pub returns-in_err-base : goal.returns-in_err-base

@@ -1,3 +1,4 @@
+use Rattle.wap_context.specs.Browsers.{place_held}
 use Rattle.std.proofs.Common.{◌∙◌, sym, ap, Err}
 use Rattle.std.proofs.lemmas.Result.{err_from_is_err_and}
 use Rattle.wap_world.specs.Tasks.{request}
@@ -30,8 +31,8 @@ pub returns-in_err-page : goal.returns-in_err-page
 returns-in_err-page g c =
     let seen = g.P.Pages.seen c.args.pages.now in
     let left = err_from_is_err_and c.from_residual.result c.from_residual.ensures.1 in
-    page_missed (λ pages keys world.
-    request (site_of pages) keys c.args.sets c.args.caller.now c.args.one world) c.args.one seen
+    page_missed (λ pages keys. request (site_of pages) (place_held c.args.self.now) keys c.args.sets
+    c.args.caller.now c.args.one) c.args.one seen
     (g.P.Pages.seen c.ask.new.pages)
     c.args.self.now c.args.self.now c.args.lines.now c.ask.new.lines c.in_err-page.field-0.0
     c.from_residual.result (left.1 ∙ ap Err left.2)

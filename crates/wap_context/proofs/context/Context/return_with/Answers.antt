@@ -1,7 +1,8 @@
+use Rattle.std.proofs.Common.{[]}
 use Rattle.std.specs.Option.{option_map}
 use Rattle.wap_world.specs.Steps.{then_task}
 use Rattle.wap_context.specs.Browsers.{place_held}
-use Rattle.wap_context.specs.inside.AtHand.{return_at}
+use Rattle.wap_world.specs.Tasks.{return}
 use Rattle.wap_context.specs.inside.Moving.{HasDeck}
 use Rattle.wap_context.proofs.Plays.{if_ok}
 use Rattle.wap_context.proofs.Arrivals.{moves_ok, moves_no}
@@ -11,8 +12,8 @@ pub returns-in-Ok : goal.returns-in-Ok
 returns-in-Ok c =
     if_ok c.return_to.result
     (λ next.
-    moves_ok (return_at c.args.sets c.args.earlier
-    (place_held c.args.self.now) c.args.self.now.world) c.args.earlier.url c.args.self.now
+    moves_ok (return (place_held c.args.self.now) [] c.args.sets c.args.earlier
+    c.args.self.now.world) c.args.earlier.url c.args.self.now
     c.return_to.new.self c.args.lines.now c.return_to.new.lines
     (option_map then_task next) c.args.answer c.in-Ok.deck
     (HasDeck c.args.earlier.url c.in-Ok.deck) c.in-Ok.is (λ shelf over has. has))
@@ -22,8 +23,8 @@ pub returns-in-Err : goal.returns-in-Err
 returns-in-Err c =
     if_ok c.refuse.result
     (λ next.
-    moves_no (return_at c.args.sets c.args.earlier
-    (place_held c.args.self.now) c.args.self.now.world) c.args.earlier.url c.args.self.now
+    moves_no (return (place_held c.args.self.now) [] c.args.sets c.args.earlier
+    c.args.self.now.world) c.args.earlier.url c.args.self.now
     c.refuse.new.self c.args.lines.now c.refuse.new.lines (option_map then_task next) c.args.answer
     c.in-Err.refusal c.in-Err.is)
     c.refuse.ensures

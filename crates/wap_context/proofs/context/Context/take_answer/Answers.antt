@@ -1,7 +1,8 @@
+use Rattle.std.proofs.Common.{[]}
 use Rattle.std.specs.Option.{option_map}
 use Rattle.wap_world.specs.Steps.{then_task}
 use Rattle.wap_context.specs.Browsers.{IsOver, place_held}
-use Rattle.wap_context.specs.inside.AtHand.{try_deck_at}
+use Rattle.wap_world.specs.Tasks.{try_deck}
 use Rattle.wap_context.specs.inside.Moving.{HasDeck}
 use Rattle.wap_context.proofs.Plays.{if_ok}
 use Rattle.wap_context.proofs.Arrivals.{moves_ok, moves_no}
@@ -11,8 +12,8 @@ pub returns-in-Ok : goal.returns-in-Ok
 returns-in-Ok c =
     if_ok c.try_deck.result
     (λ next.
-    moves_ok (try_deck_at c.args.sets c.args.caller.now c.args.url
-    (place_held c.args.self.now) c.args.self.now.world) c.args.url c.args.self.now
+    moves_ok (try_deck (place_held c.args.self.now) [] c.args.sets c.args.caller.now c.args.url
+    c.args.self.now.world) c.args.url c.args.self.now
     c.try_deck.new.self c.args.lines.now c.try_deck.new.lines
     (option_map then_task next) c.args.answer c.in-Ok.deck
     (λ shelf. IsOver shelf c.args.self.now × HasDeck c.args.url c.in-Ok.deck shelf) c.in-Ok.is
@@ -23,8 +24,8 @@ pub returns-in-Err : goal.returns-in-Err
 returns-in-Err c =
     if_ok c.refuse.result
     (λ next.
-    moves_no (try_deck_at c.args.sets c.args.caller.now c.args.url
-    (place_held c.args.self.now) c.args.self.now.world) c.args.url c.args.self.now
+    moves_no (try_deck (place_held c.args.self.now) [] c.args.sets c.args.caller.now c.args.url
+    c.args.self.now.world) c.args.url c.args.self.now
     c.refuse.new.self c.args.lines.now c.refuse.new.lines (option_map then_task next) c.args.answer
     c.in-Err.refusal c.in-Err.is)
     c.refuse.ensures

@@ -1,27 +1,41 @@
-use Rattle.wap_context.proofs.Requesting.{go_onces, prev_onces, go_budget, prev_budget}
-use Rattle.wap_context.proofs.Requesting.{refresh_onces, onces_rejected}
+use Rattle.wap_context.proofs.Requesting.{Tasks, goes, prevs, go_turns, prev_turns, turn_onces}
+use Rattle.wap_context.proofs.Requesting.{budget_onces, refresh_onces, onces_rejected}
 use Rattle.wap_context.proofs.context.Context.task_once.Goals as goal
 
 pub returns-then-take_turn : goal.returns-then-take_turn
 returns-then-take_turn g c =
-    let spent = c.take_turn.ensures.taken c.if-take_turn.true in
-    go_onces (g.P.Pages.seen c.args.pages.now) c.args.self.now c.go.new.self c.args.lines.now
-    c.take_turn.new.self (g.P.Pages.seen c.go.new.pages) c.go.new.lines c.go.result
-    c.args.task c.in-Go.one c.args.from c.in-Go.is spent c.go.ensures
+    let seen = g.P.Pages.seen c.args.pages.now in
+    let old = c.args.self.now in
+    turn_onces seen old c.go.new.self c.args.lines.now
+    (Tasks seen old c.go.new.self c.args.lines.now c.args.task c.args.from)
+    (goes seen old c.go.new.self c.args.lines.now c.in-Go.one c.args.from) c.take_turn.new.self
+    (g.P.Pages.seen c.go.new.pages) c.go.new.lines c.go.result
+    (go_turns seen old c.go.new.self c.args.lines.now c.args.task c.in-Go.one
+    c.args.from c.in-Go.is) (c.take_turn.ensures.taken c.if-take_turn.true)
+    c.go.ensures
 
 pub returns-then-take_turn-2 : goal.returns-then-take_turn-2
 returns-then-take_turn-2 g c =
-    let spent = c.take_turn-in-Prev.ensures.taken c.if-take_turn-2.true in
-    prev_onces (g.P.Pages.seen c.args.pages.now) c.args.self.now c.prev.new.self c.args.lines.now
-    c.take_turn-in-Prev.new.self (g.P.Pages.seen c.prev.new.pages) c.prev.new.lines c.prev.result
-    c.args.task c.in-Prev.sets c.args.from c.in-Prev.is spent c.prev.ensures
+    let seen = g.P.Pages.seen c.args.pages.now in
+    let old = c.args.self.now in
+    turn_onces seen old c.prev.new.self c.args.lines.now
+    (Tasks seen old c.prev.new.self c.args.lines.now c.args.task c.args.from)
+    (prevs seen old c.prev.new.self c.args.lines.now c.in-Prev.sets) c.take_turn-in-Prev.new.self
+    (g.P.Pages.seen c.prev.new.pages) c.prev.new.lines c.prev.result
+    (prev_turns seen old c.prev.new.self c.args.lines.now c.args.task c.in-Prev.sets
+    c.args.from c.in-Prev.is) (c.take_turn-in-Prev.ensures.taken c.if-take_turn-2.true)
+    c.prev.ensures
 
 pub returns-in-Go : goal.returns-in-Go
 returns-in-Go g c =
-    go_budget (g.P.Pages.seen c.args.pages.now) c.args.self.now c.refuse.new.self
-    c.args.lines.now c.take_turn.new.self c.refuse.new.lines
-    c.in_ok-refuse-in-Go.field-0 c.went_to.result c.args.task c.in-Go.one c.args.from
-    c.in-Go.is c.went_to.ensures.next c.went_to.ensures.none
+    let seen = g.P.Pages.seen c.args.pages.now in
+    let old = c.args.self.now in
+    budget_onces seen old c.refuse.new.self c.args.lines.now
+    (Tasks seen old c.refuse.new.self c.args.lines.now c.args.task c.args.from)
+    (goes seen old c.refuse.new.self c.args.lines.now c.in-Go.one c.args.from) c.take_turn.new.self
+    c.refuse.new.lines c.in_ok-refuse-in-Go.field-0 c.went_to.result
+    (go_turns seen old c.refuse.new.self c.args.lines.now c.args.task c.in-Go.one
+    c.args.from c.in-Go.is) c.went_to.ensures.next c.went_to.ensures.none
     (c.take_turn.ensures.left c.if-take_turn.false) c.in_ok-refuse-in-Go.ensures
 
 pub returns-in_err-refuse-in-Go : goal.returns-in_err-refuse-in-Go
@@ -30,11 +44,16 @@ returns-in_err-refuse-in-Go g c =
 
 pub returns-in-Prev : goal.returns-in-Prev
 returns-in-Prev g c =
-    prev_budget (g.P.Pages.seen c.args.pages.now) c.args.self.now c.refuse-else-take_turn-2.new.self
-    c.args.lines.now c.take_turn-in-Prev.new.self c.refuse-else-take_turn-2.new.lines
-    c.in_ok-refuse-in-Prev.field-0 c.went_to-else-take_turn-2.result c.args.task c.in-Prev.sets
-    c.args.from c.in-Prev.is c.went_to-else-take_turn-2.ensures.next
-    c.went_to-else-take_turn-2.ensures.none
+    let seen = g.P.Pages.seen c.args.pages.now in
+    let old = c.args.self.now in
+    let new = c.refuse-else-take_turn-2.new.self in
+    let lines = c.args.lines.now in
+    budget_onces seen old new lines (Tasks seen old new lines c.args.task c.args.from)
+    (prevs seen old new lines c.in-Prev.sets) c.take_turn-in-Prev.new.self
+    c.refuse-else-take_turn-2.new.lines c.in_ok-refuse-in-Prev.field-0
+    c.went_to-else-take_turn-2.result
+    (prev_turns seen old new lines c.args.task c.in-Prev.sets c.args.from c.in-Prev.is)
+    c.went_to-else-take_turn-2.ensures.next c.went_to-else-take_turn-2.ensures.none
     (c.take_turn-in-Prev.ensures.left c.if-take_turn-2.false) c.in_ok-refuse-in-Prev.ensures
 
 pub returns-in_err-refuse-in-Prev : goal.returns-in_err-refuse-in-Prev
