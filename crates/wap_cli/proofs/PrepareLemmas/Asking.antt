@@ -7,7 +7,7 @@ use Rattle.wap_devices.specs.declared.store.StoreErr.{StoreErr}
 use Rattle.wap_devices.specs.declared.store.StoreErr.TheVariants.{Failed, NoMemory}
 use Rattle.wap_devices.proofs.Telling.{grew_nothing, grew_then}
 use Rattle.wap_cli.specs.Answers.{page_of}
-use Rattle.wap_cli.specs.prepare.Fetching.{AsksFor, Job, IsAnswered}
+use Rattle.wap_cli.specs.prepare.Fetching.{AsksForAll, Job, IsAnswered}
 use Rattle.wap_cli.proofs.ResumeLemmas.Fetching.{page_later}
 
 -- so many were asked for, and none failed
@@ -37,7 +37,7 @@ module _ (i : ℕ) (a b c : StoreSeen) (asked : Asked i a b) where
       let first = asked.fetches in omega (arith, is, first)
 
   -- and then more
-  pub asked_more : {A : Type 0} (more : ℕ) (job : A) → AsksFor {A = A} more b c (Ok job)
+  pub asked_more : {A : Type 0} (more : ℕ) (job : A) → AsksForAll {A = A} more b c (Ok job)
       → Asked (i + more) a c
   asked_more more job asks = record {
     fetches = more_fetches more asks.whole;
@@ -48,15 +48,18 @@ module _ (i : ℕ) (a b c : StoreSeen) (asked : Asked i a b) where
 
   -- one of the next failed
   pub more_fail : {A B : Type 0} (more count : ℕ) → i + more ≤ count → (fault : StoreErr)
-      → AsksFor {A = A} more b c (Err fault)
-      → AsksFor {A = B} count a c (Err fault)
+      → AsksForAll {A = A} more b c (Err fault)
+      → AsksForAll {A = B} count a c (Err fault)
   more_fail more count within fault asks =
-      let some = asks.few.1 in
+      let some = asked.fetches in
+      let more = asks.more in
+      let few = asks.few in
       let counts = asks.counts in
       let same = asked.faults in
       record {
         whole = tt;
-        few = (i + asks.few.0, omega (arith, some, within), more_fetches asks.few.0 asks.few.2);
+        more = omega (arith, some, more);
+        few = omega (arith, some, few, within);
         listings = asks.listings ∙ asked.listings;
         known = grew_then a.known b.known c.known asked.known asks.known;
         counts = omega (arith, counts, same);
@@ -68,12 +71,14 @@ module _ (i : ℕ) (a b c : StoreSeen) (asked : Asked i a b) where
 
 -- memory ran out after some
 pub then_memory : {A : Type 0} (i count : ℕ) (a b : StoreSeen) → Asked i a b → i ≤ count
-    → AsksFor {A = A} count a b (Err NoMemory)
+    → AsksForAll {A = A} count a b (Err NoMemory)
 then_memory i count a b asked within =
     let same = asked.faults in
+    let some = asked.fetches in
     record {
       whole = tt;
-      few = (i, within, asked.fetches);
+      more = omega (arith, some);
+      few = omega (arith, some, within);
       listings = asked.listings;
       known = asked.known;
       counts = omega (arith, same);
@@ -83,18 +88,18 @@ then_memory i count a b asked within =
 
 -- the same, where the fault came from that of memory
 pub memory_over : (A : Type 0) (count : ℕ) (a b : StoreSeen) (result : Result A StoreErr)
-    → AsksFor {A = A} count a b (Err NoMemory) → IsErr result
-    → IsErrAnd result (λ fault. fault ≡ NoMemory) → AsksFor {A = A} count a b result
+    → AsksForAll {A = A} count a b (Err NoMemory) → IsErr result
+    → IsErrAnd result (λ fault. fault ≡ NoMemory) → AsksForAll {A = A} count a b result
 memory_over A count a b (Ok jobs) asks failed is = absurd cc
 memory_over A count a b (Err fault) asks failed is =
-    subst (λ (f : StoreErr). AsksFor {A = A} count a b (Err f)) (sym is) asks
+    subst (λ (f : StoreErr). AsksForAll {A = A} count a b (Err f)) (sym is) asks
 
 -- the same, by the names that were asked for
 pub asks_over : {A : Type 0} (names others : List (List ℕ)) (a b : StoreSeen)
-    (result : Result A StoreErr) → names ≡ others → AsksFor {A = A} (length names) a b result
-    → AsksFor {A = A} (length others) a b result
+    (result : Result A StoreErr) → names ≡ others → AsksForAll {A = A} (length names) a b result
+    → AsksForAll {A = A} (length others) a b result
 asks_over names others a b result same asks =
-    subst (λ (l : List (List ℕ)). AsksFor (length l) a b result) same asks
+    subst (λ (l : List (List ℕ)). AsksForAll (length l) a b result) same asks
 
 -- what was answered earlier is so of what is known later, and of one job more
 pub answered_more : (before after : Known) (jobs all : List Job) (job : Job) → Grew before after
@@ -108,10 +113,11 @@ answered_more before after jobs all job grew so_far next together =
 
 -- one page was asked for, and the store failed, or memory ran out
 pub failed_one : {A : Type 0} (name : List ℕ) (a b : StoreSeen) (fault : StoreErr)
-    → Fetches name a b (Err fault) → AsksFor {A = A} 1 a b (Err fault)
-failed_one name a b fault fetches = record {
+    → Fetches name a b (Err fault) → AsksForAll {A = A} 1 a b (Err fault)
+failed_one name a b fault fetches = let one = fetches.fetches in record {
   whole = tt;
-  few = (1, omega arith, fetches.fetches);
+  more = omega (arith, one);
+  few = omega (arith, one);
   listings = fetches.listings;
   known = grew_nothing a.known b.known fetches.asked.untold;
   counts = fetches.asked.counts;

@@ -13,23 +13,23 @@ use Rattle.wap_devices.specs.declared.store.StoreErr.{StoreErr}
 use Rattle.wap_devices.specs.declared.store.StoreErr.TheVariants as store_error
 use Rattle.wap_cli.specs.declared.status.Status.{Status}
 use Rattle.wap_cli.specs.declared.status.Status.TheVariants.{StoreFault, NoMemory}
-use Rattle.wap_cli.specs.prepare.Fetching.{AsksFor}
+use Rattle.wap_cli.specs.prepare.Fetching.{AsksForAll}
 use Rattle.wap_cli.specs.prepare.Working.{WorksTo, WorksOnAll, AsksWithin}
 use Rattle.wap_cli.specs.Writing.{PutsTo}
 use Rattle.wap_cli.proofs.Writing.{writes_as}
 
--- no more pages were asked for than there are
-within : (pages : Contents) (names : List (List ℕ)) (more : ℕ) → more ≤ length names
-    → IsPermutation (names_of pages) names → more ≤ length pages
-within pages names more few all =
+-- there are as many pages as names
+as_many : (pages : Contents) (names : List (List ℕ)) → IsPermutation (names_of pages) names
+    → length names ≡ length pages
+as_many pages names all =
     let same = length_permutation (names_of pages) names all in
     let keys = length-keys_of pages in
-    omega (arith, few, same, keys)
+    omega (arith, same, keys)
 
 -- no page was asked for
 pub none_asked : (before after : StoreSeen) → after.fetches ≡ before.fetches
     → AsksWithin before after
-none_asked before after is pages agrees = (0, omega arith, omega (arith, is))
+none_asked before after is = (omega (arith, is), λ pages agrees. omega (arith, is))
 
 -- what is said of one text is said of another
 pub works_as : (Tells TellsToo : (List ℕ → Type 0) → Type 0)
@@ -94,7 +94,7 @@ module _ (Tells : (List ℕ → Type 0) → Type 0) {A : Type 0} (names_in : A �
   module _ (names : A) (lists : Lists names_in store listed (Ok names)) where
     -- it gave the names, and was asked for the pages
     listed_by : {B : Type 0} {result : Result B StoreErr} (status : Status) (last : SinkSeen)
-        → AsksFor (length (names_in names)) listed after result
+        → AsksForAll (length (names_in names)) listed after result
         → WorksTo Tells store after sink last status
         → WorksOnAll Tells store after sink last status
     listed_by status last asks ends =
@@ -102,15 +102,20 @@ module _ (Tells : (List ℕ → Type 0) → Type 0) {A : Type 0} (names_in : A �
         record { answers = []; lists = names_in names ∷ []; is = lists.told } in
         let first = lists.asked.counts in
         let second = asks.counts in
+        let listing_of = lists.fetches in
+        let more = asks.more in
+        let few = asks.few in
         record {
           ends = ends;
           once = inr (asks.listings ∙ lists.listings);
-          asked = λ pages agrees. (
-            asks.few.0,
-            within pages (names_in names) asks.few.0 asks.few.1
+          asked = (
+            omega (arith, listing_of, more),
+            λ pages agrees.
+                let many =
+                as_many pages (names_in names)
                 (lists.names pages
-                (agrees_before listed.known after.known asks.known pages agrees)),
-            omega (arith, asks.few.2, lists.fetches),
+                (agrees_before listed.known after.known asks.known pages agrees)) in
+                omega (arith, listing_of, few, many),
           );
           kept = grew_then store.known listed.known after.known listing asks.known;
           counts = omega (arith, first, second);
@@ -118,7 +123,7 @@ module _ (Tells : (List ℕ → Type 0) → Type 0) {A : Type 0} (names_in : A �
 
     -- it failed at a page
     pub page_fails : {B : Type 0}
-        → AsksFor {A = B} (length (names_in names)) listed after (Err store_error.Failed)
+        → AsksForAll {A = B} (length (names_in names)) listed after (Err store_error.Failed)
         → WorksOnAll Tells store after sink sink StoreFault
     page_fails asks =
         listed_by StoreFault sink asks
@@ -128,14 +133,14 @@ module _ (Tells : (List ℕ → Type 0) → Type 0) {A : Type 0} (names_in : A �
 
     -- memory ran out for the pages, or for what is done with them
     pub no_memory : {B : Type 0}
-        → AsksFor {A = B} (length (names_in names)) listed after (Err store_error.NoMemory)
+        → AsksForAll {A = B} (length (names_in names)) listed after (Err store_error.NoMemory)
         → WorksOnAll Tells store after sink sink NoMemory
     no_memory asks = listed_by NoMemory sink asks (WorksTo.no_memory refl)
 
     -- the text was written, or not
     pub ended : {B : Type 0} (text : List ℕ)
         → ((Wrote : List ℕ → Type 0) → Wrote text → Tells Wrote) → (worked : B)
-        → AsksFor {A = B} (length (names_in names)) listed after (Ok worked) → (status : Status)
+        → AsksForAll {A = B} (length (names_in names)) listed after (Ok worked) → (status : Status)
         → PutsTo text sink sink_after status → WorksOnAll Tells store after sink sink_after status
     ended text tells worked asks status puts =
         listed_by status sink_after asks

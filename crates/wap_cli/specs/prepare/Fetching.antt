@@ -7,10 +7,11 @@ use Rattle.wap_devices.specs.declared.store.StoreErr.TheVariants.{Failed}
 use Rattle.wap_cli.specs.Answers.{IsPageOf, page_of}
 
 -- for so many, up to a fault
-pub record AsksFor {A : Type 0} (count : ℕ) (before after : StoreSeen) (result : Result A StoreErr)
-    : Type 0 where
+pub record AsksForAll {A : Type 0} (count : ℕ) (before after : StoreSeen)
+    (result : Result A StoreErr) : Type 0 where
   pub whole : OnOk result (after.fetches ≡ before.fetches + count)
-  pub few : (more : ℕ) × (more ≤ count) × (after.fetches ≡ before.fetches + more)
+  pub more : before.fetches ≤ after.fetches
+  pub few : after.fetches ≤ before.fetches + count
   pub listings : after.listings ≡ before.listings
   pub known : Grew before.known after.known
   -- it fails only where the count of faults rose, which stays where it answers

@@ -24,8 +24,9 @@ pub data WorksTo (Tells : (List ℕ → Type 0) → Type 0) (store store_after :
 
 -- the store is asked for no more pages than there may be
 abbrev pub AsksWithin : StoreSeen → StoreSeen → Type 0
-AsksWithin before after = (pages : Contents) → Agrees after.known pages
-    → (more : ℕ) × (more ≤ length pages) × (after.fetches ≡ before.fetches + more)
+AsksWithin before after = (before.fetches ≤ after.fetches)
+    × ((pages : Contents) → Agrees after.known pages
+    → after.fetches ≤ before.fetches + length pages)
 
 -- the store and the sink, before and after, and how it ended. What there is to be written is a text
 -- of which Tells says what holds of it: for each fact, that it holds of the text.

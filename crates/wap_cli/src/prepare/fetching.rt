@@ -1,7 +1,7 @@
 //! Pages that a store is asked for, one after the other.
 ghost use Rattle.std.specs.Prelude.{◌≡◌, All, IfOk, length};
 ghost use Rattle.std.specs.Map.{keys_of};
-ghost use Rattle.wap_cli.specs.prepare.Fetching.{AsksFor};
+ghost use Rattle.wap_cli.specs.prepare.Fetching.{AsksForAll};
 ghost use Rattle.wap_cli.specs.prepare.Fetching.{IsAnswered};
 
 use crate::prepare::job::Job;
@@ -13,7 +13,7 @@ use wap_devices::{Store, StoreErr};
 fn fetch_one<S: Store>(alloc: Global, store: &mut S, name: &Text) -> Result<Job, StoreErr>
     ensures name { IfOk result (λ job. job.0 ≡ name.now) }
     ensures answered { IfOk result (IsAnswered (S.seen store.new).known) }
-    ensures asks { AsksFor 1 (S.seen store.old) (S.seen store.new) result }
+    ensures asks { AsksForAll 1 (S.seen store.old) (S.seen store.new) result }
 {
     let copy = match name.copy(alloc) {
         Ok(copy) => copy,
@@ -34,7 +34,7 @@ pub fn fetch_all<S: Store>(
     ensures names { IfOk result (λ jobs. keys_of jobs.items ≡ names.now) }
     ensures answered { IfOk result (λ jobs. All (IsAnswered (S.seen store.new).known)
         jobs.items) }
-    ensures asks { AsksFor (length names.now) (S.seen store.old) (S.seen store.new) result }
+    ensures asks { AsksForAll (length names.now) (S.seen store.old) (S.seen store.new) result }
 {
     let mut jobs = match Vec::with_capacity(alloc, names.len()) {
         Ok(jobs) => jobs,

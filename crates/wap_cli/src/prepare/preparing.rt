@@ -3,7 +3,7 @@ ghost use Rattle.std.specs.Prelude.{◌<◌, ◌≡◌, All, IfOk, length};
 ghost use Rattle.std.specs.List.{AllZip};
 ghost use Rattle.std.specs.Map.{keys_of};
 ghost use Rattle.wap_cli.specs.prepare.Reports.{IsEntry, report};
-ghost use Rattle.wap_cli.specs.prepare.Fetching.{AsksFor};
+ghost use Rattle.wap_cli.specs.prepare.Fetching.{AsksForAll};
 ghost use Rattle.wap_cli.specs.prepare.Preparing.{Prepares};
 ghost use Rattle.wap_cli.specs.prepare.inside.Jobs.{IsRight};
 ghost use Rattle.wap_cli.specs.Writing.{PutsTo};
@@ -53,7 +53,7 @@ fn judge_some<R: Threads + Sync, S: Store, G: Gate + Sync>(
     ensures names { IfOk result (λ entries. keys_of entries.items ≡ names.now) }
     ensures right { IfOk result (λ entries. All (IsEntry (S.seen store.new).known)
         entries.items) }
-    ensures asks { AsksFor (length names.now) (S.seen store.old) (S.seen store.new) result }
+    ensures asks { AsksForAll (length names.now) (S.seen store.old) (S.seen store.new) result }
 {
     let jobs = match fetch_all(alloc, store, names) {
         Ok(jobs) => jobs,
@@ -79,7 +79,7 @@ fn judge_all<R: Threads + Sync, S: Store, G: Gate + Sync>(
     ensures names { IfOk result (λ entries. keys_of entries.items ≡ names.now) }
     ensures right { IfOk result (λ entries. All (IsEntry (S.seen store.new).known)
         entries.items) }
-    ensures asks { AsksFor (length names.now) (S.seen store.old) (S.seen store.new) result }
+    ensures asks { AsksForAll (length names.now) (S.seen store.old) (S.seen store.new) result }
 {
     let most = PAGES_EACH * usize::from(workers);
     let mut entries = Vec::new(alloc);

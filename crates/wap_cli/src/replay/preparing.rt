@@ -4,7 +4,7 @@ ghost use Rattle.std.specs.List.{AllZip};
 ghost use Rattle.wap_base.specs.Contents.{Contents};
 ghost use Rattle.wap_base.specs.Texts.{AreAscending};
 ghost use Rattle.wap_devices.specs.Stores.{Agrees};
-ghost use Rattle.wap_cli.specs.prepare.Fetching.{AsksFor};
+ghost use Rattle.wap_cli.specs.prepare.Fetching.{AsksForAll};
 ghost use Rattle.wap_cli.specs.replay.inside.Jobs.{IsJudged, is_there, present, pages_named};
 
 use crate::prepare::{Job, all_answers, fetch_all};
@@ -65,7 +65,7 @@ pub(crate) fn prepare_pages<R: Threads + Sync, S: Store, G: Gate + Sync>(
     requires ascending { AreAscending names.now }
     ensures pages { IfOk result (λ pages. (contents : Contents)
         → Agrees (S.seen store.new).known contents → pages ≡ pages_named contents names.now) }
-    ensures asks { AsksFor (length names.now) (S.seen store.old) (S.seen store.new) result }
+    ensures asks { AsksForAll (length names.now) (S.seen store.old) (S.seen store.new) result }
 {
     let jobs = match fetch_all(alloc, store, names) {
         Ok(jobs) => jobs,
