@@ -27,9 +27,9 @@ use Rattle.wap_cli.specs.Answers.{Answers, page_of}
 use Rattle.wap_pages.specs.Memory.{is_of_memory}
 use Rattle.wap_cli.specs.Writing.{Writes}
 use Rattle.wap_cli.proofs.Writing.{writes_unrefused}
-use Rattle.wap_cli.specs.Devices.{Devices, uncached}
+use Rattle.wap_cli.specs.Devices.{Devices}
 use Rattle.wap_cli.specs.Headline.{begun_by, each_begun_by, ServesTo, Serves, ServesUnread, Runs}
-use Rattle.wap_cli.proofs.Sourcing.{browses_over}
+use Rattle.wap_cli.proofs.Sourcing.{browses_over, fresh}
 use Rattle.wap_cli.proofs.SourcedSessions.{images_over, resumes_over}
 use Rattle.wap_cli.proofs.SourcedLists.{replays_over}
 
@@ -51,13 +51,13 @@ pub nothing_runs : (said : Option Command) (old : Devices) → Runs said old old
 nothing_runs None old = record { ends = inr refl; untouched = refl }
 nothing_runs (Some (Browse one)) old =
     browses_over (begun_by one) one.cache old old NoMemory
-    (nothing_browses (opened (begun_by one)) (uncached one.cache old))
+    (nothing_browses (opened (begun_by one)) (fresh one.cache old))
 nothing_runs (Some (Image one)) old =
     images_over one.cache old old NoMemory (begun_by one)
-    (nothing_imaged (begun_by one) (uncached one.cache old))
+    (nothing_imaged (begun_by one) (fresh one.cache old))
 nothing_runs (Some (Resume one)) old =
     resumes_over one.cache old old NoMemory one.name
-    (nothing_resumed one.name (uncached one.cache old))
+    (nothing_resumed one.name (fresh one.cache old))
 nothing_runs (Some (Page command name)) old = nothing_served command name old
 nothing_runs (Some (Prepare workers)) old =
     record {

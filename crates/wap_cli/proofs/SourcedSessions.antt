@@ -1,6 +1,6 @@
 -- What is said of sessions that are saved and gone on with over the units that a store's pages are
 -- judged to is said of them over the sources that its pages are.
-use Rattle.std.proofs.Common.{◌≡◌, ℕ, List, [], ap, subst}
+use Rattle.std.proofs.Common.{◌≡◌, ℕ, List, [], refl, ap, subst}
 use Rattle.wap_base.specs.declared.key.Key.{Key}
 use Rattle.wap_keys.specs.Lines.{keys_of}
 use Rattle.wap_image.specs.Images.{Saved}
@@ -14,12 +14,12 @@ use Rattle.wap_cli.specs.resume.Saving.{opened_at, nothing_dropped, unshown, End
 use Rattle.wap_cli.specs.resume.Saving.{Images}
 use Rattle.wap_cli.specs.resume.Saving.{ImagesSeen}
 use Rattle.wap_cli.specs.resume.Resuming.{resumed_at, asked_once, GoesOn, Resumes, ResumesSeen}
-use Rattle.wap_cli.specs.Devices.{Devices, uncached}
+use Rattle.wap_cli.specs.Devices.{Devices}
 use Rattle.wap_cli.specs.Networks.{Network, network_of}
 use Rattle.wap_cli.specs.Browsing.{ArePagesAndReaders, source_network}
 use Rattle.wap_cli.specs.SavedSessions.{ImagesOver, ResumesOver}
-use Rattle.wap_cli.proofs.BrowseLemmas.Forgetting.{browses_too}
-use Rattle.wap_cli.proofs.Sourcing.{units_of}
+use Rattle.wap_cli.proofs.BrowseLemmas.Forgetting.{unjudged, browses_unjudged}
+use Rattle.wap_cli.proofs.Sourcing.{units_of, fresh}
 
 -- ---- other pages with the same network
 
@@ -34,14 +34,15 @@ module _ {P Q : Type 0} (Are : P → Type 0) (network : P → Network) (AreToo :
   -- keys that are played over the networks
   plays_too : (play : Network → List Key → Step) (old new : Outside) (status : Status)
       → Browses Are (λ p. play (network p)) old new status
-      → Browses AreToo (λ q. play (network_too q)) old new status
+      → Browses AreToo (λ q. play (network_too q)) (unjudged old) (unjudged new) status
   plays_too play old new status so =
-      browses_too Are (λ p. play (network p)) AreToo (λ q. play (network_too q))
+      browses_unjudged Are (λ p. play (network p)) AreToo (λ q. play (network_too q))
       (λ q are. let found = same q are in (found.0, found.1, ap play found.2)) old new status so
 
   -- a session that is saved
   images_too : (begun : Begun) (old new : Outside) (status : Status)
-      → Images Are network begun old new status → Images AreToo network_too begun old new status
+      → Images Are network begun old new status
+      → Images AreToo network_too begun (unjudged old) (unjudged new) status
   images_too begun old new status so = record {
     dropped = so.dropped;
     end = so.end;
@@ -60,8 +61,8 @@ module _ {P Q : Type 0} (Are : P → Type 0) (network : P → Network) (AreToo :
 
   -- and one that goes on
   goes_on_too : (name : List ℕ) (old new : Outside) (status : Status) (saved : Saved)
-      → GoesOn Are network name old new status saved → GoesOn AreToo network_too name old new status
-      saved
+      → GoesOn Are network name old new status saved
+      → GoesOn AreToo network_too name (unjudged old) (unjudged new) status saved
   goes_on_too name old new status saved so = record {
     there = so.there;
     browses = plays_too (resumed_at saved.0 saved.1) (asked_once name so.there.bytes old) new status
@@ -69,19 +70,32 @@ module _ {P Q : Type 0} (Are : P → Type 0) (network : P → Network) (AreToo :
   }
 
   resumes_too : (name : List ℕ) (old new : Outside) (status : Status)
-      → Resumes Are network name old new status → Resumes AreToo network_too name old new status
+      → Resumes Are network name old new status
+      → Resumes AreToo network_too name (unjudged old) (unjudged new) status
   resumes_too name old new status (Resumes.goes_on saved so) =
       Resumes.goes_on saved (goes_on_too name old new status saved so)
-  resumes_too name old new status (Resumes.stops unbegun) = Resumes.stops unbegun
+  resumes_too name old new status (Resumes.stops unbegun) = Resumes.stops (record {
+    ends = unbegun.ends;
+    stays = record {
+      known = unbegun.stays.known;
+      judge = refl;
+      capacity = unbegun.stays.capacity;
+      listings = unbegun.stays.listings;
+      faults = unbegun.stays.faults;
+      fetches = unbegun.stays.fetches;
+    };
+    unread = unbegun.unread;
+    unwritten = unbegun.unwritten;
+  })
 
 -- ---- over the pages of a store
 
 module _ (capacity : ℕ) (old new : Devices) (status : Status) where
   abbrev before : Outside
-  before = uncached capacity old
+  before = fresh capacity old
 
   abbrev after : Outside
-  after = uncached capacity new
+  after = fresh capacity new
 
   -- saving over units is saving over sources
   pub images_over : (begun : Begun) → ImagesSeen begun before after status

@@ -21,7 +21,7 @@ use Rattle.wap_cli.specs.browse.Endings.{at_end}
 use Rattle.wap_cli.specs.browse.Handling.{bytes_of}
 use Rattle.wap_cli.specs.browse.Plays.{AreUnitPages as AreSeen, opened}
 use Rattle.wap_cli.specs.browse.Headline.{AtEnd, Ends, Browses, BrowsesSeen}
-use Rattle.wap_cli.proofs.BrowseLemmas.Forgetting.{browses_too}
+use Rattle.wap_cli.proofs.BrowseLemmas.Forgetting.{browses_unjudged, fresh_over}
 use Rattle.wap_cli.specs.Devices.{Devices, uncached}
 use Rattle.wap_cli.specs.Networks.{network_of}
 use Rattle.wap_cli.specs.resume.Saving.{opened_at}
@@ -62,6 +62,10 @@ opened_same store cache begun one are =
       ap (opened_at begun) found.2,
     )
 
+-- the outside over a store with the judgements of its pages, none of which is kept yet
+abbrev pub fresh : ℕ → Devices → Outside
+fresh capacity devices = fresh_over devices.store capacity devices.source devices.sink
+
 module _ (begun : Begun) (capacity : ℕ) (old new : Devices) (status : Status) where
   abbrev before : Outside
   before = uncached capacity old
@@ -93,11 +97,12 @@ module _ (begun : Begun) (capacity : ℕ) (old new : Devices) (status : Status) 
       (end.all.played.played one (contents, agrees, differ.are, reads)).wrote
 
   -- browsing over units is browsing over sources
-  pub browses_over : BrowsesSeen (opened begun) before after status
+  pub browses_over : BrowsesSeen (opened begun) (fresh capacity old) (fresh capacity new) status
       → BrowsesOver begun capacity old new status
   browses_over so =
       let browses : Browses (ArePagesAndReaders new.store) (opened_over begun) before after status =
-      browses_too (AreSeen after.pages) (opened begun) (ArePagesAndReaders new.store)
-      (opened_over begun) (opened_same new.store (record { names = []; capacity = capacity }) begun)
-      before after status so in
+      browses_unjudged (AreSeen (fresh capacity new).pages) (opened begun)
+      (ArePagesAndReaders new.store) (opened_over begun)
+      (opened_same new.store (record { names = []; capacity = capacity }) begun)
+      (fresh capacity old) (fresh capacity new) status so in
       record { browses = browses; denied = writes_over browses }

@@ -1,7 +1,8 @@
 -- What is said of browsing over some pages is said over others, over which keys come to the same;
--- and nothing is said of what a cache keeps afterwards.
+-- and nothing is said of what a cache keeps afterwards, nor of what contents are judged to be.
 use Rattle.std.proofs.Common.{◌≡◌, ℕ, List, [], Option, Some, refl, sym, subst}
 use Rattle.std.specs.Prelude.{Bool, true, false, option_map}
+use Rattle.wap_base.specs.Contents.{Contents}
 use Rattle.wap_devices.specs.Stores.{StoreSeen}
 use Rattle.wap_devices.specs.Sources.{SourceSeen}
 use Rattle.wap_devices.specs.Sinks.{SinkSeen}
@@ -26,6 +27,14 @@ use Rattle.wap_cli.specs.browse.Headline.{ArePlayed, AreAll, AtEnd, Ends, Browse
 abbrev pub with_cache : Option Cache → Outside → Outside
 with_cache cache new = record new { pages = record new.pages { cache = cache } }
 
+-- the outside, with other judgements
+abbrev judged_so : (Contents → JudgedPages) → Outside → Outside
+judged_so judge outside = record outside { pages = record outside.pages { judge = judge } }
+
+-- with none
+abbrev pub unjudged : Outside → Outside
+unjudged = judged_so (λ contents. [])
+
 -- with any cache there may be the same pages
 pub may_too : (seen : Seen) (cache : Option Cache) (pages : JudgedPages)
     → MayBe (record seen { cache = cache }) pages → MayBe seen pages
@@ -36,9 +45,12 @@ may_too seen cache pages may =
 module _ {P Q : Type 0} (Are : P → Type 0) (play : P → List Key → Step) (AreToo : Q → Type 0)
     (play_too : Q → List Key → Step)
     (same : (q : Q) → AreToo q → (p : P) × Are p × (play p ≡ play_too q)) (old new : Outside)
-    (cache : Option Cache) where
+    (cache : Option Cache) (one other : Contents → JudgedPages) (alike : other ≡ one) where
+  abbrev first : Outside
+  first = judged_so one old
+
   abbrev last : Outside
-  last = with_cache cache new
+  last = judged_so other (with_cache cache new)
 
   -- what holds over all of the first holds over the others
   over : (Fact : (List Key → Step) → Type 0) → ((p : P) → Are p → Fact (play p)) → (q : Q)
@@ -48,9 +60,9 @@ module _ {P Q : Type 0} (Are : P → Type 0) (play : P → List Key → Step) (A
   module _ (taken : List ℕ) (given : List Key) where
     -- keys that were played
     played_too : ArePlayed Are play old new taken given
-        → ArePlayed AreToo play_too old last taken given
+        → ArePlayed AreToo play_too first last taken given
     played_too so = record {
-      played = over (λ of. IsPlayed of given old last) (λ pages are.
+      played = over (λ of. IsPlayed of given first last) (λ pages are.
           let one = so.played pages are in record { wrote = one.wrote; asked = one.asked });
       store = so.store;
       sink = so.sink;
@@ -58,11 +70,11 @@ module _ {P Q : Type 0} (Are : P → Type 0) (play : P → List Key → Step) (A
 
     -- keys that were read to their end
     all_too : (by : Ending) → AreAll Are play old new taken given by
-        → AreAll AreToo play_too old last taken given by
+        → AreAll AreToo play_too first last taken given by
     all_too by so = record { all = so.all; played = played_too so.played; source = so.source }
 
     end_too : (is_open : Bool) → AtEnd Are play old new taken given is_open
-        → AtEnd AreToo play_too old last taken given is_open
+        → AtEnd AreToo play_too first last taken given is_open
     end_too is_open so = record {
       all = all_too way.End so.all;
       whole = so.whole;
@@ -71,7 +83,7 @@ module _ {P Q : Type 0} (Are : P → Type 0) (play : P → List Key → Step) (A
 
     -- however it ended
     ends_too : (status : Status) → Ends Are play old new taken given status
-        → Ends AreToo play_too old last taken given status
+        → Ends AreToo play_too first last taken given status
     ends_too status (Ends.done so) = Ends.done (end_too false so)
     ends_too status (Ends.open_dialog so) = Ends.open_dialog (end_too true so)
     ends_too status (Ends.bad_key line fault of_line so) =
@@ -81,22 +93,22 @@ module _ {P Q : Type 0} (Are : P → Type 0) (play : P → List Key → Step) (A
     ends_too status (Ends.read_fault rose read so) = Ends.read_fault rose read (played_too so)
     ends_too status (Ends.store_fault rose source sink at_last so) =
         Ends.store_fault rose source sink at_last
-        (over (λ of. StopsAtStore of given old last) (λ pages are.
+        (over (λ of. StopsAtStore of given first last) (λ pages are.
         let one = so pages are in record { wrote = one.wrote; asked = one.asked }))
     ends_too status (Ends.write_fault rose source store at_last so) =
         Ends.write_fault rose source store at_last
-        (over (λ of. StopsAtSink of given old last) (λ pages are.
+        (over (λ of. StopsAtSink of given first last) (λ pages are.
         let one = so pages are in record { wrote = one.wrote; asked = one.asked }))
     ends_too status (Ends.no_memory source sink so) =
         Ends.no_memory source sink
-        (over (λ of. StopsForMemory of given old last) (λ pages are.
+        (over (λ of. StopsForMemory of given first last) (λ pages are.
         let one = so pages are in
         record { count = one.count; least = one.least; most = one.most; wrote = one.wrote }))
 
   -- all that is said, but that the cache has room for as many pages as before
   pub browses_by : (status : Status) → option_map (λ kept. kept.capacity) cache
       ≡ option_map (λ kept. kept.capacity) old.pages.cache
-      → Browses Are play old new status → Browses AreToo play_too old last status
+      → Browses Are play old new status → Browses AreToo play_too first last status
   browses_by status room so = record {
     taken = so.taken;
     given = so.given;
@@ -107,7 +119,7 @@ module _ {P Q : Type 0} (Are : P → Type 0) (play : P → List Key → Step) (A
         (so.prefix bytes gives);
     stays = record {
       known = so.stays.known;
-      judge = so.stays.judge;
+      judge = alike;
       capacity = room;
       listings = so.stays.listings;
       faults = so.stays.faults;
@@ -123,7 +135,18 @@ pub browses_too : {P Q : Type 0} (Are : P → Type 0) (play : P → List Key →
     → ((q : Q) → AreToo q → (p : P) × Are p × (play p ≡ play_too q)) → (old new : Outside)
     (status : Status) → Browses Are play old new status → Browses AreToo play_too old new status
 browses_too Are play AreToo play_too same old new status so =
-    browses_by Are play AreToo play_too same old new new.pages.cache status so.stays.capacity so
+    browses_by Are play AreToo play_too same old new new.pages.cache old.pages.judge new.pages.judge
+    so.stays.judge status so.stays.capacity so
+
+-- and with no judgements
+pub browses_unjudged : {P Q : Type 0} (Are : P → Type 0) (play : P → List Key → Step)
+    (AreToo : Q → Type 0) (play_too : Q → List Key → Step)
+    → ((q : Q) → AreToo q → (p : P) × Are p × (play p ≡ play_too q)) → (old new : Outside)
+    (status : Status) → Browses Are play old new status
+    → Browses AreToo play_too (unjudged old) (unjudged new) status
+browses_unjudged Are play AreToo play_too same old new status so =
+    browses_by Are play AreToo play_too same old new new.pages.cache (λ contents. [])
+    (λ contents. []) refl status so.stays.capacity so
 
 -- and over the same pages
 pub forget_cache : (play : Play) (old new : Outside) (status : Status) (cache : Option Cache)
@@ -133,7 +156,7 @@ pub forget_cache : (play : Play) (old new : Outside) (status : Status) (cache : 
 forget_cache play old new status cache room so =
     browses_by (AreUnitPages new.pages) play (AreUnitPages (with_cache cache new).pages) play
     (λ pages (judged, may, is). (pages, (judged, may_too new.pages cache judged may, is), refl)) old
-    new cache status room so
+    new cache old.pages.judge new.pages.judge so.stays.judge status room so
 
 -- ---- over the pages of a store
 

@@ -4,9 +4,9 @@ use Rattle.wap_cli.specs.browse.Plays.{opened}
 use Rattle.wap_cli.proofs.BrowseLemmas.Exits.{nothing_browses}
 use Rattle.wap_cli.proofs.BrowseLemmas.Forgetting.{browsed_over}
 use Rattle.wap_cli.specs.Browsing.{BrowsesOver}
-use Rattle.wap_cli.specs.Devices.{Devices, uncached}
+use Rattle.wap_cli.specs.Devices.{Devices}
 use Rattle.wap_cli.specs.Headline.{begun_by}
-use Rattle.wap_cli.proofs.Sourcing.{browses_over}
+use Rattle.wap_cli.proofs.Sourcing.{browses_over, fresh}
 use Rattle.wap_cli.proofs.browsing.browse.Goals as goal
 
 pub returns-in-Err : goal.returns-in-Err
@@ -21,7 +21,7 @@ returns-in-Err g c =
     (record { store = g.S.Store.seen store; source = source; sink = sink }) NoMemory)
     (sym c.in-Err.ensures.back)
     (browses_over begun capacity devices devices NoMemory
-    (nothing_browses (opened begun) (uncached capacity devices)))
+    (nothing_browses (opened begun) (fresh capacity devices)))
 
 pub returns : goal.returns
 returns g c =

@@ -1,9 +1,10 @@
 use Rattle.std.proofs.Common.{sym, subst}
 use Rattle.wap_cli.specs.declared.status.Status.TheVariants.{NoMemory}
 use Rattle.wap_cli.proofs.ResumeLemmas.Going.{nothing_imaged, imaged_over}
-use Rattle.wap_cli.specs.Devices.{Devices, uncached}
+use Rattle.wap_cli.specs.Devices.{Devices}
 use Rattle.wap_cli.specs.Headline.{begun_by}
 use Rattle.wap_cli.specs.SavedSessions.{ImagesOver}
+use Rattle.wap_cli.proofs.Sourcing.{fresh}
 use Rattle.wap_cli.proofs.SourcedSessions.{images_over}
 use Rattle.wap_cli.proofs.saved.image.Goals as goal
 
@@ -19,7 +20,7 @@ returns-in-Err g c =
     (record { store = g.S.Store.seen store; source = source; sink = sink }) NoMemory)
     (sym c.in-Err.ensures.back)
     (images_over capacity devices devices NoMemory begun
-    (nothing_imaged begun (uncached capacity devices)))
+    (nothing_imaged begun (fresh capacity devices)))
 
 pub returns : goal.returns
 returns g c =
