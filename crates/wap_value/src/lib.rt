@@ -19,5 +19,5 @@ pub use conversion::{to_bool, to_int, to_str};
 pub use fault::ValueFault;
 pub use one_operand::unary;
 pub use operator::{BinOp, UnOp};
-pub use two_operands::binary;
+pub use two_operands::{binary, combine};
 pub use value::Value;

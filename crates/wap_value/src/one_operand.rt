@@ -1,14 +1,45 @@
 //! The operators of one operand.
 ghost use Rattle.std.specs.Prelude.{◌≡◌};
 ghost use Rattle.wap_value.specs.Conversion.{integer_value, boolean_value};
+ghost use Rattle.wap_value.specs.declared.value.Value.TheVariants.{Int};
 ghost use Rattle.wap_value.specs.Unary.{unary_of, type_number};
 
 use crate::{UnOp, Value, to_bool, to_int};
 
 /// What an operator makes of a value. Whatever has no result, as the negation of the least Integer,
 /// gives invalid.
-#[tactic(auto, using(crate::proofs::Range::checked_is_in_range))]
+#[inline(always)]
 pub fn unary(op: UnOp, value: Value) -> Value
+    ensures { result ≡ unary_of op value }
+{
+    match value {
+        Value::Int(number) => of_one_integer(op, number),
+        _ => of_any(op, value),
+    }
+}
+
+/// What an operator makes of an Integer.
+#[tactic(auto, using(crate::proofs::Range::checked_is_in_range))]
+fn of_one_integer(op: UnOp, number: i32) -> Value
+    ensures { result ≡ unary_of op (Int number) }
+{
+    match op {
+        UnOp::Plus => Value::Int(number),
+        UnOp::Minus => of_integer(number.checked_neg()),
+        UnOp::BitNot => Value::Int(!number),
+        UnOp::Not => Value::Bool(number == 0),
+        UnOp::TypeOf => Value::Int(0),
+        UnOp::IsValid => Value::Bool(true),
+        UnOp::ToBool => Value::Bool(number != 0),
+        UnOp::Incr => of_integer(number.checked_add(1)),
+        UnOp::Decr => of_integer(number.checked_sub(1)),
+    }
+}
+
+/// What an operator makes of a value. Whatever has no result, as the negation of the least Integer,
+/// gives invalid.
+#[tactic(auto, using(crate::proofs::Range::checked_is_in_range))]
+fn of_any(op: UnOp, value: Value) -> Value
     ensures { result ≡ unary_of op value }
 {
     match op {

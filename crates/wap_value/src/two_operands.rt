@@ -1,5 +1,6 @@
 //! The operators of two operands.
 ghost use Rattle.std.specs.Prelude.{◌≡◌, ℕ, Err};
+ghost use Rattle.wap_value.specs.declared.value.Value.TheVariants.{Int};
 ghost use Rattle.wap_value.specs.Binary.{TakesBoth, binary_of, sum_of, on_integers};
 ghost use Rattle.wap_value.specs.Conversion.{integer_of};
 ghost use Rattle.wap_base.specs.Limits.{IsStringLimit};
@@ -15,8 +16,99 @@ use std::alloc::Global;
 
 /// What an operator makes of two values, where a String has at most `string` bytes of UTF-8. `&&`,
 /// `||` and `,` are no such operators: the machine takes their operands one at a time.
-#[tactic(auto, using(crate::proofs::Kept::on_integers_is_kept))]
+#[inline(always)]
 pub fn binary(
+    alloc: Global,
+    op: BinOp,
+    left: &Value,
+    right: &Value,
+    string: u32,
+) -> Result<Value, ValueFault>
+    requires operator { TakesBoth op }
+    requires limit { IsStringLimit string }
+    ensures value { Meets ValueFault.NoMemory (λ value. value) result
+        (kept_within string (binary_of op left.now right.now)) }
+    ensures too_long { (bytes : ℕ) → result ≡ Err (ValueFault.TooLong bytes)
+        → IsTooLong string (binary_of op left.now right.now) bytes }
+{
+    match (left, right) {
+        (Value::Int(left), Value::Int(right)) => Ok(of_two_integers(op, *left, *right)),
+        _ => of_any(alloc, op, left, right, string),
+    }
+}
+
+/// What an operator makes of two values that are let go, as `binary` says.
+#[inline(always)]
+pub fn combine(
+    alloc: Global,
+    op: BinOp,
+    left: Value,
+    right: Value,
+    string: u32,
+) -> Result<Value, ValueFault>
+    requires operator { TakesBoth op }
+    requires limit { IsStringLimit string }
+    ensures value { Meets ValueFault.NoMemory (λ value. value) result
+        (kept_within string (binary_of op left right)) }
+    ensures too_long { (bytes : ℕ) → result ≡ Err (ValueFault.TooLong bytes)
+        → IsTooLong string (binary_of op left right) bytes }
+{
+    match (left, right) {
+        (Value::Int(left), Value::Int(right)) => Ok(of_two_integers(op, left, right)),
+        (left, right) => of_any_owned(alloc, op, left, right, string),
+    }
+}
+
+// A call, so that Integers are taken where they stand.
+#[inline(never)]
+fn of_any_owned(
+    alloc: Global,
+    op: BinOp,
+    left: Value,
+    right: Value,
+    string: u32,
+) -> Result<Value, ValueFault>
+    requires operator { TakesBoth op }
+    requires limit { IsStringLimit string }
+    ensures value { Meets ValueFault.NoMemory (λ value. value) result
+        (kept_within string (binary_of op left right)) }
+    ensures too_long { (bytes : ℕ) → result ≡ Err (ValueFault.TooLong bytes)
+        → IsTooLong string (binary_of op left right) bytes }
+{
+    of_any(alloc, op, &left, &right, string)
+}
+
+/// What an operator makes of two Integers.
+fn of_two_integers(op: BinOp, left: i32, right: i32) -> Value
+    requires { TakesBoth op }
+    ensures { result ≡ binary_of op (Int left) (Int right) }
+{
+    match op {
+        BinOp::Lt => Value::Bool(left < right),
+        BinOp::Le => Value::Bool(left <= right),
+        BinOp::Gt => Value::Bool(left > right),
+        BinOp::Ge => Value::Bool(left >= right),
+        BinOp::Eq => Value::Bool(left == right),
+        BinOp::Ne => Value::Bool(left != right),
+        BinOp::Add
+        | BinOp::Mul
+        | BinOp::Div
+        | BinOp::IDiv
+        | BinOp::Rem
+        | BinOp::Sub
+        | BinOp::Shl
+        | BinOp::Shr
+        | BinOp::UShr
+        | BinOp::BitAnd
+        | BinOp::BitXor
+        | BinOp::BitOr => of_integer(integer_result(op, left, right)),
+        BinOp::And | BinOp::Or | BinOp::Comma => unreachable!(),
+    }
+}
+
+/// What an operator makes of any two values.
+#[tactic(auto, using(crate::proofs::Kept::on_integers_is_kept))]
+fn of_any(
     alloc: Global,
     op: BinOp,
     left: &Value,
