@@ -1,5 +1,5 @@
 //! Reading an instruction.
-ghost use Rattle.std.specs.Prelude.{◌≡◌, ℕ, ◌+◌, ◌<◌, ◌≤◌, length, slice_index};
+ghost use Rattle.std.specs.Prelude.{◌≡◌, ℕ, ◌+◌, ◌<◌, ◌≤◌, List, length, slice_index};
 ghost use Rattle.std.specs.Prelude.{slice_get, IfOk, IfSome, ⊤};
 ghost use Rattle.std.specs.Bool.{MatchBool};
 ghost use Rattle.wap_unit.specs.Instructions.{width, size, row_of, value, read_row, instr_at};
@@ -43,6 +43,20 @@ fn operand(code: &[u8], at: usize, slot: Slot, low: u8) -> u32
     }
 }
 
+/// The operand that stands in the code of an instruction, if it is there.
+fn in_code(slot: Slot, low: u8) -> Option<u32>
+    ensures value { IfSome result (λ operand. (width slot ≡ 0)
+        × ((code : List ℕ) (at : ℕ) → operand ≡ value code at slot low)) }
+    ensures within { IfSome result (λ operand. (count : ℕ) → low < count
+        → operand < limit count slot) }
+{
+    match slot {
+        Slot::Absent => Some(0),
+        Slot::Low => Some(u32::from(low)),
+        Slot::Byte | Slot::Word => None,
+    }
+}
+
 /// Whether a row has no operand but the first.
 fn has_one_at_most(row: Row) -> bool
     ensures { MatchBool result ((row.b ≡ slot.Absent) × (row.c ≡ slot.Absent)) ⊤ }
@@ -66,6 +80,15 @@ pub fn read_row(row: Row, code: &[u8], at: usize) -> Result<Instr, InstrFault>
     let left = code.len() - at;
     let low = code[at] - row.first;
     if has_one_at_most(row) {
+        if let Some(a) = in_code(row.a, low) {
+            return Ok(Instr {
+                name: row.name,
+                a,
+                b: 0,
+                c: 0,
+                next: at + 1,
+            });
+        }
         let size = 1 + width(row.a);
         if left < size {
             return Err(InstrFault::Operand);
