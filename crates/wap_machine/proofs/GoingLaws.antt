@@ -44,6 +44,7 @@ pub passed_more : (string : ℕ) (first now after : Frame) → Passed string fir
 passed_more string first now after passed within acts = record {
   frames = now ∷ passed.frames;
   are = (record { within = within; acts = acts }, passed.are);
+  same = acts.does.same ∙ passed.same;
   stands = stands_for string now after Onward acts;
 }
 
@@ -83,12 +84,12 @@ weight_falls limits frames wanted advanced =
     subst (λ (l : List Frame). weight (advanced.now ∷ advanced.outer) ≤ weight l)
     (sym advanced.are) (omega arith)
 
-below_more : (turns left : ℕ) (some more : List Frame) (step : Step) → weight some ≤ weight more
-    → GoesBelow (effort turns some) left step → GoesBelow (effort turns more) left step
-below_more turns left some more (Goes machine) less below =
-    let under : effort left machine.frames < effort turns some = below in
+pub below_more : (some more left : ℕ) (step : Step) → some ≤ more → GoesBelow some left step
+    → GoesBelow more left step
+below_more some more left (Goes machine) less below =
+    let under : effort left machine.frames < some = below in
     omega arith
-below_more turns left some more (Ends outcome) less below = tt
+below_more some more left (Ends outcome) less below = tt
 
 pub nothing_kept : (limits : Limits) (frames : List Frame) (step : Step)
     → IsAdvanced limits frames (Nothing step) → Kept limits frames step
@@ -99,8 +100,10 @@ nothing_kept limits frames step advanced =
       stay = kept.stay;
       no_want = kept.no_want;
       falls =
-          λ turns. below_more turns turns (here limits frames (Nothing step) advanced) frames step
-          (weight_falls limits frames (Nothing step) advanced) (kept.falls turns);
+          λ turns.
+          let less = weight_falls limits frames (Nothing step) advanced in
+          below_more (effort turns (here limits frames (Nothing step) advanced))
+          (effort turns frames) turns step (omega arith) (kept.falls turns);
     }
 
 pub turn_kept : (limits : Limits) (frames : List Frame) (machine : Stack)

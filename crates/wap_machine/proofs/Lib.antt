@@ -9,3 +9,4 @@ pub mod StepLaws
 pub mod GoingLaws
 pub mod RunsLaws
 pub mod BoundedLaws
+mod RoundLaws

@@ -6,3 +6,4 @@ pub mod Efforts
 pub mod Goings
 pub mod Advances
 pub mod MachineSteps
+pub mod Rounds

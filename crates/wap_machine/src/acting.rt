@@ -7,42 +7,41 @@ ghost use Rattle.wap_execution.specs.Frames.{code_of};
 ghost use Rattle.wap_execution.specs.Effects.{effect_of, onward, back, backward, jumps_at, pair_by};
 ghost use Rattle.wap_execution.specs.declared.action.Action.TheVariants as action;
 ghost use Rattle.wap_machine.specs.Standing.{Fits};
-ghost use Rattle.wap_machine.specs.inside.InstructionParts.{going, giving, going_back, IsDone};
+ghost use Rattle.wap_machine.specs.inside.InstructionParts.{going, giving, going_back, Stays};
 
 use crate::frame::Frame;
-use crate::next::Next;
+use crate::next::Course;
 use std::alloc::Global;
 use wap_base::NoMemory;
-use wap_execution::Fatal;
 use wap_unit::Instr;
 use wap_value::{BinOp, UnOp, Value, ValueFault, binary, to_bool, unary};
 
 /// Goes on further on.
-pub(crate) fn pass_on(frame: &mut Frame, place: usize) -> Next
-    ensures { IsDone frame.old (going place frame.old) frame.new result }
+pub(crate) fn pass_on(frame: &mut Frame, place: usize) -> Course
+    ensures { Stays frame.old (going place frame.old) frame.new result }
 {
     frame.go(place);
-    Next::Onward
+    Course::Onward
 }
 
 /// Puts a value on top, and goes on further on.
-pub(crate) fn give(frame: &mut Frame, value: Value, place: usize) -> Next
+pub(crate) fn give(frame: &mut Frame, value: Value, place: usize) -> Course
     requires { Fits frame.old (giving value place frame.old) }
-    ensures { IsDone frame.old (giving value place frame.old) frame.new result }
+    ensures { Stays frame.old (giving value place frame.old) frame.new result }
 {
     frame.push(value);
     pass_on(frame, place)
 }
 
 /// Jumps back.
-pub(crate) fn jump_back(frame: &mut Frame, instr: Instr) -> Next
+pub(crate) fn jump_back(frame: &mut Frame, instr: Instr) -> Course
     requires { Fits frame.old (going_back instr frame.old) }
-    ensures { IsDone frame.old (going_back instr frame.old) frame.new result }
+    ensures { Stays frame.old (going_back instr frame.old) frame.new result }
 {
     match frame.place().checked_sub(instr.a as usize) {
         Some(place) => {
             frame.go(place);
-            Next::Back
+            Course::Back
         }
         None => unreachable!(),
     }
@@ -60,10 +59,10 @@ fn jumps_at(value: &Value) -> bool
 
 /// Jumps forward unless the value on top is true.
 #[tactic(auto, unfolding(wap_execution::specs::Effects::effect_of))]
-pub(crate) fn jump_unless(frame: &mut Frame, instr: Instr) -> Next
+pub(crate) fn jump_unless(frame: &mut Frame, instr: Instr) -> Course
     requires next { instr.next < 2 ^ 32 }
     requires fits { Fits frame.old (effect_of 0 frame.old action.JumpUnless instr) }
-    ensures { IsDone frame.old (effect_of 0 frame.old action.JumpUnless instr) frame.new result }
+    ensures { Stays frame.old (effect_of 0 frame.old action.JumpUnless instr) frame.new result }
 {
     match frame.pop() {
         Some(value) => {
@@ -79,9 +78,9 @@ pub(crate) fn jump_unless(frame: &mut Frame, instr: Instr) -> Next
 
 /// Jumps back unless the value on top is true.
 #[tactic(auto, unfolding(wap_execution::specs::Effects::effect_of))]
-pub(crate) fn jump_back_unless(frame: &mut Frame, instr: Instr) -> Next
+pub(crate) fn jump_back_unless(frame: &mut Frame, instr: Instr) -> Course
     requires { Fits frame.old (effect_of 0 frame.old action.JumpBackUnless instr) }
-    ensures { IsDone frame.old
+    ensures { Stays frame.old
         (effect_of 0 frame.old action.JumpBackUnless instr) frame.new result }
 {
     match frame.pop() {
@@ -97,10 +96,11 @@ pub(crate) fn jump_back_unless(frame: &mut Frame, instr: Instr) -> Next
 }
 
 /// Puts what an operator makes of the value on top in its place.
+#[inline(always)]
 #[tactic(auto, unfolding(wap_execution::specs::Effects::effect_of))]
-pub(crate) fn apply_unary(frame: &mut Frame, op: UnOp, instr: Instr) -> Next
+pub(crate) fn apply_unary(frame: &mut Frame, op: UnOp, instr: Instr) -> Course
     requires { Fits frame.old (effect_of 0 frame.old (action.Unary op) instr) }
-    ensures { IsDone frame.old (effect_of 0 frame.old (action.Unary op) instr) frame.new result }
+    ensures { Stays frame.old (effect_of 0 frame.old (action.Unary op) instr) frame.new result }
 {
     match frame.pop() {
         Some(value) => give(frame, unary(op, value), instr.next),
@@ -110,24 +110,12 @@ pub(crate) fn apply_unary(frame: &mut Frame, op: UnOp, instr: Instr) -> Next
 
 /// Takes the value on top away.
 #[tactic(auto, unfolding(wap_execution::specs::Effects::effect_of))]
-pub(crate) fn discard(frame: &mut Frame, instr: Instr) -> Next
+pub(crate) fn discard(frame: &mut Frame, instr: Instr) -> Course
     requires { Fits frame.old (effect_of 0 frame.old action.Pop instr) }
-    ensures { IsDone frame.old (effect_of 0 frame.old action.Pop instr) frame.new result }
+    ensures { Stays frame.old (effect_of 0 frame.old action.Pop instr) frame.new result }
 {
     match frame.pop() {
         Some(_) => pass_on(frame, instr.next),
-        None => unreachable!(),
-    }
-}
-
-/// Ends the function with the value on top.
-#[tactic(auto, unfolding(wap_execution::specs::Effects::effect_of))]
-pub(crate) fn end_function(frame: &mut Frame, instr: Instr) -> Next
-    requires { Fits frame.old (effect_of 0 frame.old action.Return instr) }
-    ensures { IsDone frame.old (effect_of 0 frame.old action.Return instr) frame.new result }
-{
-    match frame.pop() {
-        Some(value) => Next::Return(value),
         None => unreachable!(),
     }
 }

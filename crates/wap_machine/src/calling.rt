@@ -15,6 +15,7 @@ use wap_base::{NoMemory, Text};
 use wap_unit::Instr;
 
 /// Calls with so many arguments, and goes on further on.
+#[inline(always)]
 fn call(frame: &mut Frame, callee: Callee, count: usize, place: usize) -> Result<Next, NoMemory>
     requires few { AreFew callee count }
     requires fits { Fits frame.old (calling callee count place frame.old) }
@@ -27,6 +28,7 @@ fn call(frame: &mut Frame, callee: Callee, count: usize, place: usize) -> Result
 }
 
 /// Calls a function of the unit.
+#[inline(always)]
 #[tactic(auto, unfolding(wap_execution::specs::Effects::effect_of))]
 pub(crate) fn call_local(frame: &mut Frame, instr: Instr) -> Result<Next, NoMemory>
     requires small { instr.a < 256 }
@@ -48,6 +50,7 @@ pub(crate) fn call_local(frame: &mut Frame, instr: Instr) -> Result<Next, NoMemo
 }
 
 /// Calls a function of a library.
+#[inline(always)]
 #[tactic(auto, unfolding(wap_execution::specs::Effects::effect_of))]
 pub(crate) fn call_library(frame: &mut Frame, instr: Instr) -> Result<Next, NoMemory>
     requires index { instr.a < 256 }
@@ -65,6 +68,7 @@ pub(crate) fn call_library(frame: &mut Frame, instr: Instr) -> Result<Next, NoMe
 }
 
 /// Calls a function of another unit.
+#[inline(always)]
 #[tactic(auto, unfolding(wap_execution::specs::Effects::effect_of))]
 pub(crate) fn call_external(
     alloc: Global,

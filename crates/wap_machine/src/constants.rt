@@ -9,14 +9,13 @@ ghost use Rattle.wap_execution.specs.Frames.{constant_at};
 ghost use Rattle.wap_execution.specs.Effects.{effect_of};
 ghost use Rattle.wap_execution.specs.declared.action.Action.TheVariants as action;
 ghost use Rattle.wap_machine.specs.Standing.{Fits};
-ghost use Rattle.wap_machine.specs.inside.InstructionParts.{number_of, HasConstant, IsDone};
+ghost use Rattle.wap_machine.specs.inside.InstructionParts.{number_of, HasConstant, Stays};
 
 use crate::acting::give;
 use crate::frame::Frame;
-use crate::next::Next;
+use crate::next::Course;
 use std::alloc::Global;
 use wap_base::{NoMemory, Text};
-use wap_execution::Fatal;
 use wap_unit::{Constant, Instr};
 use wap_value::{Value, ValueFault};
 use wap_verify::Verified;
@@ -66,21 +65,22 @@ fn constant(alloc: Global, unit: &Verified, index: u32, string: u32) -> Result<V
 }
 
 /// Gives a constant's value.
+#[inline(always)]
 #[tactic(auto, unfolding(wap_execution::specs::Effects::effect_of))]
 pub(crate) fn load_constant(
     alloc: Global,
     frame: &mut Frame,
     instr: Instr,
     string: u32,
-) -> Result<Next, NoMemory>
+) -> Result<Course, NoMemory>
     requires { Fits frame.old (effect_of string frame.old action.LoadConstant instr) }
     ensures done { IfOk result
-        (IsDone frame.old (effect_of string frame.old action.LoadConstant instr) frame.new) }
+        (Stays frame.old (effect_of string frame.old action.LoadConstant instr) frame.new) }
     ensures kept { OnErr result (frame.new ≡ frame.old) }
 {
     match constant(alloc, frame.unit(), instr.a, string) {
         Ok(value) => Ok(give(frame, value, instr.next)),
-        Err(ValueFault::TooLong { .. }) => Ok(Next::End(Fatal::TooLong)),
+        Err(ValueFault::TooLong { .. }) => Ok(Course::TooLong),
         Err(ValueFault::NoMemory) => Err(NoMemory),
     }
 }

@@ -79,6 +79,13 @@ impl Frame {
         &self.script
     }
 
+    /// Its index in the unit.
+    pub fn index(&self) -> u8
+        ensures { result ≡ self.now.function.index }
+    {
+        self.index
+    }
+
     /// Puts a value on top.
     pub fn push(&mut self, value: Value)
         requires { IsReached self.old.function (length self.old.operands + 1) }
@@ -106,10 +113,7 @@ impl Frame {
     pub(crate) fn code(&self) -> &[u8]
         ensures { result.now ≡ code_of self.now.function }
     {
-        match self.script.unit.unit().functions.get(self.index as usize) {
-            Some(function) => function.code.as_slice(),
-            None => &[],
-        }
+        self.script.code(self.index)
     }
 
     /// The place where it goes on.

@@ -73,6 +73,7 @@ pub(crate) fn action_of(operation: OpName) -> Action
 }
 
 /// What stands where a frame goes on in its code.
+#[inline(always)]
 pub(crate) fn instruction(frame: &Frame, code: &[u8]) -> (Action, Instr)
     requires code { code.now ≡ code_of frame.now.function }
     requires stands { Stands frame.now 0 }

@@ -10,6 +10,7 @@ mod frame;
 mod going;
 mod host;
 mod instruction;
+mod leaving;
 mod machine;
 mod next;
 mod performing;

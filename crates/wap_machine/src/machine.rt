@@ -10,10 +10,11 @@ ghost use Rattle.wap_machine.specs.Standing.{Stands};
 ghost use Rattle.wap_machine.specs.inside.Innermost.{IsInnermost};
 ghost use Rattle.wap_machine.specs.inside.Weights.{weight, heavy};
 ghost use Rattle.wap_machine.specs.Doing.{StandsFor};
-ghost use Rattle.wap_machine.specs.inside.Advances.{gives, wanted_for, IsAdvanced};
+ghost use Rattle.wap_machine.specs.inside.Advances.{gives, wanted_for};
+ghost use Rattle.wap_machine.specs.inside.Rounds.{ComesTo};
 
-use crate::going::go_on;
-use crate::{Callee, Frame, Next, Script};
+use crate::going::go_round;
+use crate::{Callee, Frame, Host, Next, Script};
 use std::alloc::Global;
 use std::marker::Model;
 use wap_base::{Limits, NoMemory, Shared};
@@ -156,10 +157,16 @@ fn want_for(alloc: Global, limits: Limits, frame: Frame, outer: Vec<Frame>, next
 }
 
 impl Machine {
-    /// Does instructions up to one that asks for more than to go on further on, or ends the
-    /// innermost function.
-    pub(crate) fn advance(self) -> Result<Wanted, NoMemory>
-        ensures { IfOk result (IsAdvanced self.limits self.frames) }
+    /// Does instructions up to one that asks for more than to go on with a turn for each jump back,
+    /// or ends the innermost function.
+    // In `run`, as `go_round` is.
+    #[inline(always)]
+    pub(crate) fn advance<P, H: Host<P>>(self, host: &mut H) -> Result<Wanted, NoMemory>
+        ensures comes { IfOk result (ComesTo H.meaning self.limits
+            (H.turns host.old) (H.turns host.new) self.frames) }
+        ensures turns { H.turns host.new ≤ H.turns host.old }
+        ensures state { (pages : P) (under : H.Under)
+            → H.state host.new pages under ≡ H.state host.old pages under }
     {
         let Machine {
             alloc,
@@ -167,7 +174,7 @@ impl Machine {
             mut frame,
             outer,
         } = self;
-        let next = go_on(alloc, &mut frame, limits.string)?;
+        let next = go_round(alloc, &mut frame, limits, host)?;
         Ok(want_for(alloc, limits, frame, outer, next))
     }
 

@@ -1,4 +1,8 @@
 //! Units at work.
+ghost use Rattle.std.specs.Prelude.{◌≡◌};
+ghost use Rattle.wap_execution.specs.Frames.{code_of};
+ghost use Rattle.wap_machine.specs.Seen.{function_of};
+
 use wap_base::Shared;
 use wap_url::Url;
 use wap_verify::Verified;
@@ -12,4 +16,16 @@ pub struct Script {
     pub base: Url,
     /// The URL of the unit that called it, if one did.
     pub referer: Option<Url>,
+}
+
+impl Script {
+    /// The instructions of the function with this index.
+    pub(crate) fn code(&self, index: u8) -> &[u8]
+        ensures { result.now ≡ code_of (function_of self.now index) }
+    {
+        match self.unit.unit().functions.get(index as usize) {
+            Some(function) => function.code.as_slice(),
+            None => &[],
+        }
+    }
 }

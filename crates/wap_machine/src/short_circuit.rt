@@ -4,11 +4,11 @@ ghost use Rattle.wap_unit.specs.Instructions.{row_of};
 ghost use Rattle.wap_execution.specs.Frames.{code_of};
 ghost use Rattle.wap_execution.specs.Effects.{pair_by};
 ghost use Rattle.wap_machine.specs.Standing.{Fits};
-ghost use Rattle.wap_machine.specs.inside.InstructionParts.{given, IsJump, pair_behind, IsDone};
+ghost use Rattle.wap_machine.specs.inside.InstructionParts.{given, IsJump, pair_behind, Stays};
 
 use crate::acting::{give, pass_on};
 use crate::frame::Frame;
-use crate::next::Next;
+use crate::next::Course;
 use wap_asm::{read_row, row_of};
 use wap_unit::Instr;
 use wap_value::{Value, to_bool};
@@ -49,10 +49,11 @@ fn decide(value: &Value, decides: bool) -> Option<Value>
 }
 
 /// Takes a value, and jumps with it where it decides.
-pub(crate) fn short_circuit(frame: &mut Frame, decides: bool, next: usize) -> Next
+#[inline(always)]
+pub(crate) fn short_circuit(frame: &mut Frame, decides: bool, next: usize) -> Course
     requires small { length (code_of frame.old.function) < 2 ^ 32 }
     requires fits { Fits frame.old (pair_behind decides next frame.old) }
-    ensures { IsDone frame.old (pair_behind decides next frame.old) frame.new result }
+    ensures { Stays frame.old (pair_behind decides next frame.old) frame.new result }
 {
     let jump = jump_behind(frame, decides, next);
     let Some(value) = frame.pop() else {

@@ -12,8 +12,8 @@ use crate::machine::{Machine, Outcome, Step, Wanted};
 use wap_base::RunErr;
 use wap_execution::Fatal;
 
-/// Does instructions up to one that asks for more than to go on further on, or ends the innermost
-/// function, with what is wanted of the host for that.
+/// Does instructions up to one that asks for more than to go on, or ends the innermost function,
+/// with what is wanted of the host for that.
 // In `run`, so that what a step leaves isn't moved once more.
 #[inline(always)]
 pub(crate) fn step<P, H: Host<P>>(
@@ -45,7 +45,7 @@ pub(crate) fn step<P, H: Host<P>>(
         (H.fetched (run_of machine H.meaning (H.turns host.old)
         (H.state host.old pages.old under)).state) }
 {
-    match machine.advance() {
+    match machine.advance(host) {
         Ok(Wanted::Nothing(step)) => Ok(step),
         Ok(Wanted::Turn(machine)) => {
             if host.turn() {

@@ -10,21 +10,20 @@ ghost use Rattle.wap_execution.specs.Effects.{effect_of, stored};
 ghost use Rattle.wap_execution.specs.declared.action.Action.TheVariants as action;
 ghost use Rattle.wap_machine.specs.Seen.{with_operands};
 ghost use Rattle.wap_machine.specs.Standing.{Fits};
-ghost use Rattle.wap_machine.specs.inside.InstructionParts.{storing, IsDone};
+ghost use Rattle.wap_machine.specs.inside.InstructionParts.{storing, Stays};
 
 use crate::acting::{give, pass_on};
 use crate::frame::Frame;
-use crate::next::Next;
+use crate::next::Course;
 use std::alloc::Global;
 use wap_base::NoMemory;
-use wap_execution::Fatal;
 use wap_unit::Instr;
-use wap_value::{BinOp, UnOp, Value, ValueFault, binary, unary};
+use wap_value::{BinOp, UnOp, Value, ValueFault, combine, unary};
 
 /// Puts a value into a variable, and goes on further on.
-fn store_in(frame: &mut Frame, index: u32, value: Value, place: usize) -> Next
+fn store_in(frame: &mut Frame, index: u32, value: Value, place: usize) -> Course
     requires { Fits frame.old (storing index value place frame.old) }
-    ensures { IsDone frame.old (storing index value place frame.old) frame.new result }
+    ensures { Stays frame.old (storing index value place frame.old) frame.new result }
 {
     frame.replace(index, value);
     pass_on(frame, place)
@@ -36,10 +35,10 @@ pub(crate) fn load_variable(
     alloc: Global,
     frame: &mut Frame,
     instr: Instr,
-) -> Result<Next, NoMemory>
+) -> Result<Course, NoMemory>
     requires { Fits frame.old (effect_of 0 frame.old action.LoadVariable instr) }
     ensures done { IfOk result
-        (IsDone frame.old (effect_of 0 frame.old action.LoadVariable instr) frame.new) }
+        (Stays frame.old (effect_of 0 frame.old action.LoadVariable instr) frame.new) }
     ensures kept { OnErr result (frame.new ≡ frame.old) }
 {
     let value = frame.variable(alloc, instr.a)?;
@@ -48,9 +47,9 @@ pub(crate) fn load_variable(
 
 /// Takes the value on top and stores it in a variable.
 #[tactic(auto, unfolding(wap_execution::specs::Effects::effect_of))]
-pub(crate) fn store_variable(frame: &mut Frame, instr: Instr) -> Next
+pub(crate) fn store_variable(frame: &mut Frame, instr: Instr) -> Course
     requires { Fits frame.old (effect_of 0 frame.old action.StoreVariable instr) }
-    ensures { IsDone frame.old (effect_of 0 frame.old action.StoreVariable instr) frame.new result }
+    ensures { Stays frame.old (effect_of 0 frame.old action.StoreVariable instr) frame.new result }
 {
     match frame.pop() {
         Some(value) => store_in(frame, instr.a, value, instr.next),
@@ -59,10 +58,11 @@ pub(crate) fn store_variable(frame: &mut Frame, instr: Instr) -> Next
 }
 
 /// Stores in a variable what an operator makes of its value.
+#[inline(always)]
 #[tactic(auto, unfolding(wap_execution::specs::Effects::effect_of))]
-pub(crate) fn change_variable(frame: &mut Frame, op: UnOp, instr: Instr) -> Next
+pub(crate) fn change_variable(frame: &mut Frame, op: UnOp, instr: Instr) -> Course
     requires { Fits frame.old (effect_of 0 frame.old (action.ChangeVariable op) instr) }
-    ensures { IsDone frame.old
+    ensures { Stays frame.old
         (effect_of 0 frame.old (action.ChangeVariable op) instr) frame.new result }
 {
     let old = frame.replace(instr.a, Value::Invalid);
@@ -70,6 +70,7 @@ pub(crate) fn change_variable(frame: &mut Frame, op: UnOp, instr: Instr) -> Next
 }
 
 /// Stores in a variable what an operator makes of its value and the value on top.
+#[inline(always)]
 #[tactic(auto, unfolding(wap_execution::specs::Effects::effect_of))]
 pub(crate) fn assign_variable(
     alloc: Global,
@@ -77,18 +78,18 @@ pub(crate) fn assign_variable(
     op: BinOp,
     instr: Instr,
     string: u32,
-) -> Result<Next, NoMemory>
+) -> Result<Course, NoMemory>
     requires operator { TakesBoth op }
     requires limit { IsStringLimit string }
     requires fits { Fits frame.old (effect_of string frame.old (action.AssignVariable op) instr) }
     ensures done { IfOk result
-        (IsDone frame.old (effect_of string frame.old (action.AssignVariable op) instr) frame.new) }
+        (Stays frame.old (effect_of string frame.old (action.AssignVariable op) instr) frame.new) }
     ensures left { OnErr result (frame.new ≡ with_operands frame.new.operands frame.old) }
 {
     match frame.pop() {
         Some(value) => match frame.combine(alloc, op, instr.a, &value, string) {
             Ok(new) => Ok(store_in(frame, instr.a, new, instr.next)),
-            Err(ValueFault::TooLong { .. }) => Ok(Next::End(Fatal::TooLong)),
+            Err(ValueFault::TooLong { .. }) => Ok(Course::TooLong),
             Err(ValueFault::NoMemory) => Err(NoMemory),
         },
         None => unreachable!(),
@@ -96,6 +97,7 @@ pub(crate) fn assign_variable(
 }
 
 /// Puts what an operator makes of the two values on top in their place.
+#[inline(always)]
 #[tactic(auto, unfolding(wap_execution::specs::Effects::effect_of))]
 pub(crate) fn apply_binary(
     alloc: Global,
@@ -103,12 +105,12 @@ pub(crate) fn apply_binary(
     op: BinOp,
     instr: Instr,
     string: u32,
-) -> Result<Next, NoMemory>
+) -> Result<Course, NoMemory>
     requires operator { TakesBoth op }
     requires limit { IsStringLimit string }
     requires fits { Fits frame.old (effect_of string frame.old (action.Binary op) instr) }
     ensures done { IfOk result
-        (IsDone frame.old (effect_of string frame.old (action.Binary op) instr) frame.new) }
+        (Stays frame.old (effect_of string frame.old (action.Binary op) instr) frame.new) }
     ensures left { OnErr result (frame.new ≡ with_operands frame.new.operands frame.old) }
 {
     let Some(right) = frame.pop() else {
@@ -117,9 +119,9 @@ pub(crate) fn apply_binary(
     let Some(left) = frame.pop() else {
         unreachable!()
     };
-    match binary(alloc, op, &left, &right, string) {
+    match combine(alloc, op, left, right, string) {
         Ok(value) => Ok(give(frame, value, instr.next)),
-        Err(ValueFault::TooLong { .. }) => Ok(Next::End(Fatal::TooLong)),
+        Err(ValueFault::TooLong { .. }) => Ok(Course::TooLong),
         Err(ValueFault::NoMemory) => Err(NoMemory),
     }
 }

@@ -21,6 +21,7 @@ HasPassed string first (frame ∷ others) now =
 pub record Passed (string : ℕ) (first now : Frame) : Type 0 where
   pub frames : List Frame
   pub are : HasPassed string first frames now
+  pub same : now.function ≡ first.function
   pub stands : Stands now 0
 
 -- after some such instructions the function ends, or another one is done

@@ -13,12 +13,16 @@ use Rattle.wap_unit.specs.Instructions.{row_of}
 use Rattle.wap_execution.specs.declared.action.Action.{Action}
 use Rattle.wap_execution.specs.declared.action.Action.TheVariants.{CallLocal, CallLibrary}
 use Rattle.wap_execution.specs.declared.action.Action.TheVariants.{CallExternal, AssignVariable}
-use Rattle.wap_execution.specs.declared.action.Action.TheVariants.{Binary}
+use Rattle.wap_execution.specs.declared.action.Action.TheVariants.{Binary, Return, ReturnEmpty}
+use Rattle.wap_execution.specs.declared.fatal.Fatal.TheVariants as fatal
 use Rattle.wap_execution.specs.Frames.{Frame, code_of, constant_at}
 use Rattle.wap_execution.specs.Effects.{Effect, onward, calls, backward, stored, with_arguments}
 use Rattle.wap_execution.specs.Effects.{with_top, is_decided, pair_by, effect_read, effect_at}
 use Rattle.wap_machine.specs.declared.next.Callee.{Callee}
 use Rattle.wap_machine.specs.declared.next.Next.{Next}
+use Rattle.wap_machine.specs.declared.next.Next.TheVariants as next
+use Rattle.wap_machine.specs.declared.next.Course.{Course}
+use Rattle.wap_machine.specs.declared.next.Course.TheVariants.{Onward, Back, TooLong}
 use Rattle.wap_machine.specs.Seen.{called_of}
 use Rattle.wap_machine.specs.Doing.{Does}
 
@@ -30,6 +34,15 @@ IsSmall CallExternal instr = instr.c < 256
 IsSmall (AssignVariable op) instr = TakesBoth op
 IsSmall (Binary op) instr = TakesBoth op
 IsSmall _ instr = ⊤
+
+-- it calls something or ends its function
+abbrev pub Leaves : Action → Type 0
+Leaves CallLocal = ⊤
+Leaves CallLibrary = ⊤
+Leaves CallExternal = ⊤
+Leaves Return = ⊤
+Leaves ReturnEmpty = ⊤
+Leaves _ = ⊥
 
 -- what stands where the frame goes on
 pub record IsInstruction (frame : Frame) (action : Action) (instr : Instr) : Type 0 where
@@ -73,6 +86,16 @@ calling callee count place frame = with_arguments count frame.operands (λ argum
 -- the effect is what was done to the frame
 abbrev pub IsDone : Frame → Effect → Frame → Next → Type 0
 IsDone before effect after next = Does effect before.function after next
+
+-- what is to be done by a course
+abbrev pub next_of : Course → Next
+next_of Onward = next.Onward
+next_of Back = next.Back
+next_of TooLong = next.End fatal.TooLong
+
+-- the effect is what was done to the frame, which goes on by this course
+abbrev pub Stays : Frame → Effect → Frame → Course → Type 0
+Stays before effect after course = IsDone before effect after (next_of course)
 
 -- ---- short-circuits
 

@@ -10,7 +10,7 @@ use Rattle.wap_execution.specs.Effects.{Effect, onward, with_kept, effect_of}
 use Rattle.wap_execution.specs.declared.action.Action.TheVariants.{LoadConstant}
 use Rattle.wap_machine.specs.Standing.{Fits}
 use Rattle.wap_machine.specs.Doing.{Does}
-use Rattle.wap_machine.specs.inside.InstructionParts.{HasConstant}
+use Rattle.wap_machine.specs.inside.InstructionParts.{HasConstant, next_of}
 use Rattle.wap_machine.proofs.Doing.{constant_here, loads}
 use Rattle.wap_machine.proofs.constants.load_constant.Goals as goal
 
@@ -53,7 +53,7 @@ returns-in-Ok-clause-done c =
     there c.args.string frame c.args.instr c.unit.result.now c.unit.ensures c.requires in
     let made : kept_within c.args.string value.0 ≡ Ok c.in-Ok.value =
     c.in-Ok.ensures value.0 value.2 in
-    subst (λ (e : Effect). Does e frame.function c.give.new.frame c.give.result)
+    subst (λ (e : Effect). Does e frame.function c.give.new.frame (next_of c.give.result))
     (sym (loads c.args.string frame c.args.instr value.0 value.1
     ∙ ap (kept_effect c.args.string frame c.args.instr) made)) c.give.ensures
 

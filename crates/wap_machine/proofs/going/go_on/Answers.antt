@@ -1,5 +1,5 @@
-use Rattle.std.proofs.Common.{[], refl, subst}
-use Rattle.wap_execution.specs.Frames.{Frame}
+use Rattle.std.proofs.Common.{[], ◌∙◌, ap, refl, subst, sym}
+use Rattle.wap_execution.specs.Frames.{Function, Frame, code_of}
 use Rattle.wap_machine.specs.declared.next.Next.{Next}
 use Rattle.wap_machine.specs.Doing.{EndsOrActs}
 use Rattle.wap_machine.specs.inside.Goings.{GoesOn}
@@ -7,7 +7,11 @@ use Rattle.wap_machine.proofs.GoingLaws.{went_on, passed_more, on_falls}
 use Rattle.wap_machine.proofs.going.go_on.Goals as goal
 
 pub loop-next-init : goal.loop-next-init
-loop-next-init c = record { frames = []; are = refl; stands = c.requires.stands }
+loop-next-init c = record { frames = []; are = refl; same = refl; stands = c.requires.stands }
+
+pub act-requires-clause-code : goal.act-requires-clause-code
+act-requires-clause-code c =
+    c.requires.code ∙ ap (λ (f : Function). code_of f) (sym c.loop-next.invariant.same)
 
 pub loop-next-preserved : goal.loop-next-preserved
 loop-next-preserved c =
