@@ -11,5 +11,5 @@ mod values;
 mod way;
 
 pub(crate) use faults::add_deck_fault;
-pub(crate) use names::last_path;
+pub(crate) use names::{last_path, name_of_tag, node_at, plain_value};
 pub(crate) use tree::add_deck;

@@ -41,7 +41,7 @@ impl Ending {
     fn line(&self) -> &'static [u8] {
         match self {
             Ending::Good | Ending::Refused(_) => b"",
-            Ending::Usage => b"wap_explain: usage: FOLDER NAME\n",
+            Ending::Usage => b"wap_explain: usage: FOLDER NAME, or mend FOLDER NAME\n",
             Ending::StoreFault => b"wap_explain: store fault\n",
             Ending::WriteFault => b"wap_explain: write fault\n",
             Ending::NoMemory => b"wap_explain: no memory\n",

@@ -1,5 +1,5 @@
 //! The program `wap_explain`: says of one page of a folder why it is refused, and shows it as text
-//! with a mark at the place.
+//! with a mark at the place; or writes it as a page with a good deck.
 //!
 //! - `decks`: Decks as indented text, the way to an element by its names, and what of a deck isn't
 //!   good, in words.
@@ -8,10 +8,12 @@
 //! - `units`: Compiled units: their listing with notes, and why one is refused or may not be run.
 #![tactic(auto)]
 
+mod changes;
 mod decks;
 mod documents;
 mod ending;
 mod explaining;
+mod mending;
 mod pages;
 mod pieces;
 mod sources;
@@ -19,44 +21,64 @@ mod units;
 
 use crate::ending::Ending;
 use crate::explaining::explain;
+use crate::mending::{mend, print_refusal};
 use std::env;
 use std::io::ErrorKind;
 use std::process::ExitCode;
 use wap_base::{NoMemory, Text};
 use wap_system::{FolderStore, StdoutSink};
 
-/// The folder and the name of the page, where there are these two words and no more.
-fn read_arguments(rt: &HostRuntime) -> Result<Option<(String, Text)>, NoMemory> {
+/// What is to be done with a page.
+#[derive(Clone, Copy)]
+enum Job {
+    Explain,
+    Mend,
+}
+
+/// The job, the folder and the name of the page, where the words are these and no more.
+fn read_arguments(rt: &HostRuntime) -> Result<Option<(Job, String, Text)>, NoMemory> {
     let given = match env::args(rt) {
         Ok(given) => given,
         Err(error) if matches!(error.kind(), ErrorKind::OutOfMemory) => return Err(NoMemory),
         Err(_) => return Ok(None),
     };
     let mut given = given.skip(1);
-    let Some(folder) = given.next() else {
+    let (Some(first), Some(second)) = (given.next(), given.next()) else {
         return Ok(None);
     };
-    let Some(name) = given.next() else {
-        return Ok(None);
-    };
-    if folder.is_empty() || given.next().is_some() {
+    let third = given.next();
+    if first.is_empty() || given.next().is_some() {
         return Ok(None);
     }
-    Ok(Some((folder, Text::from_string(name))))
+    match third {
+        None => Ok(Some((Job::Explain, first, Text::from_string(second)))),
+        Some(name) if first.as_str() == "mend" && !second.is_empty() => {
+            Ok(Some((Job::Mend, second, Text::from_string(name))))
+        }
+        Some(_) => Ok(None),
+    }
 }
 
-/// Explains the page that the words name.
-fn explain_named(rt: &HostRuntime) -> Result<Ending, NoMemory> {
-    let Some((folder, name)) = read_arguments(rt)? else {
+/// Does what the words say.
+fn do_job(rt: &HostRuntime) -> Result<Ending, NoMemory> {
+    let Some((job, folder, name)) = read_arguments(rt)? else {
         return Ok(Ending::Usage);
     };
     let mut store = FolderStore::new(rt.clone()?, folder);
     let mut out = StdoutSink::new(rt.stdout());
-    Ok(explain(rt.alloc(), &name, &mut store, &mut out))
+    Ok(match job {
+        Job::Explain => explain(rt.alloc(), &name, &mut store, &mut out),
+        Job::Mend => {
+            let mut said = StdoutSink::new(rt.stderr());
+            let ending = mend(rt.alloc(), &name, &mut store, &mut out, &mut said);
+            let _unwritten = print_refusal(&ending, &mut said);
+            ending
+        }
+    })
 }
 
 fn main(rt: HostRuntime) -> ExitCode {
-    let ending = match explain_named(&rt) {
+    let ending = match do_job(&rt) {
         Ok(ending) => ending,
         Err(NoMemory) => Ending::NoMemory,
     };

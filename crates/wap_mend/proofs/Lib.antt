@@ -1,0 +1,3 @@
+pub mod Normality
+pub mod Causes
+pub mod Canonical

@@ -1,0 +1,3 @@
+pub mod Mending
+pub mod Identifiers
+pub mod Pages

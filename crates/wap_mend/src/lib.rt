@@ -1,0 +1,24 @@
+//! Decks that aren't good, made into good ones, and what was changed. The rules are those of
+//! docs/PAGES.md, by their numbers there.
+#![tactic(auto)]
+
+mod apart;
+mod attributes;
+mod change;
+mod content;
+mod elements;
+mod frame;
+mod identifier;
+mod kept;
+mod mending;
+mod names;
+mod needs;
+mod notes;
+mod pages;
+mod rule;
+mod spellings;
+mod values;
+
+pub use change::{Change, What};
+pub use mending::MendFault;
+pub use pages::{MendedPage, mend_page};
