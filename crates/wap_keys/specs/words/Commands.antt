@@ -3,6 +3,7 @@ use Rattle.std.specs.Prelude.{ℕ, nat_lt, if◌then◌else◌, List, [], ◌∷
 use Rattle.std.specs.Prelude.{None, option_map, option_and_then, is_some, encode_utf8_all, codes}
 use Rattle.std.specs.Map.{lookup}
 use Rattle.std.specs.Str.{bytes_eq, chars}
+use Rattle.wap_base.specs.Options.{◌>>=◌}
 use Rattle.wap_base.specs.declared.limits.Limits.{Limits}
 use Rattle.wap_base.specs.declared.limits.TheConstants.{DEFAULT_STRING, LEAST_STRING, MOST_STRING}
 use Rattle.wap_base.specs.declared.limits.TheConstants.{DEFAULT_HISTORY, LEAST_HISTORY}
@@ -24,11 +25,6 @@ use Rattle.wap_keys.specs.declared.words.word.Word.{Word}
 use Rattle.wap_keys.specs.declared.words.word.Word.TheVariants as word
 use Rattle.wap_keys.specs.declared.words.word.TheConstants.{WORDS}
 use Rattle.wap_keys.specs.words.Arguments.{Form, Use, uses_of, text_of}
-
--- what is none stays none
-infixl 10 ◌>>=◌
-abbrev pub ◌>>=◌ : {A B : Type 0} → Option A → (A → Option B) → Option B
-o >>= next = option_and_then next o
 
 -- ---- numbers
 
