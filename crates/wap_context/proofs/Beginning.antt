@@ -42,7 +42,7 @@ use Rattle.wap_state.specs.Scenes.{Line}
 use Rattle.wap_context.specs.declared.waiting.Went.{Went}
 use Rattle.wap_context.specs.Browsers.{Browser, IsOver, place_held, Shows}
 use Rattle.wap_context.specs.Pausing.{Paused}
-use Rattle.wap_context.specs.inside.Moving.{Moves, Takes, next_in, waits_in}
+use Rattle.wap_context.specs.inside.Moving.{Moves, Takes}
 use Rattle.wap_context.specs.inside.Starting.{call_at, run_with}
 use Rattle.wap_context.specs.inside.Starting.{end_at}
 use Rattle.wap_machine.specs.declared.machine.Outcome.TheVariants.{Fatal as Died}
@@ -159,12 +159,12 @@ module _ (seen : Seen) (old new : Browser) (before shown : List Line) (unit : Un
   pub start_rejects : (why : Fatal) (found : Start) (string : ℕ) (went : Went)
       → found ≡ start_by (external_in unit) string (call_at url)
       → string ≡ old.world.limits.string → found ≡ Err why
-      → Moves (not_started (place_held old) [] why old.world) (λ shelf. IsOver shelf old) old new
-      before shown (next_in went) → waits_in went ≡ None
+      → Moves (not_started (place_held old) [] why old.world) None (λ shelf. IsOver shelf old) old
+      new before shown went
       → Takes Starting seen seen old new before shown (Ok went)
-  start_rejects why found string went is limit rejected moves none =
+  start_rejects why found string went is limit rejected moves =
       takes_moves Starting seen old new before shown went
-      (not_started (place_held old) [] why old.world) (λ shelf. IsOver shelf old) moves none
+      (not_started (place_held old) [] why old.world) (λ shelf. IsOver shelf old) moves
       (λ judged may over.
       let pages = unit_pages judged in (
         over,
@@ -228,15 +228,15 @@ module _ (seen : Seen) (old new : Browser) (before shown : List Line) (unit : Un
 
   pub script_denied : (went : Went) (b : Bool)
       → b ≡ may_enter url (entrance_in unit) caller → b ≡ false
-      → Moves (not_started (place_held old) [] fatal.Denied old.world) (λ shelf. IsOver shelf old)
+      → Moves (not_started (place_held old) [] fatal.Denied old.world) None
+      (λ shelf. IsOver shelf old)
       old
-      new before shown (next_in went) → waits_in went ≡ None
+      new before shown went
       → Takes Tries seen seen old new before shown (Ok went)
-  script_denied went b is denied moves none =
+  script_denied went b is denied moves =
       tested seen (Ok went) false (sym denied ∙ is)
       (takes_moves (Allowed false) seen old new before shown went
       (not_started (place_held old) [] fatal.Denied old.world) (λ shelf. IsOver shelf old) moves
-      none
       (λ judged may over. (over, λ keys. refl)))
 
 -- ---- the start
@@ -360,13 +360,13 @@ Stops base pages keys world = ended_script (shelf_of pages) base (record {
 
 pub stop_takes : (seen : Seen) (old new : Browser) (before shown : List Line) (base at : Url)
     (went : Went) → at ≡ base
-    → Moves (end_at (place_held old) at (Died fatal.Stopped) old.world) (λ shelf. IsOver shelf old)
-    old new before shown (next_in went) → waits_in went ≡ None
+    → Moves (end_at (place_held old) at (Died fatal.Stopped) old.world) None
+    (λ shelf. IsOver shelf old)
+    old new before shown went
     → Takes (Stops base) seen seen old new before shown (Ok went)
-stop_takes seen old new before shown base at went at_is moves none =
+stop_takes seen old new before shown base at went at_is moves =
     takes_moves (Stops base) seen old new before shown went
     (end_at (place_held old) at (Died fatal.Stopped) old.world) (λ shelf. IsOver shelf old) moves
-    none
     (λ judged may over.
     let stopped = failed_by fatal.Stopped in (
       over,

@@ -3,7 +3,6 @@
 use Rattle.std.proofs.Common.{◌≡◌, ◌∙◌, ◌≤◌, ℕ, ◌+◌, List, [], ◌∷◌, Option, Some, None, Ok, Err}
 use Rattle.std.proofs.Common.{refl, sym, ap, subst, arith, false}
 use Rattle.std.specs.Prelude.{Result, IfOk, IfSome, IsErr, IsErrAnd}
-use Rattle.std.specs.Option.{option_map}
 use Rattle.std.proofs.lemmas.Bool.{false≢true}
 use Rattle.wap_base.proofs.Choices.{ok_same}
 use Rattle.wap_base.specs.declared.fault.RunErr.{RunErr}
@@ -27,7 +26,7 @@ use Rattle.wap_world.specs.declared.refusal.Refusal.{Refusal}
 use Rattle.wap_world.specs.declared.refusal.Refusal.TheVariants as refusals
 use Rattle.wap_world.specs.Shelves.{Shelf, Shelved, deck_page}
 use Rattle.wap_world.specs.World.{Place, deck_in}
-use Rattle.wap_world.specs.Steps.{Once, Next, then_task, quiet, settled, after_step}
+use Rattle.wap_world.specs.Steps.{Once, Next, quiet, settled, after_step}
 use Rattle.wap_world.specs.Requests.{Request, plain_get, ask, answer_to}
 use Rattle.wap_world.specs.Tasks.{refusing, unless_refused, deck_or_refusal, arrive, try_deck}
 use Rattle.wap_world.specs.Tasks.{return}
@@ -46,7 +45,7 @@ use Rattle.wap_context.specs.Browsers.{Browser, IsOver, place_held, Shows}
 use Rattle.wap_context.specs.Sites.{site_of}
 use Rattle.wap_context.specs.inside.AtHand.{page_under, page_here}
 use Rattle.wap_context.specs.inside.Moving.{Moves, HasDeck, Answers}
-use Rattle.wap_context.specs.inside.Moving.{page_answer, Asked, next_in, waits_in, Takes, Onces}
+use Rattle.wap_context.specs.inside.Moving.{page_answer, Asked, Takes, Onces}
 use Rattle.wap_context.specs.inside.Moving.{SpendsOne, HasNone}
 use Rattle.wap_context.specs.inside.Starting.{call_at}
 use Rattle.wap_world.specs.scripting.Units.{entrance_in}
@@ -54,7 +53,7 @@ use Rattle.wap_context.proofs.HeldDecks.{Page, under_has, here_has}
 use Rattle.wap_context.proofs.Arrivals.{entered_deck, moves_settled}
 use Rattle.wap_context.proofs.Navigations.{answered_is, stay_by, stay_is, back_by, back_is}
 use Rattle.wap_context.proofs.Navigations.{Turned, turned, turn_is, turn_none, over_turn}
-use Rattle.wap_context.proofs.Takings.{Rule, takes_task, takes_from, takes_after}
+use Rattle.wap_context.proofs.Takings.{Rule, takes_moves, takes_from, takes_after}
 use Rattle.wap_context.proofs.Takings.{After, told_asked, takes_by, takes_rejected, takes_missed}
 use Rattle.wap_context.proofs.Takings.{onces_from}
 use Rattle.wap_context.proofs.Scripts.{script_is}
@@ -88,28 +87,26 @@ module _ (seen : Seen) (old new : Browser) (before : List Line) where
   place = place_held old
 
   -- a rule that comes to a navigation that starts no script
-  pub moves_takes : (rule : Rule) (shown : List Line) (next : Option Task) (went : Went)
-      (once : Once) (IsSuch : Shelf → Type 0) → next_in went ≡ option_map then_task next
-      → waits_in went ≡ None
+  pub moves_takes : (rule : Rule) (shown : List Line) (went : Went) (once : Once)
+      (IsSuch : Shelf → Type 0)
       → ((pages : Pages) → IsOver (shelf_of pages) old → IsSuch (shelf_of pages))
       → ((pages : Pages) (keys : List Key) → rule pages keys old.world ≡ once_before keys once)
-      → Moves once IsSuch old new before shown (option_map then_task next)
+      → Moves once None IsSuch old new before shown went
       → Takes rule seen seen old new before shown (Ok went)
-  moves_takes rule shown next went once IsSuch leads none such is moves =
-      takes_task rule seen old new before shown next went once IsSuch leads none moves
+  moves_takes rule shown went once IsSuch such is moves =
+      takes_moves rule seen old new before shown went once IsSuch moves
       (λ judged may over. let pages = unit_pages judged in (such pages over, is pages))
 
   -- a refusal
-  pub refused_takes : (rule : Rule) (shown : List Line) (next : Option Task) (went : Went)
-      (refusal : Refusal) → next_in went ≡ option_map then_task next → waits_in went ≡ None
+  pub refused_takes : (rule : Rule) (shown : List Line) (went : Went) (refusal : Refusal)
       → ((pages : Pages) (keys : List Key)
       → rule pages keys old.world ≡ refusing place keys refusal old.world)
-      → Moves (refusing place [] refusal old.world) (λ shelf. IsOver shelf old) old new before shown
-      (option_map then_task next)
+      → Moves (refusing place [] refusal old.world) None (λ shelf. IsOver shelf old) old new before
+      shown went
       → Takes rule seen seen old new before shown (Ok went)
-  refused_takes rule shown next went refusal leads none is moves =
-      moves_takes rule shown next went (refusing place [] refusal old.world)
-      (λ shelf. IsOver shelf old) leads none (λ pages over. over) is moves
+  refused_takes rule shown went refusal is moves =
+      moves_takes rule shown went (refusing place [] refusal old.world)
+      (λ shelf. IsOver shelf old) (λ pages over. over) is moves
 
   -- ---- a request, and what answers
 
@@ -163,25 +160,23 @@ module _ (seen : Seen) (old new : Browser) (before : List Line) where
 
   -- a deck, or a page that isn't entered
   pub request_takes : (sets : Pairs) (caller : Option Url) (one : Request) (after : Seen)
-      (mid shown : List Line) (next : Option Task) (went : Went) (page : JudgedPage)
+      (mid shown : List Line) (went : Went) (page : JudgedPage)
       (answer : Result Deck Refusal) (url : Url) → url ≡ one.url
-      → next_in went ≡ option_map then_task next → waits_in went ≡ None
       → Asked one seen after before mid (Ok page) → page_answer page ≡ Ok answer
-      → Moves (unless_refused place [] old.world (tries sets caller url []) answer)
-      (Answers url answer old) old new mid shown (option_map then_task next)
+      → Moves (unless_refused place [] old.world (tries sets caller url []) answer) None
+      (Answers url answer old) old new mid shown went
       → Takes (Asking sets caller one) seen after old new before shown (Ok went)
-  request_takes sets caller one after mid shown next went page answer url is leads none asked
-      entered moves =
+  request_takes sets caller one after mid shown went page answer url is asked entered moves =
       takes_after (Asking sets caller one) (Answering sets caller one) (ask [] one old.world)
       seen after after old new before mid shown (Ok went) asked.lines refl asked.stays
       asked.asks.steady
       (λ judged may over. asked_after sets caller one after (unit_pages judged) asked.asks)
-      (takes_task (Answering sets caller one) after old new mid shown next went
+      (takes_moves (Answering sets caller one) after old new mid shown went
       (unless_refused place [] old.world (tries sets caller one.url []) answer)
-      (Answers one.url answer old) leads none
+      (Answers one.url answer old)
       (subst (λ (u : Url).
-      Moves (unless_refused place [] old.world (tries sets caller u []) answer)
-      (Answers u answer old) old new mid shown (option_map then_task next)) is moves)
+      Moves (unless_refused place [] old.world (tries sets caller u []) answer) None
+      (Answers u answer old) old new mid shown went) is moves)
       (told_asked one seen after old before mid page (Answered sets caller one answer) asked
       (answered_law sets caller one page answer entered)))
 
@@ -252,23 +247,22 @@ module _ (seen : Seen) (old new : Browser) (before : List Line) where
       stay_or_ask (site_of pages) place keys sets caller one world
 
   pub stay_arrives : (sets : Pairs) (caller : Option Url) (one : Request) (shown : List Line)
-      (next : Option Task) (went : Went) (found : Option Page) (page : Page) (url : Url)
-      → next_in went ≡ option_map then_task next → waits_in went ≡ None
+      (went : Went) (found : Option Page) (page : Page) (url : Url)
       → found ≡ page_here one place → found ≡ Some page
       → url ≡ record page.0 { fragment = one.url.fragment }
-      → Moves (arrive place [] sets url old.world page.1) (HasDeck url page.1) old new before shown
-      (option_map then_task next)
+      → Moves (arrive place [] sets url old.world page.1) None (HasDeck url page.1) old new before
+      shown went
       → Takes (StaysOrAsks sets caller one) seen seen old new before shown (Ok went)
-  stay_arrives sets caller one shown next went found page url leads none here is same moves =
+  stay_arrives sets caller one shown went found page url here is same moves =
       let at = record page.0 { fragment = one.url.fragment } in
-      moves_takes (StaysOrAsks sets caller one) shown next went
-      (arrive place [] sets at old.world page.1) (HasDeck at page.1) leads none
+      moves_takes (StaysOrAsks sets caller one) shown went
+      (arrive place [] sets at old.world page.1) (HasDeck at page.1)
       (λ pages over. here_has old one page (sym is ∙ here) (shelf_of pages) over)
       (λ pages keys. stay_is (site_of pages) keys old.world sets caller one place
       ∙ ap (stay_by (site_of pages) place keys old.world sets caller one) (sym here ∙ is)
       ∙ arrive_leaves place sets at old.world page.1 keys)
-      (subst (λ (u : Url). Moves (arrive place [] sets u old.world page.1)
-      (HasDeck u page.1) old new before shown (option_map then_task next)) same moves)
+      (subst (λ (u : Url). Moves (arrive place [] sets u old.world page.1) None
+      (HasDeck u page.1) old new before shown went) same moves)
 
   pub stay_asks : (sets : Pairs) (caller : Option Url) (one : Request) (after : Seen)
       (shown : List Line) (found : Option Page) (result : Result Went RunErr)
@@ -321,43 +315,41 @@ module _ (seen : Seen) (old new : Browser) (before : List Line) where
       )
 
   pub back_takes : (sets : Pairs) (earlier : Entry) (after : Seen) (mid shown : List Line)
-      (next : Option Task) (went : Went) (page : JudgedPage) (answer : Result Deck Refusal)
-      → next_in went ≡ option_map then_task next → waits_in went ≡ None
+      (went : Went) (page : JudgedPage) (answer : Result Deck Refusal)
       → Asked (plain_get earlier.url) seen after before mid (Ok page)
       → answer ≡ deck_or_refusal (shelved_page page)
-      → Moves (unless_refused place [] old.world (returns sets earlier []) answer)
-      (Answers earlier.url answer old) old new mid shown (option_map then_task next)
+      → Moves (unless_refused place [] old.world (returns sets earlier []) answer) None
+      (Answers earlier.url answer old) old new mid shown went
       → Takes (AsksBack sets earlier) seen after old new before shown (Ok went)
-  back_takes sets earlier after mid shown next went page answer leads none asked is moves =
+  back_takes sets earlier after mid shown went page answer asked is moves =
       let get = plain_get earlier.url in
       takes_after (AsksBack sets earlier) (Returning sets earlier) (ask [] get old.world)
       seen after after old new before mid shown (Ok went) asked.lines refl asked.stays
       asked.asks.steady
       (λ judged may over. (asked.asks, λ keys. refl))
-      (takes_task (Returning sets earlier) after old new mid shown next went
+      (takes_moves (Returning sets earlier) after old new mid shown went
       (unless_refused place [] old.world (returns sets earlier []) answer)
-      (Answers earlier.url answer old) leads none moves
+      (Answers earlier.url answer old) moves
       (told_asked get seen after old before mid page (Returned sets earlier answer) asked
       (returned_law sets earlier page answer is)))
 
-  pub back_returns : (sets : Pairs) (earlier : Entry) (shown : List Line) (next : Option Task)
-      (went : Went) (found : Option Page) (page : Page) (card : Entry)
-      → next_in went ≡ option_map then_task next → waits_in went ≡ None
+  pub back_returns : (sets : Pairs) (earlier : Entry) (shown : List Line) (went : Went)
+      (found : Option Page) (page : Page) (card : Entry)
       → found ≡ page_under earlier.url place → found ≡ Some page
       → card ≡ record earlier { url = page.0 }
-      → Moves (return place [] sets card old.world page.1)
-      (HasDeck card.url page.1) old new before shown (option_map then_task next)
+      → Moves (return place [] sets card old.world page.1) None
+      (HasDeck card.url page.1) old new before shown went
       → Takes (GoesBack sets earlier) seen seen old new before shown (Ok went)
-  back_returns sets earlier shown next went found page card leads none here is same moves =
+  back_returns sets earlier shown went found page card here is same moves =
       let at = record earlier { url = page.0 } in
-      moves_takes (GoesBack sets earlier) shown next went (return place [] sets at old.world page.1)
-      (HasDeck page.0 page.1) leads none
+      moves_takes (GoesBack sets earlier) shown went (return place [] sets at old.world page.1)
+      (HasDeck page.0 page.1)
       (λ pages over. under_has old earlier.url page (sym is ∙ here) (shelf_of pages) over)
       (λ pages keys. back_is (shelf_of pages) keys old.world sets earlier place
       ∙ ap (back_by (shelf_of pages) keys old.world place sets earlier) (sym here ∙ is)
       ∙ return_leaves place sets at old.world page.1 keys)
-      (subst (λ (e : Entry). Moves (return place [] sets e old.world page.1)
-      (HasDeck e.url page.1) old new before shown (option_map then_task next)) same moves)
+      (subst (λ (e : Entry). Moves (return place [] sets e old.world page.1) None
+      (HasDeck e.url page.1) old new before shown went) same moves)
 
   pub back_asks : (sets : Pairs) (earlier : Entry) (after : Seen) (shown : List Line)
       (found : Option Page) (result : Result Went RunErr)
@@ -415,14 +407,14 @@ module _ (seen : Seen) (old new : Browser) (before : List Line) where
 
   -- one for which none was left
   pub budget_onces : (rule : Rule) (next : Pages → List Key → Turned) (mid : Browser)
-      (shown : List Line) (task : Option Task) (went : Went)
+      (shown : List Line) (went : Went)
       → ((pages : Pages) (keys : List Key)
       → turned keys (next pages keys) old ≡ rule pages keys old.world)
-      → next_in went ≡ option_map then_task task → waits_in went ≡ None → HasNone old mid
-      → Moves (refusing (place_held mid) [] refusals.Budget mid.world)
-      (λ shelf. IsOver shelf mid) mid new before shown (option_map then_task task)
+      → HasNone old mid
+      → Moves (refusing (place_held mid) [] refusals.Budget mid.world) None
+      (λ shelf. IsOver shelf mid) mid new before shown went
       → Onces rule seen seen old new before shown (Ok went)
-  budget_onces rule next mid shown task went is leads none without moves =
+  budget_onces rule next mid shown went is without moves =
       let refuses : Rule = λ pages keys. refusing (place_held mid) keys refusals.Budget in
       record {
         takes = takes_by rule refuses seen seen old mid new before shown (Ok went)
@@ -430,11 +422,11 @@ module _ (seen : Seen) (old new : Browser) (before : List Line) where
             (λ pages over keys. turn_none old mid keys (next pages keys) without.same without.none
             ∙ is pages keys)
             (omega (arith, ap (λ (b : Browser). b.world.turns) without.same))
-            (refused_takes seen mid new before refuses shown task went refusals.Budget leads none
+            (refused_takes seen mid new before refuses shown went refusals.Budget
             (λ pages keys. refl) moves);
         spends =
             subst (λ (o : Option Next). IfSome o (λ one. new.world.turns + 1 ≤ old.world.turns))
-            (sym moves.leads ∙ sym leads) tt;
+            (sym moves.leads) tt;
       }
 
   -- the turns of each task
@@ -465,9 +457,9 @@ module _ (seen : Seen) (old new : Browser) (before : List Line) where
       → taken ≡ task.Refresh sets → Shows (λ place. refresh place sets) old new before shown
       → Onces (Tasks taken from) seen seen old new before shown (Ok Settled)
   refresh_onces shown taken sets from is plays = record {
-    takes = moves_takes seen old new before (Tasks taken from) shown None Settled
+    takes = moves_takes seen old new before (Tasks taken from) shown Settled
         (settled (quiet [] (refresh (place_held old) sets old.world)))
-        (λ shelf. IsOver shelf old) refl refl (λ pages over. over)
+        (λ shelf. IsOver shelf old) (λ pages over. over)
         (λ pages keys. ap (λ (t : Task). Tasks t from pages keys old.world) is)
         (moves_settled (λ place. refresh place sets) old new before shown plays);
     spends = tt;

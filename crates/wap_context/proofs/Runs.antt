@@ -38,7 +38,7 @@ use Rattle.wap_context.specs.host.Stages.{Stage, told, counted_in, fetched_in}
 use Rattle.wap_context.specs.declared.waiting.Went.{Went}
 use Rattle.wap_context.specs.Browsers.{Browser, IsOver, place_held}
 use Rattle.wap_world.proofs.SiteLemmas.Failing.{Fails-more}
-use Rattle.wap_context.specs.inside.Moving.{Moves, Goes, Takes, next_in, waits_in}
+use Rattle.wap_context.specs.inside.Moving.{Moves, Goes, Takes}
 use Rattle.wap_context.specs.inside.Starting.{run_of, run_with, CameTo, RunsTo, end_at, waits_by}
 use Rattle.wap_context.proofs.Places.{held_now}
 use Rattle.wap_context.proofs.Ending.{end_is, half_is}
@@ -273,9 +273,9 @@ module _ (machine : Stack) (base : Url) (first : List Line) (seen after : Seen)
     (old mid new : Browser)
     (before line shown : List Line) (outcome : Outcome) (more : List Line) (went : Went)
     (added : line ≡ before ++ more)
-    (moves : Moves (end_at (place_held mid) base outcome mid.world) (λ shelf. IsOver shelf mid) mid
-    new line shown (next_in went))
-    (asks : waits_in went ≡ waits_by base outcome) (keeps : KeepsLimits machine.limits outcome)
+    (moves : Moves (end_at (place_held mid) base outcome mid.world) (waits_by base outcome)
+    (λ shelf. IsOver shelf mid) mid new line shown went)
+    (keeps : KeepsLimits machine.limits outcome)
   where
     goes_to_end : (pages : Pages)
         → CameTo pages (run_of machine first pages old.world) seen after mid outcome more
@@ -318,23 +318,22 @@ module _ (machine : Stack) (base : Url) (first : List Line) (seen after : Seen)
               starts pages base machine.limits machine.frames old.world.turns
               (record { world = inside old.world; lines = first }) keys refl
               ∙ ap (λ (h : Half). once_of pages h keys) half
-              ∙ ap (λ (o : Option Waits). once_by pages did o keys) (sym asks);
+              ∙ ap (λ (o : Option Waits). once_by pages did o keys) (sym moves.waits);
         }
 
 -- out of memory after it
 pub ended_ok : (machine : Stack) (base : Url) (first : List Line) (seen after : Seen)
     (old mid new : Browser) (before line shown : List Line) (outcome : Outcome) (more : List Line)
     (went : Went) → line ≡ before ++ more
-    → Moves (end_at (place_held mid) base outcome mid.world) (λ shelf. IsOver shelf mid) mid new
-    line
-    shown (next_in went) → waits_in went ≡ waits_by base outcome
+    → Moves (end_at (place_held mid) base outcome mid.world) (waits_by base outcome)
+    (λ shelf. IsOver shelf mid) mid new line shown went
     → RunsTo machine first seen after old mid (Ok (outcome, more))
     → Takes (run_with machine base first) seen after old new before shown (Ok went)
 ended_ok machine base first seen after old mid new before line shown outcome more went added moves
-    asks runs = record {
+    runs = record {
       follows = λ judged may over.
           goes_to_end machine base first seen after old mid new before line shown outcome more went
-          added moves asks runs.limits (unit_pages judged) (runs.came judged may over);
+          added moves runs.limits (unit_pages judged) (runs.came judged may over);
       steady = runs.steady;
       missed = λ failed. absurd (cc);
       rose = λ failed. absurd (cc);

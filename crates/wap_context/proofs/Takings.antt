@@ -2,13 +2,11 @@
 use Rattle.std.proofs.Common.{◌≡◌, ◌∙◌, ◌≤◌, ℕ, ◌+◌, Bool, false, List, [], ◌∷◌, ◌++◌, Option, Some}
 use Rattle.std.proofs.Common.{None, Ok, Err, refl, sym, ap, ap₂, subst, append_assoc, arith}
 use Rattle.std.specs.Prelude.{Result, IfSome, IfOk, OnOk, IsErr, IsErrAnd, ◌||◌, ◌<◌}
-use Rattle.std.specs.Option.{option_map}
 use Rattle.std.proofs.lemmas.Bool.{false≢true}
 use Rattle.wap_base.specs.declared.fault.RunErr.{RunErr}
 use Rattle.wap_base.specs.declared.fault.RunErr.TheVariants.{Store, NoMemory}
 use Rattle.wap_url.specs.Printing.{name_for}
 use Rattle.wap_base.specs.declared.key.Key.{Key}
-use Rattle.wap_cardrules.specs.declared.task.Task.{Task}
 use Rattle.wap_world.specs.declared.site.page.Page.{Page}
 use Rattle.wap_world.specs.site.Pages.{Pages as JudgedPages, page_of, AreSitePages}
 use Rattle.wap_world.specs.site.Asking.{Seen, Stays, Asks, Fails}
@@ -17,7 +15,7 @@ use Rattle.wap_world.proofs.SiteLemmas.Asking.{Asks-nil, Asks-then, Stays-same, 
 use Rattle.wap_world.proofs.SiteLemmas.Asking.{Stays-may}
 use Rattle.wap_world.specs.Shelves.{Shelf}
 use Rattle.wap_world.specs.World.{World}
-use Rattle.wap_world.specs.Steps.{Step, Once, Next, then_task, after_step}
+use Rattle.wap_world.specs.Steps.{Step, Once, Next, after_step}
 use Rattle.wap_world.specs.Requests.{Request}
 use Rattle.wap_world.proofs.Joining.{once_before}
 use Rattle.wap_world.specs.scripting.UnitSites.{Pages, shelf_of, unit_pages}
@@ -79,10 +77,10 @@ takes_rejected {rule} {seen} (Err err) is so = record {
 -- a navigation that starts no script leaves the keys after it
 goes_moves : (pages : Pages) (rule : List Key → Once) (seen : Seen) (old new : Browser)
     (before shown : List Line) (went : Went) (once : Once) (IsSuch : Shelf → Type 0)
-    → Moves once IsSuch old new before shown (next_in went) → waits_in went ≡ None
-    → IsSuch (shelf_of pages) → ((keys : List Key) → rule keys ≡ once_before keys once)
+    → Moves once None IsSuch old new before shown went → IsSuch (shelf_of pages)
+    → ((keys : List Key) → rule keys ≡ once_before keys once)
     → Goes pages rule seen seen new before shown went
-goes_moves pages rule seen old new before shown went once IsSuch moves none such is = record {
+goes_moves pages rule seen old new before shown went once IsSuch moves such is = record {
   did = once;
   world = moves.world;
   lines = moves.lines;
@@ -90,7 +88,7 @@ goes_moves pages rule seen old new before shown went once IsSuch moves none such
   closed = moves.closed;
   over = moves.over (shelf_of pages) such;
   asks = subst (λ (asked : List Question). Asks asked seen seen) (sym moves.asked) (Asks-nil seen);
-  on = λ keys. is keys ∙ ap (λ (o : Option Waits). once_by pages once o keys) (sym none);
+  on = λ keys. is keys ∙ ap (λ (o : Option Waits). once_by pages once o keys) (sym moves.waits);
 }
 
 no_more : (old new : Browser) → new.world.turns ≡ old.world.turns
@@ -99,35 +97,22 @@ no_more old new same = omega (arith, same)
 
 pub takes_moves : (rule : Rule) (seen : Seen) (old new : Browser) (before shown : List Line)
     (went : Went) (once : Once) (IsSuch : Shelf → Type 0)
-    → Moves once IsSuch old new before shown (next_in went) → waits_in went ≡ None
+    → Moves once None IsSuch old new before shown went
     → IfOver seen old (λ pages. IsSuch (shelf_of pages)
     × ((keys : List Key) → rule pages keys old.world ≡ once_before keys once))
     → Takes rule seen seen old new before shown (Ok went)
-takes_moves rule seen old new before shown went once IsSuch moves none is = record {
+takes_moves rule seen old new before shown went once IsSuch moves is = record {
   follows = λ judged may over.
       let pages = unit_pages judged in
       let so = is judged may over in
       goes_moves pages (λ keys. rule pages keys old.world) seen old new before shown went once
-      IsSuch
-      moves none so.0 so.1;
+      IsSuch moves so.0 so.1;
   steady = refl;
   missed = λ failed. absurd (cc);
   rose = λ failed. absurd (cc);
   stays = Stays-same seen;
   turns = no_more old new moves.turns;
 }
-
--- the same of a task of the current card, if there is one
-pub takes_task : (rule : Rule) (seen : Seen) (old new : Browser) (before shown : List Line)
-    (next : Option Task) (went : Went) (once : Once) (IsSuch : Shelf → Type 0)
-    → next_in went ≡ option_map then_task next → waits_in went ≡ None
-    → Moves once IsSuch old new before shown (option_map then_task next)
-    → IfOver seen old (λ pages. IsSuch (shelf_of pages)
-    × ((keys : List Key) → rule pages keys old.world ≡ once_before keys once))
-    → Takes rule seen seen old new before shown (Ok went)
-takes_task rule seen old new before shown next went once IsSuch is none moves law =
-    takes_moves rule seen old new before shown went once IsSuch
-    (subst (λ (n : Option Next). Moves once IsSuch old new before shown n) (sym is) moves) none law
 
 -- ---- by other rules
 

@@ -1,8 +1,6 @@
 //! Entering a card (WAP-191, sections 9.2, 9.5 and 9.10).
-ghost use Rattle.std.specs.Prelude.{◌≡◌, ◌<◌, [], length, Some, Ok, IfOk, OnOk};
-ghost use Rattle.std.specs.Option.{option_map};
+ghost use Rattle.std.specs.Prelude.{◌≡◌, ◌<◌, [], length, Some, None, Ok, IfOk, OnOk};
 ghost use Rattle.wap_tokens.specs.markup.Cards.{cards_of};
-ghost use Rattle.wap_world.specs.Steps.{then_task};
 ghost use Rattle.wap_world.specs.declared.timer.Timer.TheVariants.{NotStarted};
 ghost use Rattle.wap_world.specs.Entering.{event_task, begin_event, enter};
 ghost use Rattle.wap_world.specs.Tasks.{card_for, is_new_context, in_context, arrive, try_deck};
@@ -13,6 +11,7 @@ ghost use Rattle.wap_context.specs.inside.Moving.{Moves, HasDeck, Answers};
 
 use crate::asking::may_enter;
 use crate::context::Context;
+use crate::waiting::Went;
 use std::alloc::Global;
 use wap_base::{NoMemory, Rows, Text};
 use wap_cardrules::{Event, Task};
@@ -93,32 +92,26 @@ impl Context {
         alloc: Global,
         event: Event,
         lines: &mut Lines,
-    ) -> Result<Option<Task>, NoMemory>
-        ensures { IfOk result (λ next.
-            Moves (begin_event (place_held self.old) [] event self.old.world)
-            (λ shelf. IsOver shelf self.old) self.old self.new lines.old lines.new
-            (option_map then_task next)) }
+    ) -> Result<Went, NoMemory>
+        ensures { IfOk result (λ went.
+            Moves (begin_event (place_held self.old) [] event self.old.world) None
+            (λ shelf. IsOver shelf self.old) self.old self.new lines.old lines.new went) }
     {
         match self.event_task(alloc, event)? {
-            Some(task) => Ok(Some(task)),
+            Some(task) => Ok(Went::Leads(task, None)),
             None => {
                 self.add_show(alloc, lines)?;
-                Ok(None)
+                Ok(Went::Settled)
             }
         }
     }
 
     /// Enters the current card: its timer is not started, and its event's task is next, or it is
     /// shown.
-    fn enter(
-        &mut self,
-        alloc: Global,
-        event: Event,
-        lines: &mut Lines,
-    ) -> Result<Option<Task>, NoMemory>
-        ensures { IfOk result (λ next. Moves (enter (place_held self.old) [] event self.old.world)
-            (λ shelf. IsOver shelf self.old) self.old self.new lines.old lines.new
-            (option_map then_task next)) }
+    fn enter(&mut self, alloc: Global, event: Event, lines: &mut Lines) -> Result<Went, NoMemory>
+        ensures { IfOk result (λ went.
+            Moves (enter (place_held self.old) [] event self.old.world) None
+            (λ shelf. IsOver shelf self.old) self.old self.new lines.old lines.new went) }
     {
         self.reset_timer();
         self.begin_event(alloc, event, lines)
@@ -130,14 +123,13 @@ impl Context {
         alloc: Global,
         refusal: Refusal,
         lines: &mut Lines,
-    ) -> Result<Option<Task>, NoMemory>
-        ensures { IfOk result (λ next.
-            Moves (refusing (place_held self.old) [] refusal self.old.world)
-            (λ shelf. IsOver shelf self.old) self.old self.new lines.old lines.new
-            (option_map then_task next)) }
+    ) -> Result<Went, NoMemory>
+        ensures { IfOk result (λ went.
+            Moves (refusing (place_held self.old) [] refusal self.old.world) None
+            (λ shelf. IsOver shelf self.old) self.old self.new lines.old lines.new went) }
     {
         self.add_refusal(alloc, refusal, lines)?;
-        Ok(None)
+        Ok(Went::Settled)
     }
 
     /// Pushes a card of a deck onto the history, which is empty first in a new context.
@@ -172,11 +164,10 @@ impl Context {
         url: PageUrl,
         deck: Shared<GoodDeck>,
         lines: &mut Lines,
-    ) -> Result<Option<Task>, NoMemory>
-        ensures { IfOk result (λ next. Moves
-            (arrive (place_held self.old) [] sets url self.old.world deck)
-            (HasDeck url deck) self.old self.new lines.old lines.new
-            (option_map then_task next)) }
+    ) -> Result<Went, NoMemory>
+        ensures { IfOk result (λ went. Moves
+            (arrive (place_held self.old) [] sets url self.old.world deck) None
+            (HasDeck url deck) self.old self.new lines.old lines.new went) }
     {
         self.leave_and_set(alloc, sets, lines)?;
         self.push_card(alloc, url, deck)?;
@@ -192,12 +183,11 @@ impl Context {
         url: PageUrl,
         deck: Shared<GoodDeck>,
         lines: &mut Lines,
-    ) -> Result<Option<Task>, NoMemory>
-        ensures { IfOk result (λ next. Moves
-            (try_deck (place_held self.old) [] sets caller.now url self.old.world deck)
+    ) -> Result<Went, NoMemory>
+        ensures { IfOk result (λ went. Moves
+            (try_deck (place_held self.old) [] sets caller.now url self.old.world deck) None
             (λ shelf. IsOver shelf self.old × HasDeck url deck shelf)
-            self.old self.new lines.old lines.new
-            (option_map then_task next)) }
+            self.old self.new lines.old lines.new went) }
     {
         let entrance = entrance_of(alloc, &deck)?;
         let is_allowed = may_enter(alloc, &url, entrance, caller)?;
@@ -217,12 +207,11 @@ impl Context {
         url: PageUrl,
         answer: Result<Shared<GoodDeck>, Refusal>,
         lines: &mut Lines,
-    ) -> Result<Option<Task>, NoMemory>
-        ensures { IfOk result (λ next. Moves
+    ) -> Result<Went, NoMemory>
+        ensures { IfOk result (λ went. Moves
             (unless_refused (place_held self.old) [] self.old.world
-            (try_deck (place_held self.old) [] sets caller.now url self.old.world) answer)
-            (Answers url answer self.old) self.old self.new lines.old lines.new
-            (option_map then_task next)) }
+            (try_deck (place_held self.old) [] sets caller.now url self.old.world) answer) None
+            (Answers url answer self.old) self.old self.new lines.old lines.new went) }
     {
         match answer {
             Ok(deck) => self.try_deck(alloc, sets, caller, url, deck, lines),
@@ -251,11 +240,10 @@ impl Context {
         earlier: PageEntry,
         deck: Shared<GoodDeck>,
         lines: &mut Lines,
-    ) -> Result<Option<Task>, NoMemory>
-        ensures { IfOk result (λ next. Moves
-            (return (place_held self.old) [] sets earlier self.old.world deck)
-            (HasDeck earlier.url deck) self.old self.new lines.old lines.new
-            (option_map then_task next)) }
+    ) -> Result<Went, NoMemory>
+        ensures { IfOk result (λ went. Moves
+            (return (place_held self.old) [] sets earlier self.old.world deck) None
+            (HasDeck earlier.url deck) self.old self.new lines.old lines.new went) }
     {
         self.leave_and_set(alloc, sets, lines)?;
         self.pop_card(earlier, deck)?;
@@ -270,12 +258,11 @@ impl Context {
         earlier: PageEntry,
         answer: Result<Shared<GoodDeck>, Refusal>,
         lines: &mut Lines,
-    ) -> Result<Option<Task>, NoMemory>
-        ensures { IfOk result (λ next. Moves
+    ) -> Result<Went, NoMemory>
+        ensures { IfOk result (λ went. Moves
             (unless_refused (place_held self.old) [] self.old.world
-            (return (place_held self.old) [] sets earlier self.old.world) answer)
-            (Answers earlier.url answer self.old) self.old self.new lines.old lines.new
-            (option_map then_task next)) }
+            (return (place_held self.old) [] sets earlier self.old.world) answer) None
+            (Answers earlier.url answer self.old) self.old self.new lines.old lines.new went) }
     {
         match answer {
             Ok(deck) => self.return_to(alloc, sets, earlier, deck, lines),

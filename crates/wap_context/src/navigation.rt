@@ -11,7 +11,7 @@ ghost use Rattle.wap_context.specs.inside.Moving.{Takes, Onces, SpendsOne, HasNo
 
 use crate::asking::{ask, ask_for, deck_answer, page_answer};
 use crate::context::Context;
-use crate::waiting::{Went, went_to};
+use crate::waiting::Went;
 use std::alloc::Global;
 use wap_base::{NoMemory, Rows, RunErr, Text};
 use wap_cardrules::{Go, Task};
@@ -86,10 +86,7 @@ impl Context {
         let page = ask(alloc, pages, &one, lines)?;
         let url = one.into_url();
         match page_answer(page) {
-            Ok(answer) => {
-                let next = self.take_answer(alloc, sets, caller, url, answer, lines)?;
-                Ok(went_to(next))
-            }
+            Ok(answer) => { Ok(self.take_answer(alloc, sets, caller, url, answer, lines)?) }
             Err(unit) => self.try_script(alloc, pages, sets, caller, url, unit, lines),
         }
     }
@@ -111,7 +108,7 @@ impl Context {
         match self.page_here(alloc, &one)? {
             Some((here, deck)) => {
                 let url = one.fragment_on(here);
-                Ok(went_to(self.arrive(alloc, sets, url, deck, lines)?))
+                Ok(self.arrive(alloc, sets, url, deck, lines)?)
             }
             None => self.request(alloc, pages, sets, caller, one, lines),
         }
@@ -148,7 +145,7 @@ impl Context {
                 let request = PageRequest::of(alloc, &base, &one, url)?;
                 self.stay_or_ask(alloc, pages, one.sets, &base, request, lines)
             }
-            Err(refusal) => Ok(went_to(self.refuse(alloc, refusal, lines)?)),
+            Err(refusal) => Ok(self.refuse(alloc, refusal, lines)?),
         }
     }
 
@@ -170,7 +167,7 @@ impl Context {
                 let sets = Rows::new(alloc);
                 self.request(alloc, pages, sets, &None, PageRequest::get(url), lines)
             }
-            Err(refusal) => Ok(went_to(self.refuse(alloc, refusal, lines)?)),
+            Err(refusal) => Ok(self.refuse(alloc, refusal, lines)?),
         }
     }
 
@@ -188,7 +185,7 @@ impl Context {
             (P.seen pages.old) (P.seen pages.new) self.old self.new lines.old lines.new result }
     {
         let page = ask_for(alloc, pages, &earlier, lines)?;
-        Ok(went_to(self.return_with(alloc, sets, earlier, deck_answer(page), lines)?))
+        Ok(self.return_with(alloc, sets, earlier, deck_answer(page), lines)?)
     }
 
     /// Goes back to an earlier card, whose deck may be the current one.
@@ -207,7 +204,7 @@ impl Context {
         match self.page_under(alloc, earlier.url())? {
             Some((here, deck)) => {
                 let card = PageEntry::of(here, earlier.card());
-                Ok(went_to(self.return_to(alloc, sets, card, deck, lines)?))
+                Ok(self.return_to(alloc, sets, card, deck, lines)?)
             }
             None => self.ask_back(alloc, pages, sets, earlier, lines),
         }
@@ -227,7 +224,7 @@ impl Context {
     {
         match self.state.earlier(alloc)? {
             Some(earlier) => self.back_to(alloc, pages, sets, earlier, lines),
-            None => Ok(went_to(self.refuse(alloc, Refusal::First, lines)?)),
+            None => Ok(self.refuse(alloc, Refusal::First, lines)?),
         }
     }
 
@@ -258,7 +255,7 @@ impl Context {
         if self.take_turn() {
             self.open_url(alloc, pages, url, lines)
         } else {
-            Ok(went_to(self.refuse(alloc, Refusal::Budget, lines)?))
+            Ok(self.refuse(alloc, Refusal::Budget, lines)?)
         }
     }
 
@@ -280,14 +277,14 @@ impl Context {
                 if self.take_turn() {
                     self.go(alloc, pages, one, from, lines)
                 } else {
-                    Ok(went_to(self.refuse(alloc, Refusal::Budget, lines)?))
+                    Ok(self.refuse(alloc, Refusal::Budget, lines)?)
                 }
             }
             Task::Prev(sets) => {
                 if self.take_turn() {
                     self.prev(alloc, pages, sets, lines)
                 } else {
-                    Ok(went_to(self.refuse(alloc, Refusal::Budget, lines)?))
+                    Ok(self.refuse(alloc, Refusal::Budget, lines)?)
                 }
             }
             Task::Refresh(sets) => {

@@ -1,22 +1,21 @@
 //! Scripts that run, and what follows their end (WAP-193, section 12).
 ghost use Rattle.std.specs.Prelude.{◌≡◌, [], None, Some, IfOk};
-ghost use Rattle.std.specs.Option.{option_map};
 ghost use Rattle.wap_base.specs.Limits.{AreInRange};
-ghost use Rattle.wap_world.specs.Steps.{then_task, still, quiet};
+ghost use Rattle.wap_world.specs.Steps.{still, quiet};
 ghost use Rattle.wap_world.specs.Starting.{rest, end_done, end_failed};
 ghost use Rattle.wap_world.specs.Timers.{settled_timer};
 ghost use Rattle.wap_context.specs.Browsers.{IsOver, place_held};
-ghost use Rattle.wap_context.specs.inside.Moving.{Moves, Takes, next_in, waits_in};
+ghost use Rattle.wap_context.specs.inside.Moving.{Moves, Takes};
 ghost use Rattle.wap_context.specs.inside.Starting.{RunsTo, run_with, end_at, waits_by};
 
 use crate::context::Context;
 use crate::host::Running;
 use crate::script_lines::add_script_line;
-use crate::waiting::{Waiting, Went, went_to};
+use crate::waiting::{Waiting, Went};
 use std::alloc::Global;
 use std::mem::replace;
 use wap_base::{Limits, NoMemory, RunErr};
-use wap_cardrules::{Event, Task};
+use wap_cardrules::Event;
 use wap_execution::Fatal;
 use wap_layout::buffer::Lines;
 use wap_machine::{Machine, Outcome};
@@ -71,11 +70,10 @@ impl Context {
     /// No navigation is done: where the timer ran out meanwhile, its task is next, else the card is
     /// shown.
     #[tactic(auto, using(wap_state::proofs::Keeping::keeps_off))]
-    fn rest(&mut self, alloc: Global, lines: &mut Lines) -> Result<Option<Task>, NoMemory>
-        ensures { IfOk result (λ next.
-            Moves (rest (place_held self.old) [] self.old.world.timer self.old.world)
-            (λ shelf. IsOver shelf self.old) self.old self.new lines.old lines.new
-            (option_map then_task next)) }
+    fn rest(&mut self, alloc: Global, lines: &mut Lines) -> Result<Went, NoMemory>
+        ensures { IfOk result (λ went.
+            Moves (rest (place_held self.old) [] self.old.world.timer self.old.world) None
+            (λ shelf. IsOver shelf self.old) self.old self.new lines.old lines.new went) }
     {
         match self.state.timer {
             Timer::Expired => {
@@ -84,7 +82,7 @@ impl Context {
             }
             Timer::NotStarted | Timer::Running(_) | Timer::Off => {
                 self.add_show(alloc, lines)?;
-                Ok(None)
+                Ok(Went::Settled)
             }
         }
     }
@@ -97,18 +95,17 @@ impl Context {
         base: PageUrl,
         lines: &mut Lines,
     ) -> Result<Went, NoMemory>
-        ensures moves { IfOk result (λ went.
+        ensures { IfOk result (λ went.
             Moves (end_done (place_held self.old) base self.old.world.pending
-            (quiet [] (still self.old.world)))
-            (λ shelf. IsOver shelf self.old) self.old self.new lines.old lines.new (next_in went)) }
-        ensures none { IfOk result (λ went. waits_in went ≡ None) }
+            (quiet [] (still self.old.world))) None
+            (λ shelf. IsOver shelf self.old) self.old self.new lines.old lines.new went) }
     {
         match replace(&mut self.state.pending, None) {
             Some(task) => {
                 self.state.timer = settled_timer(self.state.timer);
                 Ok(Went::Leads(task, Some(base)))
             }
-            None => Ok(went_to(self.rest(alloc, lines)?)),
+            None => self.rest(alloc, lines),
         }
     }
 
@@ -119,14 +116,13 @@ impl Context {
         why: &Fatal,
         lines: &mut Lines,
     ) -> Result<Went, NoMemory>
-        ensures moves { IfOk result (λ went.
-            Moves (end_failed (place_held self.old) why.now (quiet [] (still self.old.world)))
-            (λ shelf. IsOver shelf self.old) self.old self.new lines.old lines.new (next_in went)) }
-        ensures none { IfOk result (λ went. waits_in went ≡ None) }
+        ensures { IfOk result (λ went.
+            Moves (end_failed (place_held self.old) why.now (quiet [] (still self.old.world))) None
+            (λ shelf. IsOver shelf self.old) self.old self.new lines.old lines.new went) }
     {
         self.state.pending = None;
         add_script_line(alloc, why, lines)?;
-        Ok(went_to(self.rest(alloc, lines)?))
+        Ok(self.rest(alloc, lines)?)
     }
 
     /// A script ended, or asks its user.
@@ -137,10 +133,10 @@ impl Context {
         outcome: Outcome,
         lines: &mut Lines,
     ) -> Result<Went, NoMemory>
-        ensures moves { IfOk result (λ went.
+        ensures { IfOk result (λ went.
             Moves (end_at (place_held self.old) base outcome self.old.world)
-            (λ shelf. IsOver shelf self.old) self.old self.new lines.old lines.new (next_in went)) }
-        ensures asks { IfOk result (λ went. waits_in went ≡ waits_by base outcome) }
+            (waits_by base outcome)
+            (λ shelf. IsOver shelf self.old) self.old self.new lines.old lines.new went) }
     {
         match outcome {
             Outcome::Done(_) => self.end_done(alloc, base, lines),

@@ -12,7 +12,7 @@ ghost use Rattle.wap_context.specs.Browsers.{IsOver, place_held};
 ghost use Rattle.wap_context.specs.inside.Starting.{call_at};
 ghost use Rattle.wap_world.specs.Tasks.{try_script};
 ghost use Rattle.wap_world.specs.scripting.UnitSites.{shelf_of, unit_script};
-ghost use Rattle.wap_context.specs.inside.Moving.{Moves, Takes, next_in, waits_in};
+ghost use Rattle.wap_context.specs.inside.Moving.{Moves, Takes};
 ghost use Rattle.wap_world.specs.scripting.Units.{entrance_in, external_in};
 ghost use Rattle.std.specs.Prelude.{[], None};
 
@@ -110,10 +110,9 @@ fn copy_of(alloc: Global, url: &Option<Url>) -> Result<Option<Url>, NoMemory>
 impl Context {
     /// A script isn't started: its line is added, and the current card is shown again.
     fn reject(&mut self, alloc: Global, why: &Fatal, lines: &mut Lines) -> Result<Went, NoMemory>
-        ensures moves { IfOk result (λ went.
-            Moves (not_started (place_held self.old) [] why.now self.old.world)
-            (λ shelf. IsOver shelf self.old) self.old self.new lines.old lines.new (next_in went)) }
-        ensures none { IfOk result (λ went. waits_in went ≡ None) }
+        ensures { IfOk result (λ went.
+            Moves (not_started (place_held self.old) [] why.now self.old.world) None
+            (λ shelf. IsOver shelf self.old) self.old self.new lines.old lines.new went) }
     {
         add_script_line(alloc, why, lines)?;
         self.add_show(alloc, lines)?;

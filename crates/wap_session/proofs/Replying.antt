@@ -13,7 +13,6 @@ use Rattle.wap_world.specs.site.Asking.{Seen, Asks}
 use Rattle.wap_world.proofs.SiteLemmas.Asking.{Asks-nil, Stays-same}
 use Rattle.wap_world.specs.declared.timer.Timer.{Timer}
 use Rattle.wap_world.specs.declared.timer.Timer.TheVariants.{Running, Expired}
-use Rattle.wap_world.specs.Shelves.{Shelf}
 use Rattle.wap_world.specs.World.{World, Place, place_now}
 use Rattle.wap_world.specs.Steps.{Scene, Step, then_step, quiet, still}
 use Rattle.std.specs.Option.{option_and_then}

@@ -10,7 +10,6 @@ use Rattle.wap_world.specs.site.Misses.{Asked}
 use Rattle.wap_world.specs.site.Asking.{Seen, Stays, Asks, Fails}
 use Rattle.wap_world.proofs.SiteLemmas.Asking.{Asks-nil, Stays-same}
 use Rattle.wap_world.specs.declared.refusal.Refusal.TheVariants as refusals
-use Rattle.wap_world.specs.Shelves.{Shelf}
 use Rattle.wap_world.specs.World.{World, Place}
 use Rattle.wap_world.specs.Lines.{refusal_line}
 use Rattle.wap_world.specs.Steps.{Scene, Step, then_step, quiet}

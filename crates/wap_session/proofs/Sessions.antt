@@ -7,7 +7,6 @@ use Rattle.wap_execution.specs.declared.dialog.Dialog.{Dialog}
 use Rattle.wap_execution.specs.declared.dialog.Dialog.TheVariants.{Prompt, Confirm, Alert}
 use Rattle.wap_world.specs.World.{World, Place, place_now}
 use Rattle.wap_world.specs.Keys.{ignored}
-use Rattle.wap_world.specs.Shelves.{Shelf}
 use Rattle.wap_world.specs.Steps.{Scene, quiet}
 use Rattle.wap_world.specs.inboxes.Inboxes.{Phone, taking_none, is_of_inbox}
 use Rattle.wap_world.specs.Sessions.{Begun, before_all, session}

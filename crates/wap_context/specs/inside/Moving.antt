@@ -33,14 +33,27 @@ use Rattle.wap_context.specs.Sites.{fragment_call, site_of, IfOver}
 use Rattle.wap_context.specs.Acting.{lines_in, waiting_in}
 use Rattle.wap_context.specs.host.Finding.{shelved_page}
 
+-- ---- what a navigation leaves to do
+
+-- the task that is next
+abbrev pub next_in : Went → Option Next
+next_in (Leads task from) = Some (record { task = task; from = from })
+next_in other = None
+
+-- the dialog that waits, with the script that asks
+abbrev pub waits_in : Went → Option Waits
+waits_in (AsksUser dialog paused) = Some (waits_of dialog paused)
+waits_in other = None
+
 -- ---- navigations that start no script
 
--- a navigation for which nothing more is asked, where such shelves are
-pub record Moves (once : Once) (IsSuch : Shelf → Type 0) (old new : Browser)
-    (before after : List Line) (next : Option Next) : Type 0 where
+-- a navigation for which nothing more is asked, and what waits after it, where such shelves are
+pub record Moves (once : Once) (waiting : Option Waits) (IsSuch : Shelf → Type 0)
+    (old new : Browser) (before after : List Line) (went : Went) : Type 0 where
   pub world : new.world ≡ once.step.world
   pub lines : after ≡ before ++ once.step.lines
-  pub leads : next ≡ once.next
+  pub leads : next_in went ≡ once.next
+  pub waits : waits_in went ≡ waiting
   pub closed : once.step.is_open ≡ false
   pub asked : once.step.asked ≡ []
   pub turns : new.world.turns ≡ old.world.turns
@@ -72,16 +85,6 @@ pub record Asked (request : Request) (seen after : Seen) (before shown : List Li
   pub stays : Stays seen after
 
 -- ---- navigations with keys after them
-
--- the task that is next
-abbrev pub next_in : Went → Option Next
-next_in (Leads task from) = Some (record { task = task; from = from })
-next_in other = None
-
--- the dialog that waits, with the script that asks
-abbrev pub waits_in : Went → Option Waits
-waits_in (AsksUser dialog paused) = Some (waits_of dialog paused)
-waits_in other = None
 
 -- a rule for the keys after a navigation: what was done without them
 pub record Goes (pages : Pages) (rule : List Key → Once) (seen now : Seen) (new : Browser)

@@ -1,5 +1,4 @@
-use Rattle.std.proofs.Common.{Option, sym, ap, ◌∙◌}
-use Rattle.wap_cardrules.specs.declared.task.Task.{Task}
+use Rattle.std.proofs.Common.{sym, ap, ◌∙◌}
 use Rattle.wap_base.specs.declared.key.Key.TheVariants as key
 use Rattle.wap_world.proofs.SiteLemmas.Asking.{Stays-same}
 use Rattle.wap_world.specs.Keys.{ignored, act_or, apply}

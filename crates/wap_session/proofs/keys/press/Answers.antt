@@ -17,7 +17,7 @@ use Rattle.wap_world.specs.inboxes.Notices.{entry_lines}
 use Rattle.wap_world.specs.inboxes.Inboxes.{telling, push_lines, pushes_with, opening, play_pressed}
 use Rattle.wap_world.proofs.InboxesLemmas.Winning.{exactly}
 use Rattle.wap_world.proofs.InboxesLemmas.Alike.{winners_win}
-use Rattle.wap_world.specs.scripting.UnitSites.{Pages, shelf_of}
+use Rattle.wap_world.specs.scripting.UnitSites.{Pages}
 use Rattle.wap_context.specs.declared.waiting.Step.{Step as Did}
 use Rattle.wap_context.specs.declared.waiting.Step.TheVariants.{Settled}
 use Rattle.wap_context.specs.Acting.{Acts}

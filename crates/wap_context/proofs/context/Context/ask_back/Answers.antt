@@ -10,8 +10,8 @@ returns g c =
     c.args.self.now c.return_with.new.self c.args.lines.now
     c.args.sets c.args.earlier
     (g.P.Pages.seen c.ask_for.new.pages) c.ask_for.new.lines c.return_with.new.lines
-    c.in_ok-return_with.field-0 c.went_to.result c.in_ok-page.page c.deck_answer.result
-    c.went_to.ensures.next c.went_to.ensures.none c.in_ok-page.ensures c.deck_answer.ensures
+    c.in_ok-return_with.field-0 c.in_ok-page.page c.deck_answer.result
+    c.in_ok-page.ensures c.deck_answer.ensures
     c.in_ok-return_with.ensures
 
 pub returns-in_err-page : goal.returns-in_err-page

@@ -12,10 +12,9 @@ pub returns-in_ok-return_to-in-Some : goal.returns-in_ok-return_to-in-Some
 returns-in_ok-return_to-in-Some g c =
     back_returns (g.P.Pages.seen c.args.pages.now)
     c.args.self.now c.return_to.new.self c.args.lines.now c.args.sets c.args.earlier
-    c.return_to.new.lines c.in_ok-return_to-in-Some.field-0 c.went_to.result
+    c.return_to.new.lines c.in_ok-return_to-in-Some.field-0
     c.in_ok-here.field-0 (c.in-Some.here, c.in-Some.deck)
     c.of-card.result
-    c.went_to.ensures.next c.went_to.ensures.none
     (c.in_ok-here.ensures.is
     ∙ ap (λ (u : Url). page_under u (place_held c.args.self.now)) c.url.ensures) c.in-Some.is
     (c.of-card.ensures

@@ -1,5 +1,3 @@
-use Rattle.std.specs.Option.{option_map}
-use Rattle.wap_world.specs.Steps.{then_task}
 use Rattle.wap_context.proofs.Plays.{if_ok}
 use Rattle.wap_context.proofs.Arrivals.{enters_by}
 use Rattle.wap_context.proofs.context.Context.enter.Goals as goal
@@ -9,5 +7,5 @@ returns c =
     if_ok c.begin_event.result
     (λ next.
     enters_by c.args.event c.args.self.now c.reset_timer.new.self c.begin_event.new.self
-    c.args.lines.now c.begin_event.new.lines (option_map then_task next) c.reset_timer.ensures)
+    c.args.lines.now c.begin_event.new.lines next c.reset_timer.ensures)
     c.begin_event.ensures

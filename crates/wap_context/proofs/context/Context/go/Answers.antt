@@ -33,8 +33,7 @@ returns-in_ok-refuse-in-Err g c =
     let place = place_held old in
     refused_takes (g.P.Pages.seen c.args.pages.now) old c.refuse.new.self c.args.lines.now
     (λ pages keys. go (site_of pages) place keys (base_url place c.args.from) c.args.one)
-    c.refuse.new.lines c.in_ok-refuse-in-Err.field-0 c.went_to.result c.in-Err.refusal
-    c.went_to.ensures.next c.went_to.ensures.none
+    c.refuse.new.lines c.in_ok-refuse-in-Err.field-0 c.in-Err.refusal
     (λ pages keys.
     sym (ap (λ (base : Option Url). go (site_of pages) place keys base c.args.one old.world)
     c.in_ok-base.ensures.is)

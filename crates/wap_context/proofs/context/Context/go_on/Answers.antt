@@ -25,4 +25,4 @@ returns g c =
     (g.P.Pages.seen c.run.new.pages) c.args.self.now c.run.new.self c.end_script.new.self
     c.args.lines.now c.append.new.self c.end_script.new.lines c.in_ok-outcome.outcome
     c.in_ok-outcome.more c.in_ok-end_script.field-0 c.in_ok-append.ensures.ok
-    c.in_ok-end_script.ensures.moves c.in_ok-end_script.ensures.asks c.in_ok-outcome.ensures
+    c.in_ok-end_script.ensures c.in_ok-outcome.ensures

@@ -34,8 +34,7 @@ returns g c =
     let place = place_held old in
     refused_takes (g.P.Pages.seen c.args.pages.now) old c.refuse.new.self c.args.lines.now
     (λ pages keys. open_url (site_of pages) place keys c.args.url.now) c.refuse.new.lines
-    c.in_ok-refuse-in-Err.field-0 c.went_to.result c.in-Err.refusal
-    c.went_to.ensures.next c.went_to.ensures.none
+    c.in_ok-refuse-in-Err.field-0 c.in-Err.refusal
     (λ pages keys.
     open_refused (site_of pages) place keys old.world c.args.url.now c.in-Err.refusal
     (sym c.in-Err.is ∙ c.in_ok-url.ensures

@@ -28,8 +28,7 @@ returns-in_ok-refuse-in-None g c =
     let place = place_held old in
     refused_takes (g.P.Pages.seen c.args.pages.now) old c.refuse.new.self c.args.lines.now
     (λ pages keys. prev (shelf_of pages) place keys c.args.sets) c.refuse.new.lines
-    c.in_ok-refuse-in-None.field-0 c.went_to.result refusals.First
-    c.went_to.ensures.next c.went_to.ensures.none
+    c.in_ok-refuse-in-None.field-0 refusals.First
     (λ pages keys.
     ap (back_to (shelf_of pages) place keys c.args.sets old.world)
     (sym (sym c.in-None.is ∙ c.in_ok-earlier.ensures

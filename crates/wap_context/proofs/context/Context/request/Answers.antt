@@ -6,16 +6,15 @@ use Rattle.wap_context.specs.Sites.{site_of}
 use Rattle.wap_context.proofs.Requesting.{page_missed, request_first, request_takes, request_starts}
 use Rattle.wap_context.proofs.context.Context.request.Goals as goal
 
-pub returns-in_ok-next-in-Ok : goal.returns-in_ok-next-in-Ok
-returns-in_ok-next-in-Ok g c =
+pub returns-in_ok-take_answer-in-Ok : goal.returns-in_ok-take_answer-in-Ok
+returns-in_ok-take_answer-in-Ok g c =
     request_takes (g.P.Pages.seen c.args.pages.now)
     c.args.self.now c.take_answer.new.self c.args.lines.now
     c.args.sets c.args.caller.now c.args.one
     (g.P.Pages.seen c.ask.new.pages) c.ask.new.lines c.take_answer.new.lines
-    c.in_ok-next-in-Ok.next c.went_to.result c.in_ok-page.page c.in-Ok.answer c.into_url-url.result
+    c.in_ok-take_answer-in-Ok.field-0 c.in_ok-page.page c.in-Ok.answer c.into_url-url.result
     c.into_url-url.ensures
-    c.went_to.ensures.next c.went_to.ensures.none
-    c.in_ok-page.ensures (sym c.page_answer.ensures ∙ c.in-Ok.is) c.in_ok-next-in-Ok.ensures
+    c.in_ok-page.ensures (sym c.page_answer.ensures ∙ c.in-Ok.is) c.in_ok-take_answer-in-Ok.ensures
 
 pub returns-in-Err : goal.returns-in-Err
 returns-in-Err g c =

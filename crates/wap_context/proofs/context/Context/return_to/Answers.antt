@@ -1,5 +1,3 @@
-use Rattle.std.specs.Option.{option_map}
-use Rattle.wap_world.specs.Steps.{then_task}
 use Rattle.wap_context.proofs.Plays.{if_ok}
 use Rattle.wap_context.proofs.Arrivals.{returns_to}
 use Rattle.wap_context.proofs.context.Context.return_to.Goals as goal
@@ -11,6 +9,6 @@ returns c =
     returns_to c.args.sets c.args.earlier c.args.deck c.args.self.now c.leave_and_set.new.self
     c.pop_card.new.self
     c.enter.new.self c.args.lines.now c.leave_and_set.new.lines c.enter.new.lines
-    (option_map then_task next)
+    next
     c.in_ok-leave_and_set.ensures c.in_ok-pop_card.ensures enters)
     c.enter.ensures

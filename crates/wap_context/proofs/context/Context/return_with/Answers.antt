@@ -1,6 +1,4 @@
 use Rattle.std.proofs.Common.{[]}
-use Rattle.std.specs.Option.{option_map}
-use Rattle.wap_world.specs.Steps.{then_task}
 use Rattle.wap_context.specs.Browsers.{place_held}
 use Rattle.wap_world.specs.Tasks.{return}
 use Rattle.wap_context.specs.inside.Moving.{HasDeck}
@@ -15,7 +13,7 @@ returns-in-Ok c =
     moves_ok (return (place_held c.args.self.now) [] c.args.sets c.args.earlier
     c.args.self.now.world) c.args.earlier.url c.args.self.now
     c.return_to.new.self c.args.lines.now c.return_to.new.lines
-    (option_map then_task next) c.args.answer c.in-Ok.deck
+    next c.args.answer c.in-Ok.deck
     (HasDeck c.args.earlier.url c.in-Ok.deck) c.in-Ok.is (λ shelf over has. has))
     c.return_to.ensures
 
@@ -25,6 +23,6 @@ returns-in-Err c =
     (λ next.
     moves_no (return (place_held c.args.self.now) [] c.args.sets c.args.earlier
     c.args.self.now.world) c.args.earlier.url c.args.self.now
-    c.refuse.new.self c.args.lines.now c.refuse.new.lines (option_map then_task next) c.args.answer
+    c.refuse.new.self c.args.lines.now c.refuse.new.lines next c.args.answer
     c.in-Err.refusal c.in-Err.is)
     c.refuse.ensures

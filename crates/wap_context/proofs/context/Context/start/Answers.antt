@@ -18,7 +18,7 @@ returns-in_ok-reject-in-Err g c =
     (c.in_ok-why.ensures
     ∙ ap (λ (u : Unit). start_by (external_in u) string (call_at c.args.url)) c.deref.ensures)
     (ap (λ (l : Limits). l.string) c.limits-string.ensures.value) c.in-Err.is
-    c.in_ok-reject-in-Err.ensures.moves c.in_ok-reject-in-Err.ensures.none
+    c.in_ok-reject-in-Err.ensures
 
 pub returns-in-Ok : goal.returns-in-Ok
 returns-in-Ok g c =

@@ -7,9 +7,8 @@ returns-in_ok-arrive-in-Some g c =
     stay_arrives (g.P.Pages.seen c.args.pages.now)
     c.args.self.now c.arrive.new.self c.args.lines.now
     c.args.sets c.args.caller.now c.args.one c.arrive.new.lines c.in_ok-arrive-in-Some.field-0
-    c.went_to.result c.in_ok-here.field-0
+    c.in_ok-here.field-0
     (c.in-Some.here, c.in-Some.deck) c.fragment_on-url.result
-    c.went_to.ensures.next c.went_to.ensures.none
     c.in_ok-here.ensures c.in-Some.is
     c.fragment_on-url.ensures
     c.in_ok-arrive-in-Some.ensures

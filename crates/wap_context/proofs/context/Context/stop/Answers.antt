@@ -14,8 +14,7 @@ returns g c =
     c.in_ok-went.went c.follow.result c.new-lines.ensures
     (stop_takes seen c.args.self.now c.end_script.new.self c.new-lines.result
     c.end_script.new.lines c.args.waiting.base c.into_parts-base.result.1 c.in_ok-went.went
-    c.into_parts-base.ensures.base c.in_ok-went.ensures.moves
-    c.in_ok-went.ensures.asks)
+    c.into_parts-base.ensures.base c.in_ok-went.ensures)
     c.follow.ensures
 
 pub returns-in_err-went : goal.returns-in_err-went

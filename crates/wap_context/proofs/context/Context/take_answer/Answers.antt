@@ -1,6 +1,4 @@
 use Rattle.std.proofs.Common.{[]}
-use Rattle.std.specs.Option.{option_map}
-use Rattle.wap_world.specs.Steps.{then_task}
 use Rattle.wap_context.specs.Browsers.{IsOver, place_held}
 use Rattle.wap_world.specs.Tasks.{try_deck}
 use Rattle.wap_context.specs.inside.Moving.{HasDeck}
@@ -15,7 +13,7 @@ returns-in-Ok c =
     moves_ok (try_deck (place_held c.args.self.now) [] c.args.sets c.args.caller.now c.args.url
     c.args.self.now.world) c.args.url c.args.self.now
     c.try_deck.new.self c.args.lines.now c.try_deck.new.lines
-    (option_map then_task next) c.args.answer c.in-Ok.deck
+    next c.args.answer c.in-Ok.deck
     (λ shelf. IsOver shelf c.args.self.now × HasDeck c.args.url c.in-Ok.deck shelf) c.in-Ok.is
     (λ shelf over has. (over, has)))
     c.try_deck.ensures
@@ -26,6 +24,6 @@ returns-in-Err c =
     (λ next.
     moves_no (try_deck (place_held c.args.self.now) [] c.args.sets c.args.caller.now c.args.url
     c.args.self.now.world) c.args.url c.args.self.now
-    c.refuse.new.self c.args.lines.now c.refuse.new.lines (option_map then_task next) c.args.answer
+    c.refuse.new.self c.args.lines.now c.refuse.new.lines next c.args.answer
     c.in-Err.refusal c.in-Err.is)
     c.refuse.ensures

@@ -33,9 +33,9 @@ returns-in-Go g c =
     budget_onces seen old c.refuse.new.self c.args.lines.now
     (Tasks seen old c.refuse.new.self c.args.lines.now c.args.task c.args.from)
     (goes seen old c.refuse.new.self c.args.lines.now c.in-Go.one c.args.from) c.take_turn.new.self
-    c.refuse.new.lines c.in_ok-refuse-in-Go.field-0 c.went_to.result
+    c.refuse.new.lines c.in_ok-refuse-in-Go.field-0
     (go_turns seen old c.refuse.new.self c.args.lines.now c.args.task c.in-Go.one
-    c.args.from c.in-Go.is) c.went_to.ensures.next c.went_to.ensures.none
+    c.args.from c.in-Go.is)
     (c.take_turn.ensures.left c.if-take_turn.false) c.in_ok-refuse-in-Go.ensures
 
 pub returns-in_err-refuse-in-Go : goal.returns-in_err-refuse-in-Go
@@ -51,9 +51,7 @@ returns-in-Prev g c =
     budget_onces seen old new lines (Tasks seen old new lines c.args.task c.args.from)
     (prevs seen old new lines c.in-Prev.sets) c.take_turn-in-Prev.new.self
     c.refuse-else-take_turn-2.new.lines c.in_ok-refuse-in-Prev.field-0
-    c.went_to-else-take_turn-2.result
     (prev_turns seen old new lines c.args.task c.in-Prev.sets c.args.from c.in-Prev.is)
-    c.went_to-else-take_turn-2.ensures.next c.went_to-else-take_turn-2.ensures.none
     (c.take_turn-in-Prev.ensures.left c.if-take_turn-2.false) c.in_ok-refuse-in-Prev.ensures
 
 pub returns-in_err-refuse-in-Prev : goal.returns-in_err-refuse-in-Prev

@@ -1,5 +1,3 @@
-use Rattle.std.specs.Option.{option_map}
-use Rattle.wap_world.specs.Steps.{then_task}
 use Rattle.std.proofs.Common.{◌∙◌, Option, sym, ap}
 use Rattle.wap_world.specs.Shelves.{Entrance}
 use Rattle.wap_world.specs.Access.{entrance_of, may_enter}
@@ -13,7 +11,7 @@ returns-then-is_allowed c =
     (λ next.
     tries_allowed c.args.sets c.args.caller.now c.args.url c.args.deck c.args.self.now
     c.arrive.new.self
-    c.args.lines.now c.arrive.new.lines (option_map then_task next)
+    c.args.lines.now c.arrive.new.lines next
     (ap (λ (e : Option Entrance). may_enter c.args.url e c.args.caller.now)
     (ap entrance_of (sym c.deref.ensures) ∙ sym c.in_ok-entrance.ensures)
     ∙ sym c.in_ok-is_allowed.ensures ∙ c.if-is_allowed.true))
@@ -25,7 +23,7 @@ returns-else-is_allowed c =
     (λ next.
     tries_denied c.args.sets c.args.caller.now c.args.url c.args.deck c.args.self.now
     c.refuse.new.self
-    c.args.lines.now c.refuse.new.lines (option_map then_task next)
+    c.args.lines.now c.refuse.new.lines next
     (ap (λ (e : Option Entrance). may_enter c.args.url e c.args.caller.now)
     (ap entrance_of (sym c.deref.ensures) ∙ sym c.in_ok-entrance.ensures)
     ∙ sym c.in_ok-is_allowed.ensures ∙ c.if-is_allowed.false))

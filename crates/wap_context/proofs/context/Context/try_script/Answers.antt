@@ -29,7 +29,7 @@ returns-in_ok-reject g c =
     (c.in_ok-may_enter.ensures
     ∙ ap (λ (e : Option Entrance). may_enter c.args.url e c.args.caller.now)
     (c.in_ok-entrance.ensures ∙ ap entrance_in c.deref.ensures))
-    c.if-branch.false c.in_ok-reject.ensures.moves c.in_ok-reject.ensures.none
+    c.if-branch.false c.in_ok-reject.ensures
 
 pub returns-in_err-entrance : goal.returns-in_err-entrance
 returns-in_err-entrance g c =

@@ -22,8 +22,8 @@ returns-in_ok-refuse g c =
     budget_onces seen old c.refuse.new.self c.args.lines.now
     (λ pages keys. open_by (site_of pages) (place_held old) keys c.args.url.now)
     (opens seen old c.refuse.new.self c.args.lines.now c.args.url.now) c.take_turn.new.self
-    c.refuse.new.lines c.in_ok-refuse.field-0 c.went_to.result (λ pages keys. refl)
-    c.went_to.ensures.next c.went_to.ensures.none (c.take_turn.ensures.left c.if-take_turn.false)
+    c.refuse.new.lines c.in_ok-refuse.field-0 (λ pages keys. refl)
+    (c.take_turn.ensures.left c.if-take_turn.false)
     c.in_ok-refuse.ensures
 
 pub returns-in_err-refuse : goal.returns-in_err-refuse
