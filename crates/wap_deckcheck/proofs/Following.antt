@@ -14,7 +14,7 @@ use Rattle.wap_tokens.specs.declared.markup.deck.Item.TheOpen.{Item-F}
 use Rattle.wap_tokens.specs.markup.Trees.{node_from, node_of}
 use Rattle.wap_tokens.specs.markup.Good.{Rule, is_among, place_in, is_not_behind}
 use Rattle.wap_tokens.specs.markup.Good.{may_precede, may_follow, tags_of}
-use Rattle.wap_deckcheck.specs.inside.Reached.{HasReached, IsReachedBy}
+use Rattle.wap_deckcheck.specs.Reached.{HasReached, IsReachedBy}
 use Rattle.wap_deckcheck.proofs.Tests.{all_and, all_or, all_not, all_apart, all_all, all_same}
 
 -- ---- an element after others

@@ -8,7 +8,7 @@ use Rattle.std.proofs.Math.Seq.{take-suc}
 use Rattle.wap_tokens.specs.declared.markup.deck.Item.TheVariants.{outs-Node}
 use Rattle.wap_tokens.specs.declared.markup.deck.Item.TheVariants as item
 use Rattle.wap_deckcheck.specs.declared.walk.Walk.{Walk}
-use Rattle.wap_deckcheck.specs.inside.Reached.{HasReached}
+use Rattle.wap_deckcheck.specs.Reached.{HasReached}
 use Rattle.std.specs.Option.{option_and_then, option_to_list}
 use Rattle.std.proofs.lemmas.Grind.{flat_map-append}
 use Rattle.std.proofs.lemmas.List.Elements.{filter_map-append}

@@ -1,5 +1,4 @@
 -- What the contracts of this crate's own functions say.
 pub mod Kinds
 pub mod Rows
-pub mod Reached
 pub mod Walks

@@ -15,3 +15,4 @@ pub use fault::DeckFault;
 pub use forms::{LentForm, wrong_value};
 pub use judge::{check, judge_deck};
 pub use laws::{faults_ascend, good_is_faultless, rules_are_listed};
+pub use rules::{Rule, has_needs, is_blank_text};

@@ -11,7 +11,7 @@ ghost use Rattle.wap_tokens.specs.markup.Good.{has_needs, holds_dos};
 ghost use Rattle.wap_tokens.specs.markup.Tables.{is_same_tag};
 ghost use Rattle.wap_tokens.specs.markup.Trees.{node_of, words_of};
 ghost use Rattle.wap_deckcheck.specs.inside.Rows.{groups_of, rule_row};
-ghost use Rattle.wap_deckcheck.specs.inside.Reached.{is_used_with, HasReached, IsReachedBy};
+ghost use Rattle.wap_deckcheck.specs.Reached.{is_used_with, HasReached, IsReachedBy};
 
 use std::marker::Model;
 use wap_base::Part;
@@ -136,8 +136,8 @@ fn are_blanks(text: &str) -> bool
     text.chars().all(|c| is_blank(c))
 }
 
-/// Whether a text is one literal of blanks.
-fn is_blank_text(parts: &[Part]) -> bool
+/// Whether a text is one literal of blanks, which may stand anywhere.
+pub fn is_blank_text(parts: &[Part]) -> bool
     ensures { result ≡ is_blank_text parts.now }
 {
     match parts {
@@ -164,8 +164,36 @@ impl Rule {
         }
     }
 
+    /// Whether its groups of elements come in their order.
+    pub fn is_in_order(&self) -> bool
+        ensures { result ≡ self.now.in_order }
+    {
+        self.in_order
+    }
+
+    /// Whether texts may stand in it.
+    pub fn has_text(&self) -> bool
+        ensures { result ≡ self.now.text }
+    {
+        self.text
+    }
+
+    /// The attributes that it has to have.
+    pub fn needed_attributes(&self) -> &'static [AttrName]
+        ensures { result.now ≡ self.now.attributes }
+    {
+        self.attributes
+    }
+
+    /// The elements of which one at least has to stand in it, if there are any.
+    pub fn needed(&self) -> &'static [Tag]
+        ensures { result.now ≡ self.now.needs }
+    {
+        self.needs
+    }
+
     /// The number of the group in which a tag is.
-    fn place_of(&self, tag: Tag) -> Option<usize>
+    pub fn place_of(&self, tag: Tag) -> Option<usize>
         ensures { result ≡ place_in self.now.groups tag }
     {
         place_in(self.groups, tag)
@@ -183,7 +211,7 @@ impl Rule {
     }
 
     /// The place that is reached with an element after items, if it may stand there.
-    fn reach(&self, reached: usize, earlier: &[Item], tag: Tag) -> Option<usize>
+    pub fn reach(&self, reached: usize, earlier: &[Item], tag: Tag) -> Option<usize>
         requires { HasReached self.now earlier.now reached }
         ensures follows { is_some result ≡ may_follow self.now (tags_of earlier.now) tag }
         ensures reached { IfSome result (λ next. IsReachedBy self.now reached tag next) }
@@ -243,7 +271,7 @@ fn has_all(node: &Node, names: &[AttrName]) -> bool
 }
 
 /// Whether a node has all that its rule asks for.
-pub(crate) fn has_needs(rule: &Rule, node: &Node) -> bool
+pub fn has_needs(rule: &Rule, node: &Node) -> bool
     ensures { result ≡ has_needs rule.now node.now }
 {
     has_all(node, rule.attributes)

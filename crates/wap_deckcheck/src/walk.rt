@@ -8,7 +8,7 @@ ghost use Rattle.wap_deckcheck.specs.Places.{own_id, own_name, ids_among, names_
 ghost use Rattle.wap_deckcheck.specs.Places.{node_places, ids_level, items_places};
 ghost use Rattle.wap_deckcheck.specs.Faults.{is_misplaced, is_taken, fault_if, own_faults};
 ghost use Rattle.wap_deckcheck.specs.Faults.{lacks_card, faults, Judges};
-ghost use Rattle.wap_deckcheck.specs.inside.Reached.{HasReached};
+ghost use Rattle.wap_deckcheck.specs.Reached.{HasReached};
 ghost use Rattle.wap_deckcheck.specs.inside.Walks.{judged, inner_faults, item_faults, top_places};
 
 use crate::DeckFault;

@@ -13,12 +13,11 @@ use Rattle.wap_tokens.specs.markup.Decks.{deck_of}
 use Rattle.wap_tokens.specs.markup.Good.{IsGood}
 use Rattle.wap_wbxml.specs.declared.fault.DocFault.{DocFault}
 use Rattle.wap_wbxml.specs.spelling.Spelling.{spelling}
-use Rattle.wap_deckcheck.specs.declared.fault.DeckFault.{DeckFault}
 use Rattle.wap_deckcheck.specs.declared.fault.DeckFault.TheVariants as deck
 use Rattle.wap_pages.specs.declared.fault.PageFault.{PageFault}
 use Rattle.wap_pages.specs.declared.fault.PageFault.TheVariants as page
-use Rattle.wap_mend.specs.Mending.{IsLeft}
-use Rattle.wap_mend.specs.Pages.{IsGoodPage, IsNoDocument, HasNoCard}
+use Rattle.wap_mend.specs.Pages.{IsGoodPage, IsGivenBy, IsTold, IsNoDocument, HasNoCard}
+use Rattle.wap_mend.specs.declared.pages.MendedPage.{MendedPage}
 use Rattle.wap_mend.specs.declared.mending.MendFault.{MendFault}
 use Rattle.wap_mend.specs.declared.mending.MendFault.TheVariants as mend
 use Rattle.wap_explain.specs.declared.ending.Ending.{Ending}
@@ -29,22 +28,24 @@ use Rattle.wap_explain.specs.declared.ending.Ending.TheVariants.{NoMemory}
 abbrev pub ending_of : MendFault → Ending
 ending_of (mend.Document fault) = Refused (page.Document fault)
 ending_of mend.NoCard = Refused (page.Deck deck.NoCard)
-ending_of (mend.Left fault) = Refused (page.Deck fault)
 ending_of mend.NoMemory = NoMemory
 
 -- why the page with these bytes isn't mended
 pub data IsUnmended (bytes : List ℕ) : PageFault → Type 0 where
   document : (why : DocFault) → IsNoDocument bytes why → IsUnmended bytes (page.Document why)
   no_card : HasNoCard bytes → IsUnmended bytes (page.Deck deck.NoCard)
-  left : (why : DeckFault) → IsLeft why → IsUnmended bytes (page.Deck why)
 
--- the one spelling of a document with a good deck was written, that of the page where its own deck
--- is good
+-- a mended page was written: the one spelling of a document with a good deck, that of the page
+-- where its own deck is good; it is made of the deck that was given, and its changes say what is
+-- lost
 pub record Gave (bytes : List ℕ) (before after : SinkSeen) : Type 0 where
-  pub text : List ℕ
-  pub good : IsGoodPage text
-  pub kept : (d : Document) → IsDocument bytes d → IsGood (deck_of d) → text ≡ spelling d
-  pub written : Appends before.taken after.taken text
+  pub mended : MendedPage
+  pub good : IsGoodPage mended.bytes
+  pub given : IsGivenBy bytes mended.given
+  pub told : IsTold mended
+  pub kept : (d : Document) → IsDocument bytes d → IsGood (deck_of d)
+      → mended.bytes ≡ spelling d
+  pub written : Appends before.taken after.taken mended.bytes
 
 -- what the mending of the page with these bytes wrote, by how it ended
 pub record IsMendingOf (bytes : List ℕ) (before after : SinkSeen) (ending : Ending) : Type 0 where

@@ -1,10 +1,10 @@
 //! What mending changed, in words: a line for each change, with the way to its place, and the rule.
-use crate::decks::{name_of_tag, node_at, plain_value};
+use crate::decks::{Parts, name_of_tag, node_at, plain_value};
 use crate::pieces::{Added, Shown};
 use std::alloc::Global;
 use std::fmt;
 use std::fmt::Write;
-use wap_base::NoMemory;
+use wap_base::{NoMemory, Part};
 use wap_mend::{Change, MendedPage, What};
 use wap_tokens::markup::{AttrName, Item, Node, RULES, Tag};
 use wap_tokens::name_of_attr;
@@ -118,6 +118,7 @@ fn add_what(out: &mut String, root: &Node, change: &Change) -> Added {
             write!(out, "the attribute {name} is put in lower case (rule 4)")?;
         }
         What::Id => out.push_str("an earlier card has its id, which goes (rule 6)")?,
+        What::Anew => out.push_str("the deck is put together anew")?,
         What::Named(name) => {
             let name = Shown(name.as_str());
             write!(
@@ -130,6 +131,22 @@ fn add_what(out: &mut String, root: &Node, change: &Change) -> Added {
     Ok(())
 }
 
+/// Whether a part of a text is more than blanks.
+fn says_more(part: &Part) -> bool {
+    match part {
+        Part::Lit(text) => !text.as_str().trim().is_empty(),
+        Part::Var(..) => true,
+    }
+}
+
+/// Adds the texts that go with a change, if they are more than blanks.
+fn add_lost(out: &mut String, lost: &[Part]) -> Added {
+    if lost.iter().any(says_more) {
+        write!(out, ": \"{}\"", Parts(lost))?;
+    }
+    Ok(())
+}
+
 /// A line for each change of a page.
 pub(crate) fn lines_of(alloc: Global, page: &MendedPage) -> Result<String, NoMemory> {
     let root = &page.given.root;
@@ -137,6 +154,7 @@ pub(crate) fn lines_of(alloc: Global, page: &MendedPage) -> Result<String, NoMem
     for change in page.changes.as_slice() {
         write!(out, "at {}: ", Place(root, change.path.as_slice()))?;
         add_what(&mut out, root, change)?;
+        add_lost(&mut out, change.lost.as_slice())?;
         out.push_str("\n")?;
     }
     Ok(out)

@@ -12,4 +12,5 @@ mod way;
 
 pub(crate) use faults::add_deck_fault;
 pub(crate) use names::{last_path, name_of_tag, node_at, plain_value};
+pub(crate) use texts::Parts;
 pub(crate) use tree::add_deck;

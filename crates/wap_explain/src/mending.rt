@@ -20,7 +20,6 @@ fn ending_of(fault: MendFault) -> Ending
     match fault {
         MendFault::Document(fault) => Ending::Refused(PageFault::Document(fault)),
         MendFault::NoCard => Ending::Refused(PageFault::Deck(DeckFault::NoCard)),
-        MendFault::Left(fault) => Ending::Refused(PageFault::Deck(fault)),
         MendFault::NoMemory => Ending::NoMemory,
     }
 }

@@ -1,3 +1,15 @@
-pub mod Normality
+pub mod Suiting
+pub mod Naming
+pub mod Building
+pub mod Accounting
+pub mod Counting
+pub mod Loads
+pub mod Topping
+pub mod Rooted
+pub mod Accounted
+pub mod Framing
+pub mod Putting
 pub mod Causes
 pub mod Canonical
+pub mod Telling
+pub mod Muteness

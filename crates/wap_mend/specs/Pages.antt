@@ -12,6 +12,8 @@ use Rattle.wap_wbxml.specs.declared.fault.DocFault.TheVariants as fault
 use Rattle.wap_wbxml.specs.Refusal.{IsRefused}
 use Rattle.wap_wbxml.specs.spelling.Spelling.{spelling}
 use Rattle.wap_mend.specs.Identifiers.{known}
+use Rattle.wap_mend.specs.Accounts.{IsMadeOf}
+use Rattle.wap_mend.specs.declared.pages.MendedPage.{MendedPage}
 
 -- the bytes are a document whose deck is good, in its one spelling
 pub record IsGoodPage (bytes : List ℕ) : Type 0 where
@@ -46,3 +48,9 @@ pub record HasNoCard (bytes : List ℕ) : Type 0 where
   pub document : Document
   pub spelled : IsDocument read document
   pub none : cards_of (deck_of document) ≡ []
+
+-- the bytes mean a deck that is made of the one that was given, and the changes say what is lost
+pub record IsTold (page : MendedPage) : Type 0 where
+  pub made : Deck
+  pub meant : IsMeant page.bytes made
+  pub made_of : IsMadeOf page.given page.changes made

@@ -1,82 +1,119 @@
-//! Ids of cards and names of dos, which stand once (rule 6).
+//! Names of dos, each of which stands once in a card or a template (rule 6).
+ghost use Rattle.std.specs.Prelude.{◌≡◌, [], IfOk, OnOk, IfSome, MatchOption};
+ghost use Rattle.std.specs.Option.{option_to_list, option_copied, option_and_then};
+ghost use Rattle.wap_tokens.specs.markup.Trees.{plain_text};
+ghost use Rattle.wap_mend.specs.Accounts.{lost};
+ghost use Rattle.wap_mend.specs.inside.Names.{Takes, name_among, own_name_of};
+
 use crate::change::What;
 use crate::kept::Attributes;
+use crate::names::Names;
 use crate::notes::Notes;
-use crate::values::plain;
+use crate::values::{plain, suited};
 use std::alloc::Global;
-use wap_base::{NoMemory, Part};
+use wap_base::{NoMemory, Part, Text};
 use wap_tokens::markup::{AttrName, Tag};
 
-/// The text of a value without references.
-fn plain_text(parts: &[Part]) -> Option<&str> {
+/// The text of a value without references, as a copy.
+pub(crate) fn text_of(alloc: Global, parts: &[Part]) -> Result<Option<Text>, NoMemory>
+    ensures { IfOk result (λ text. text ≡ plain_text parts.now) }
+{
     match parts {
-        [] => Some(""),
-        [Part::Lit(text)] => Some(text.as_str()),
-        _ => None,
+        [] => Ok(Some(Text::new(alloc))),
+        [Part::Lit(text)] => Ok(Some(text.copy(alloc)?)),
+        _ => Ok(None),
     }
 }
 
-/// The attributes of a card, its id taken: without it, if it is taken already.
-fn card_attributes(
+/// The name by which a do is told apart, as a copy.
+fn name_of_do(alloc: Global, attributes: &Attributes) -> Result<Option<Text>, NoMemory>
+    ensures { IfOk result (λ name. name ≡ name_among attributes.now.rows) }
+{
+    match attributes.value_of(AttrName::Name) {
+        Some(name) => text_of(alloc, name.as_slice()),
+        None => match attributes.value_of(AttrName::Type) {
+            Some(value) => text_of(alloc, value.as_slice()),
+            None => Ok(None),
+        },
+    }
+}
+
+/// The attributes of a do with another name, if it may have that.
+fn renamed(
+    alloc: Global,
+    attributes: &Attributes,
+    name: Text,
+) -> Result<Option<Attributes>, NoMemory>
+    ensures tag { IfOk result (λ named. IfSome named (λ kept. kept.tag ≡ attributes.now.tag)) }
+    ensures name { IfOk result (λ named. IfSome named (λ kept. name_among kept.rows ≡ Some name)) }
+{
+    let value = plain(alloc, name)?;
+    let Some(attribute) = suited(alloc, attributes.tag(), AttrName::Name, value)? else {
+        return Ok(None);
+    };
+    let mut named = attributes.copy_without(alloc, AttrName::Name)?;
+    named.add(attribute)?;
+    Ok(Some(named))
+}
+
+/// The attributes of a do whose name is taken, with another one that isn't, if there is any.
+fn do_with_other(
     alloc: Global,
     notes: &mut Notes,
-    attributes: Attributes,
-) -> Result<Attributes, NoMemory> {
-    let Some(id) = attributes.value_of(AttrName::Id) else {
-        return Ok(attributes);
+    names: &mut Names,
+    attributes: &Attributes,
+    name: &Text,
+) -> Result<Option<Attributes>, NoMemory>
+    ensures tag { IfOk result (λ named. IfSome named (λ kept. kept.tag ≡ attributes.now.tag)) }
+    ensures still { OnOk result (lost notes.new.changes ≡ lost notes.old.changes) }
+    ensures taken { IfOk result (λ named. MatchOption named (Takes names.old names.new [] [])
+        (λ kept. Takes names.old names.new [] (option_to_list (name_among kept.rows)))) }
+{
+    let Some(other) = names.take_other(alloc, name)? else {
+        return Ok(None);
     };
-    let Some(text) = plain_text(id) else {
-        return Ok(attributes);
-    };
-    if !notes.ids.take(alloc, text)? {
-        return Ok(attributes);
-    }
-    notes.note(alloc, What::Id)?;
-    attributes.copy_without(alloc, Some(AttrName::Id))
-}
-
-/// The value by which a do is told apart.
-fn name_of_do(attributes: &Attributes) -> Option<&[Part]> {
-    match attributes.value_of(AttrName::Name) {
-        Some(name) => Some(name),
-        None => attributes.value_of(AttrName::Type),
-    }
+    notes.note(alloc, What::Named(other.copy(alloc)?))?;
+    renamed(alloc, attributes, other)
 }
 
 /// The attributes of a do, its name taken: with another, if it is taken already.
 fn do_attributes(
     alloc: Global,
     notes: &mut Notes,
+    names: &mut Names,
     attributes: Attributes,
-) -> Result<Attributes, NoMemory> {
-    let Some(value) = name_of_do(&attributes) else {
-        return Ok(attributes);
+) -> Result<Option<Attributes>, NoMemory>
+    ensures tag { IfOk result (λ named. IfSome named (λ kept. kept.tag ≡ attributes.tag)) }
+    ensures still { OnOk result (lost notes.new.changes ≡ lost notes.old.changes) }
+    ensures taken { IfOk result (λ named. MatchOption named (Takes names.old names.new [] [])
+        (λ kept. Takes names.old names.new [] (option_to_list (name_among kept.rows)))) }
+{
+    let Some(name) = name_of_do(alloc, &attributes)? else {
+        return Ok(Some(attributes));
     };
-    let Some(text) = plain_text(value) else {
-        return Ok(attributes);
-    };
-    if !notes.names.take(alloc, text)? {
-        return Ok(attributes);
+    if names.take(alloc, &name)? {
+        do_with_other(alloc, notes, names, &attributes, &name)
+    } else {
+        Ok(Some(attributes))
     }
-    let Some(other) = notes.names.take_other(alloc, text)? else {
-        return Ok(attributes);
-    };
-    notes.note(alloc, What::Named(other.copy(alloc)?))?;
-    let mut named = attributes.copy_without(alloc, Some(AttrName::Name))?;
-    named.add(AttrName::Name, plain(alloc, other)?)?;
-    Ok(named)
 }
 
-/// The attributes of an element whose id or name is told apart from those before.
+/// The attributes of an element whose name is told apart from those before, if there is one that
+/// isn't taken.
 pub(crate) fn told_apart(
     alloc: Global,
     notes: &mut Notes,
-    tag: Tag,
+    names: &mut Names,
     attributes: Attributes,
-) -> Result<Attributes, NoMemory> {
-    match tag {
-        Tag::Card => card_attributes(alloc, notes, attributes),
-        Tag::Do => do_attributes(alloc, notes, attributes),
-        _ => Ok(attributes),
+) -> Result<Option<Attributes>, NoMemory>
+    ensures tag { IfOk result (λ named. IfSome named (λ kept. kept.tag ≡ attributes.tag)) }
+    ensures still { OnOk result (lost notes.new.changes ≡ lost notes.old.changes) }
+    ensures taken { IfOk result (λ named. MatchOption named (Takes names.old names.new [] [])
+        (λ kept. Takes names.old names.new [] (option_to_list (own_name_of kept)))) }
+{
+    if attributes.tag() == Tag::Do {
+        do_attributes(alloc, notes, names, attributes)
+    } else {
+        Ok(Some(attributes))
     }
 }

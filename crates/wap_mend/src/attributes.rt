@@ -1,31 +1,32 @@
 //! Attributes that may stand, in lower case where that helps, each once (rule 4).
-ghost use Rattle.std.specs.Prelude.{IfOk, IfSome};
-ghost use Rattle.wap_tokens.specs.markup.Normal.{IsValue};
+ghost use Rattle.std.specs.Prelude.{◌≡◌, IfOk, IfSome, OnOk};
+ghost use Rattle.std.specs.List.{AllByRecursion};
+ghost use Rattle.wap_tokens.specs.markup.Normal.{IsAttribute, IsValue};
+ghost use Rattle.wap_mend.specs.Accounts.{lost};
+ghost use Rattle.wap_mend.specs.inside.Building.{Suits};
 
 use crate::change::What;
 use crate::kept::Attributes;
 use crate::notes::Notes;
-use crate::values::{copied, is_allowed, lowered};
+use crate::values::{copied, lowered, suited};
 use std::alloc::Global;
 use wap_base::{NoMemory, Part, Rows};
 use wap_tokens::markup::{AttrName, Node, Tag};
 
-/// A value in lower case, if an attribute may have it so.
-fn lower_value(
+/// An attribute with its value in lower case, if an element may have it so.
+fn lower_attribute(
     alloc: Global,
     tag: Tag,
     name: AttrName,
     parts: &[Part],
-) -> Result<Option<Rows<Part>>, NoMemory>
-    ensures { IfOk result (λ value. IfSome value IsValue) }
+) -> Result<Option<(AttrName, Rows<Part>)>, NoMemory>
+    ensures fits { IfOk result (λ found. IfSome found IsAttribute) }
+    ensures suits { IfOk result (λ found. IfSome found (Suits tag)) }
+    ensures named { IfOk result (λ found. IfSome found (λ attribute. attribute.0 ≡ name)) }
 {
-    let Some(value) = lowered(alloc, parts)? else {
-        return Ok(None);
-    };
-    if is_allowed(alloc, tag, name, value.as_slice())? {
-        Ok(Some(value))
-    } else {
-        Ok(None)
+    match lowered(alloc, parts)? {
+        Some(value) => suited(alloc, tag, name, value),
+        None => Ok(None),
     }
 }
 
@@ -35,13 +36,13 @@ pub(crate) fn keeps_attribute(
     node: &Node,
     name: AttrName,
 ) -> Result<bool, NoMemory> {
-    for attr in node.attrs.as_slice() {
-        if attr.0 == name {
-            let parts = attr.1.as_slice();
-            if is_allowed(alloc, node.tag, name, parts)? {
+    for attribute in node.attrs.as_slice() {
+        if attribute.0 == name {
+            let parts = attribute.1.as_slice();
+            if suited(alloc, node.tag, name, copied(alloc, parts)?)?.is_some() {
                 return Ok(true);
             }
-            if lower_value(alloc, node.tag, name, parts)?.is_some() {
+            if lower_attribute(alloc, node.tag, name, parts)?.is_some() {
                 return Ok(true);
             }
         }
@@ -53,36 +54,45 @@ pub(crate) fn keeps_attribute(
 fn add_attribute(
     alloc: Global,
     notes: &mut Notes,
-    tag: Tag,
     attributes: &mut Attributes,
-    attr: &(AttrName, Rows<Part>),
-) -> Result<(), NoMemory> {
-    let name = attr.0;
-    let parts = attr.1.as_slice();
-    if attributes.value_of(name).is_some() {
+    attribute: &(AttrName, Rows<Part>),
+) -> Result<(), NoMemory>
+    requires { IsAttribute attribute.now }
+    ensures tag { OnOk result (attributes.new.tag ≡ attributes.old.tag) }
+    ensures still { OnOk result (lost notes.new.changes ≡ lost notes.old.changes) }
+{
+    let tag = attributes.tag();
+    let name = attribute.0;
+    let parts = attribute.1.as_slice();
+    if attributes.has(name) {
         return notes.note(alloc, What::Attribute(name));
     }
-    if is_allowed(alloc, tag, name, parts)? {
-        return attributes.add(name, copied(alloc, parts)?);
+    if let Some(as_it_is) = suited(alloc, tag, name, copied(alloc, parts)?)? {
+        return attributes.add(as_it_is);
     }
-    match lower_value(alloc, tag, name, parts)? {
-        Some(value) => {
+    match lower_attribute(alloc, tag, name, parts)? {
+        Some(lower) => {
             notes.note(alloc, What::Lowered(name))?;
-            attributes.add(name, value)
+            attributes.add(lower)
         }
         None => notes.note(alloc, What::Attribute(name)),
     }
 }
 
-/// The attributes of an element that may stand.
+/// The attributes of an element that may stand, for one of this tag.
 pub(crate) fn mended_attributes(
     alloc: Global,
     notes: &mut Notes,
+    tag: Tag,
     node: &Node,
-) -> Result<Attributes, NoMemory> {
-    let mut attributes = Attributes::new(alloc);
-    for attr in node.attrs.as_slice() {
-        add_attribute(alloc, notes, node.tag, &mut attributes, attr)?;
+) -> Result<Attributes, NoMemory>
+    requires { AllByRecursion IsAttribute node.now.attrs }
+    ensures tag { IfOk result (λ attributes. attributes.tag ≡ tag) }
+    ensures still { OnOk result (lost notes.new.changes ≡ lost notes.old.changes) }
+{
+    let mut attributes = Attributes::new(alloc, tag);
+    for attribute in node.attrs.as_slice() {
+        add_attribute(alloc, notes, &mut attributes, attribute)?;
     }
     Ok(attributes)
 }

@@ -1,5 +1,5 @@
 //! What is changed of a deck.
-use wap_base::{Rows, Text};
+use wap_base::{Part, Rows, Text};
 use wap_tokens::markup::{AttrName, Tag};
 
 /// A change of a deck. The path leads to where it was made in the deck that was given, by the
@@ -8,6 +8,8 @@ use wap_tokens::markup::{AttrName, Tag};
 pub struct Change {
     pub path: Rows<usize>,
     pub what: What,
+    /// The texts that go with it, by their parts.
+    pub lost: Rows<Part>,
 }
 
 /// What is changed.
@@ -39,6 +41,8 @@ pub enum What {
     Second(Tag),
     /// It is moved to its place, before what it stands after.
     Moved(Tag),
+    /// The deck is put together anew, though no rule names a change.
+    Anew,
     /// It would stand too deep, or nothing is left of what it can't do without: it goes, with all
     /// that is in it.
     Gone(Tag),

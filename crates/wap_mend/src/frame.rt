@@ -1,6 +1,9 @@
 //! An element that is being put together: what stands in it so far, by the groups of its rule, and
 //! the paragraph in it that isn't ended yet.
-ghost use Rattle.std.specs.Prelude.{◌≡◌, ◌<◌};
+ghost use Rattle.std.specs.Prelude.{◌≡◌, ◌≢◌, ◌<◌, [], true, false};
+ghost use Rattle.wap_tokens.specs.markup.Good.{rule_of, holds_dos};
+ghost use Rattle.wap_mend.specs.Accounts.{is_paragraph};
+ghost use Rattle.wap_mend.specs.inside.Frames.{nothing};
 
 mod adding;
 mod closing;
@@ -8,8 +11,8 @@ mod paragraphs;
 
 use crate::content::{Content, Element};
 pub(crate) use crate::frame::paragraphs::Outer;
-use crate::rule::Rule;
 use std::alloc::Global;
+use std::marker::Model;
 use wap_base::Rows;
 use wap_tokens::markup::{LEVEL_LIMIT, Tag};
 
@@ -17,7 +20,7 @@ use wap_tokens::markup::{LEVEL_LIMIT, Tag};
 #[derive(Clone, Copy)]
 pub(crate) enum Place {
     /// In a group of its rule.
-    Group(usize),
+    Group,
     /// In a paragraph in it.
     Run,
     /// As a paragraph in it.
@@ -25,16 +28,16 @@ pub(crate) enum Place {
     Nowhere,
 }
 
-/// An element that is being put together.
+/// An element that is being put together. Where its groups come in their order, which is so in a
+/// card, they are its events, its timer, and the rest; else all is in the first. A contract sees
+/// its rule, the levels of the elements in it, what is in it, and the signs in the paragraph that
+/// is open.
 #[derive(Drop)]
 pub(crate) struct Frame {
-    rule: Rule,
-    /// The tags of those in it of which there may be one.
-    single: Rows<Tag>,
-    /// The last group of which there is one.
+    /// The last group of which there is an element.
     reached: usize,
     first: Content,
-    second: Rows<Element>,
+    second: Option<Element>,
     third: Rows<Element>,
     /// What is in the paragraph that isn't ended.
     run: Content,
@@ -42,53 +45,100 @@ pub(crate) struct Frame {
     outer: Option<Outer>,
 }
 
+impl Model for Frame {
+    ghost use Rattle.wap_mend.specs.inside.Frames.{Framed, framed, IsFramed};
+
+    ghost Value = { Framed };
+
+    ghost view = { λ frame. framed frame.first frame.second frame.third frame.run };
+
+    ghost invariant = { λ frame. IsFramed frame.first frame.second frame.third frame.run };
+}
+
+/// Whether an element may stand in the root alone, or is the root, or isn't known.
+fn is_top(tag: Tag) -> bool
+    ensures known { result ≡ false → tag ≢ Tag.Other }
+    ensures inner { result ≡ false → holds_dos tag ≡ false }
+{
+    if tag == Tag::Card || tag == Tag::Template {
+        return true;
+    }
+    tag == Tag::Head || tag == Tag::Wml || tag == Tag::Other
+}
+
+/// Whether an element of a tag is a paragraph.
+fn is_paragraph(tag: Tag) -> bool
+    ensures { result ≡ is_paragraph tag }
+{
+    tag == Tag::P || tag == Tag::Pre
+}
+
 impl Frame {
-    /// Nothing in it yet, and room for so many levels.
+    /// Nothing yet in an element of a tag, and room for so many levels.
+    #[tactic(auto, using(crate::proofs::Framing::nothing_framed))]
     pub(crate) fn new(alloc: Global, tag: Tag, room: u32) -> Frame
         requires { room < LEVEL_LIMIT }
+        ensures { result
+            ≡ record { rule = rule_of tag; room = room; load = nothing; running = [] } }
     {
         Frame {
-            rule: Rule::of(tag),
-            single: Rows::new(alloc),
             reached: 0,
-            first: Content::new(alloc, room),
-            second: Rows::new(alloc),
+            first: Content::new(alloc, tag, room),
+            second: None,
             third: Rows::new(alloc),
-            run: Content::new(alloc, room.saturating_sub(1)),
+            run: Content::new(alloc, Tag::P, room.saturating_sub(1)),
             outer: None,
         }
     }
 
-    /// Whether there may be paragraphs in it.
-    fn has_paragraphs(&self) -> bool {
-        self.first.room() > 0 && self.rule.admits(Tag::P)
+    /// Whether its groups come in their order.
+    fn is_in_order(&self) -> bool
+        ensures { result ≡ self.now.rule.in_order }
+    {
+        self.first.rule().is_in_order()
+    }
+
+    /// Whether there may be paragraphs in it, and other groups beside them.
+    fn has_paragraphs(&self) -> bool
+        ensures { result ≡ true → self.now.rule.in_order ≡ true }
+    {
+        self.is_in_order() && self.first.room() > 0 && self.first.rule().place_of(Tag::P).is_some()
     }
 
     /// Where an element may stand in it, among paragraphs.
-    fn place_among(&self, tag: Tag) -> Place {
-        if tag == Tag::P || tag == Tag::Pre {
+    fn place_among(&self, tag: Tag) -> Place
+        ensures { result ≡ Place.Paragraph → is_paragraph tag ≡ true }
+    {
+        if is_paragraph(tag) {
             return Place::Paragraph;
         }
-        match self.rule.place_of(tag) {
-            Some(group) if self.outer.is_none() => Place::Group(group),
-            _ if Rule::of(Tag::P).admits(tag) => Place::Run,
-            _ => Place::Nowhere,
+        if self.outer.is_none() && self.first.rule().place_of(tag).is_some() {
+            return Place::Group;
+        }
+        if self.run.rule().place_of(tag).is_some() {
+            Place::Run
+        } else {
+            Place::Nowhere
         }
     }
 
-    /// Where an element may stand in it.
+    /// Where an element may stand in it, which isn't the root.
     pub(crate) fn place_of(&self, tag: Tag) -> Place
-        ensures { tag ≡ Tag.Other → result ≡ Place.Nowhere }
+        ensures known { result ≢ Place.Nowhere → tag ≢ Tag.Other }
+        ensures inner { result ≢ Place.Nowhere → holds_dos tag ≡ false }
+        ensures paragraph { result ≡ Place.Paragraph → is_paragraph tag ≡ true }
+        ensures run { result ≡ Place.Run → self.now.rule.in_order ≡ true }
     {
-        if tag == Tag::Other {
+        if is_top(tag) {
             return Place::Nowhere;
         }
         if self.has_paragraphs() {
             return self.place_among(tag);
         }
-        match self.rule.place_of(tag) {
-            Some(group) => Place::Group(group),
-            None => Place::Nowhere,
+        if self.first.rule().place_of(tag).is_some() {
+            Place::Group
+        } else {
+            Place::Nowhere
         }
     }
 
@@ -98,12 +148,16 @@ impl Frame {
     {
         match place {
             Place::Run => self.run.room(),
-            Place::Group(_) | Place::Paragraph | Place::Nowhere => self.first.room(),
+            Place::Group | Place::Paragraph | Place::Nowhere => self.first.room(),
         }
     }
 
-    /// Whether there is one of its sort already, and there may be no other.
-    pub(crate) fn is_second(&self, tag: Tag) -> bool {
-        self.rule.is_second(self.single.as_slice(), tag)
+    /// Whether an element at a place is of a sort of which there may be one, and there is one.
+    pub(crate) fn is_second(&self, place: Place, tag: Tag) -> bool {
+        match place {
+            Place::Group if self.is_in_order() => tag == Tag::Timer && self.second.is_some(),
+            Place::Group => !self.first.accepts(tag),
+            Place::Run | Place::Paragraph | Place::Nowhere => false,
+        }
     }
 }

@@ -15,8 +15,10 @@ mod names;
 mod needs;
 mod notes;
 mod pages;
-mod rule;
+mod root;
+mod signs;
 mod spellings;
+mod top;
 mod values;
 
 pub use change::{Change, What};

@@ -1,14 +1,17 @@
 //! What elements can't do without (rule 5).
+ghost use Rattle.std.specs.Prelude.{◌≡◌, [], true, IfOk};
+
 use crate::attributes::keeps_attribute;
-use crate::content::Element;
-use crate::rule::Rule;
 use std::alloc::Global;
 use wap_base::NoMemory;
-use wap_tokens::markup::{Item, Node};
+use wap_deckcheck::Rule;
+use wap_tokens::markup::{Item, Node, Tag};
 
 /// Whether an element has the attributes that it has to have, and they stay.
-fn keeps_attributes(alloc: Global, rule: &Rule, node: &Node) -> Result<bool, NoMemory> {
-    for name in rule.attributes {
+fn keeps_attributes(alloc: Global, rule: &Rule, node: &Node) -> Result<bool, NoMemory>
+    ensures { IfOk result (λ keeps. rule.now.attributes ≡ [] → keeps ≡ true) }
+{
+    for name in rule.needed_attributes() {
         if !keeps_attribute(alloc, node, *name)? {
             return Ok(false);
         }
@@ -16,29 +19,30 @@ fn keeps_attributes(alloc: Global, rule: &Rule, node: &Node) -> Result<bool, NoM
     Ok(true)
 }
 
-/// Whether an element, with so many levels in it, has what it can't do without.
+/// Whether an element of so many levels has what it can't do without. A card can do without
+/// anything.
 #[cycle(needs)]
-pub(crate) fn is_whole(alloc: Global, levels: u32, node: &Node) -> Result<bool, NoMemory> {
+pub(crate) fn is_whole(alloc: Global, levels: u32, node: &Node) -> Result<bool, NoMemory>
+    ensures { IfOk result (λ whole. node.now.tag ≡ Tag.Card → whole ≡ true) }
+{
     let rule = Rule::of(node.tag);
     if !keeps_attributes(alloc, &rule, node)? {
         return Ok(false);
     }
-    if rule.asks() {
-        return has_needed(alloc, levels, &rule, node.kids.as_slice());
+    let needs_none = rule.needed().is_empty();
+    if needs_none || levels == 0 {
+        return Ok(needs_none);
     }
-    Ok(true)
+    has_needed(alloc, levels - 1, &rule, node.kids.as_slice())
 }
 
-/// Whether one of some items, with so many levels, is one that a rule asks for, or has it where it
+/// Whether one of some items of so many levels is one that a rule asks for, or has it where it
 /// gives its place to its content.
 #[cycle(needs)]
 fn has_needed(alloc: Global, levels: u32, rule: &Rule, items: &[Item]) -> Result<bool, NoMemory> {
-    if levels == 0 {
-        return Ok(false);
-    }
     for item in items {
         if let Item::Node(node) = item {
-            if is_needed(alloc, levels - 1, rule, node)? {
+            if is_needed(alloc, levels, rule, node)? {
                 return Ok(true);
             }
         }
@@ -46,29 +50,17 @@ fn has_needed(alloc: Global, levels: u32, rule: &Rule, items: &[Item]) -> Result
     Ok(false)
 }
 
-/// The same of an element, with so many levels in it.
+/// The same of an element of so many levels.
 #[cycle(needs)]
 fn is_needed(alloc: Global, levels: u32, rule: &Rule, node: &Node) -> Result<bool, NoMemory> {
-    if !rule.admits(node.tag) {
-        return has_needed(alloc, levels, rule, node.kids.as_slice());
-    }
-    if !rule.asks_for(node.tag) {
+    if rule.place_of(node.tag).is_some() {
+        if rule.needed().iter().any(|tag| *tag == node.tag) {
+            return is_whole(alloc, levels, node);
+        }
         return Ok(false);
     }
-    is_whole(alloc, levels, node)
-}
-
-/// Whether an element that was put together has in it what its rule asks for.
-pub(crate) fn has_needed_kid(rule: &Rule, element: &Element) -> bool {
-    if !rule.asks() {
-        return true;
+    if levels == 0 {
+        return Ok(false);
     }
-    for item in element.kids() {
-        if let Item::Node(node) = item {
-            if rule.asks_for(node.tag) {
-                return true;
-            }
-        }
-    }
-    false
+    has_needed(alloc, levels - 1, rule, node.kids.as_slice())
 }

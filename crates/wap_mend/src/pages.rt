@@ -10,11 +10,9 @@ ghost use Rattle.wap_tokens.specs.markup.Normal.{IsNormal};
 ghost use Rattle.wap_wbxml.specs.declared.fault.DocFault.{DocFault};
 ghost use Rattle.wap_wbxml.specs.Refusal.{IsRefused};
 ghost use Rattle.wap_wbxml.specs.spelling.Spelling.{spelling};
-ghost use Rattle.wap_deckcheck.specs.declared.fault.DeckFault.{DeckFault};
-ghost use Rattle.wap_mend.specs.Mending.{IsLeft};
 ghost use Rattle.wap_deck.specs.reading.Meanings.{IsMeant};
 ghost use Rattle.wap_mend.specs.Pages.{IsGoodPage, IsReadAs, IsGivenBy};
-ghost use Rattle.wap_mend.specs.Pages.{IsNoDocument, HasNoCard};
+ghost use Rattle.wap_mend.specs.Pages.{IsNoDocument, HasNoCard, IsTold};
 
 use crate::change::Change;
 use crate::identifier::{known, with_identifier};
@@ -38,18 +36,19 @@ pub struct MendedPage {
 }
 
 /// The page of bytes that mean a deck, mended.
+#[tactic(auto, using(crate::proofs::Telling::told_kept, crate::proofs::Telling::told_mended))]
 fn mend_read(alloc: Global, bytes: &[u8], deck: Deck) -> Result<MendedPage, MendFault>
     requires meant { IsMeant bytes.now deck }
     requires normal { IsNormal deck }
     ensures given { IfOk result (λ page. page.given ≡ deck) }
     ensures good { IfOk result (λ page. IsGoodPage page.bytes) }
+    ensures told { IfOk result IsTold }
     ensures kept { (d : Document) → IsDocument bytes.now d → IsGood deck
         → Meets MendFault.NoMemory (λ page. page) result
         (Ok (record { given = deck; bytes = spelling d; changes = [] })) }
     ensures same { (d : Document) → IsDocument bytes.now d
         → IfOk result (λ page. page.changes ≡ [] → page.bytes ≡ spelling d) }
     ensures no_card { result ≡ Err MendFault.NoCard → cards_of deck ≡ [] }
-    ensures left { (fault : DeckFault) → result ≡ Err (MendFault.Left fault) → IsLeft fault }
     ensures read { (fault : DocFault) → result ≢ Err (MendFault.Document fault) }
 {
     match mend(alloc, &deck)? {
@@ -71,11 +70,11 @@ fn mend_read(alloc: Global, bytes: &[u8], deck: Deck) -> Result<MendedPage, Mend
 fn mend_as(alloc: Global, bytes: &[u8], other: &[u8]) -> Result<MendedPage, MendFault>
     requires { IsReadAs bytes.now other.now }
     ensures good { IfOk result (λ page. IsGoodPage page.bytes) }
+    ensures told { IfOk result IsTold }
     ensures given { IfOk result (λ page. IsGivenBy bytes.now page.given) }
     ensures document { (fault : DocFault) → result ≡ Err (MendFault.Document fault)
         → IsNoDocument bytes.now fault }
     ensures no_card { result ≡ Err MendFault.NoCard → HasNoCard bytes.now }
-    ensures left { (fault : DeckFault) → result ≡ Err (MendFault.Left fault) → IsLeft fault }
 {
     match read_deck(alloc, other) {
         Ok(deck) => mend_read(alloc, other, deck),
@@ -85,16 +84,16 @@ fn mend_as(alloc: Global, bytes: &[u8], other: &[u8]) -> Result<MendedPage, Mend
 }
 
 /// The page of bytes that are refused for their identifier, mended.
-#[tactic(auto, using(crate::proofs::Causes::own_refused, crate::proofs::Causes::other_is_read))]
+#[tactic(auto, using(crate::proofs::Causes::own_refused, crate::proofs::Causes::other_is_read, crate::proofs::Telling::told_with))]
 fn mend_other(alloc: Global, bytes: &[u8]) -> Result<MendedPage, MendFault>
     requires { IsRefused bytes.now DocFault.PublicId }
     ensures good { IfOk result (λ page. IsGoodPage page.bytes) }
+    ensures told { IfOk result IsTold }
     ensures given { IfOk result (λ page. IsGivenBy bytes.now page.given) }
     ensures changed { IfOk result (λ page. page.changes ≢ []) }
     ensures document { (fault : DocFault) → result ≡ Err (MendFault.Document fault)
         → IsNoDocument bytes.now fault }
     ensures no_card { result ≡ Err MendFault.NoCard → HasNoCard bytes.now }
-    ensures left { (fault : DeckFault) → result ≡ Err (MendFault.Left fault) → IsLeft fault }
 {
     let Some(other) = known(alloc, bytes)? else {
         return Err(MendFault::Document(DocFault::PublicId));
@@ -112,8 +111,11 @@ fn mend_other(alloc: Global, bytes: &[u8]) -> Result<MendedPage, MendFault>
 #[tactic(auto, using(crate::proofs::Causes::own_refused, crate::proofs::Causes::own_without_card, crate::proofs::Causes::own_given))]
 pub fn mend_page(alloc: Global, bytes: &[u8]) -> Result<MendedPage, MendFault>
     // What comes back is the one spelling of a document with a good deck, so that it stays when it
-    // is mended again; and changes are those of what is read.
+    // is mended again. It is made of what was given: its texts are some of those, in their order,
+    // and what isn't there is what changes say is lost; and its elements are some of those, but for
+    // paragraphs.
     ensures good { IfOk result (λ page. IsGoodPage page.bytes) }
+    ensures told { IfOk result IsTold }
     ensures given { IfOk result (λ page. IsGivenBy bytes.now page.given) }
 
     // Of a document with a good deck nothing is changed, and where nothing was, the bytes are the
@@ -128,7 +130,6 @@ pub fn mend_page(alloc: Global, bytes: &[u8]) -> Result<MendedPage, MendFault>
     ensures document { (fault : DocFault) → result ≡ Err (MendFault.Document fault)
         → IsNoDocument bytes.now fault }
     ensures no_card { result ≡ Err MendFault.NoCard → HasNoCard bytes.now }
-    ensures left { (fault : DeckFault) → result ≡ Err (MendFault.Left fault) → IsLeft fault }
 {
     match read_deck(alloc, bytes) {
         Ok(deck) => mend_read(alloc, bytes, deck),

@@ -6,6 +6,8 @@ ghost use Rattle.wap_tokens.specs.markup.Decks.{deck_of};
 ghost use Rattle.wap_tokens.specs.markup.Good.{IsGood};
 ghost use Rattle.wap_tokens.specs.markup.Normal.{IsNormal};
 ghost use Rattle.wap_wbxml.specs.spelling.Spelling.{spelling};
+ghost use Rattle.wap_tokens.specs.declared.markup.deck.Deck.{Deck};
+ghost use Rattle.wap_deck.specs.reading.Meanings.{IsMeant};
 ghost use Rattle.wap_mend.specs.Pages.{IsGoodPage};
 
 use std::alloc::Global;
@@ -16,11 +18,13 @@ use wap_wbxml::decode;
 use wap_wbxml::spelling::{decks_are_spellable, documents_are_spellable, encode, spelling_is_read};
 
 /// The one spelling of bytes that are a document.
-#[tactic(auto, using(crate::proofs::Canonical::same_spelling))]
+#[tactic(auto, using(crate::proofs::Canonical::same_spelling, crate::proofs::Telling::meant_by_spelling))]
 pub(crate) fn canonical(alloc: Global, bytes: &[u8]) -> Result<Bytes, NoMemory>
     requires { (d : Document) × IsDocument bytes.now d × IsGood (deck_of d) }
     ensures good { IfOk result IsGoodPage }
     ensures same { (d : Document) → IsDocument bytes.now d → IfOk result (λ own. own ≡ spelling d) }
+    ensures meant { (deck : Deck) → IsMeant bytes.now deck
+        → IfOk result (λ own. IsMeant own deck) }
 {
     documents_are_spellable(bytes);
     spelling_is_read();
@@ -31,10 +35,12 @@ pub(crate) fn canonical(alloc: Global, bytes: &[u8]) -> Result<Bytes, NoMemory>
 }
 
 /// The bytes that spell a good deck.
+#[tactic(auto, using(crate::proofs::Telling::meant_by_spelling))]
 pub(crate) fn spelled(alloc: Global, deck: &Deck) -> Result<Bytes, NoMemory>
     requires normal { IsNormal deck.now }
     requires good { IsGood deck.now }
-    ensures { IfOk result IsGoodPage }
+    ensures good { IfOk result IsGoodPage }
+    ensures meant { IfOk result (λ bytes. IsMeant bytes deck.now) }
 {
     decks_are_spellable();
     written_decks_are_meant();

@@ -1,40 +1,40 @@
 //! Values of attributes: copies, and whether they may stand.
-ghost use Rattle.std.specs.Prelude.{◌≡◌, IfOk, IfSome};
-ghost use Rattle.wap_tokens.specs.markup.Normal.{IsPart, IsValue};
+ghost use Rattle.std.specs.Prelude.{◌≡◌, Some, IfOk, IfSome};
+ghost use Rattle.wap_tokens.specs.markup.Normal.{IsValue};
+ghost use Rattle.wap_tokens.specs.markup.Trees.{plain_text};
+ghost use Rattle.wap_mend.specs.inside.Building.{Suits};
 
 use std::alloc::Global;
 use wap_base::{NoMemory, Part, Rows, Text};
-use wap_deck::documents::{add_any, literal, reference};
+use wap_deck::documents::{add_any, literal};
 use wap_deckcheck::wrong_value;
 use wap_tokens::markup::{AttrName, Node, Tag};
 
 /// A copy of a part.
-#[tactic(auto, using(crate::proofs::Normality::literal_part))]
-pub(crate) fn copied_part(alloc: Global, part: &Part) -> Result<Option<Part>, NoMemory>
-    ensures { IfOk result (λ copy. IfSome copy IsPart) }
+pub(crate) fn copied_part(alloc: Global, part: &Part) -> Result<Part, NoMemory>
+    ensures { IfOk result (λ copy. copy ≡ part.now) }
 {
     match part {
-        Part::Lit(text) => Ok(literal(text.copy(alloc)?)),
-        Part::Var(name, conv) => reference(alloc, name.text(), *conv),
+        Part::Lit(text) => Ok(Part::Lit(text.copy(alloc)?)),
+        Part::Var(name, conv) => Ok(Part::Var(name.copy(alloc)?, *conv)),
     }
 }
 
 /// A copy of a value.
-#[tactic(auto, using(crate::proofs::Normality::no_value, crate::proofs::Normality::value_added_any))]
 pub(crate) fn copied(alloc: Global, parts: &[Part]) -> Result<Rows<Part>, NoMemory>
-    ensures { IfOk result IsValue }
+    ensures { IfOk result (λ copy. copy ≡ parts.now) }
 {
-    let mut value = Rows::new(alloc);
+    let mut copy = Rows::new(alloc);
     for part in parts {
-        add_any(&mut value, copied_part(alloc, part)?)?;
+        copy.add(copied_part(alloc, part)?)?;
     }
-    Ok(value)
+    Ok(copy)
 }
 
 /// The value of a text.
-#[tactic(auto, using(crate::proofs::Normality::no_value, crate::proofs::Normality::value_added_any, crate::proofs::Normality::literal_part))]
 pub(crate) fn plain(alloc: Global, text: Text) -> Result<Rows<Part>, NoMemory>
-    ensures { IfOk result IsValue }
+    ensures value { IfOk result IsValue }
+    ensures plain { IfOk result (λ value. plain_text value ≡ Some text) }
 {
     let mut value = Rows::new(alloc);
     add_any(&mut value, literal(text))?;
@@ -55,19 +55,26 @@ pub(crate) fn lowered(alloc: Global, parts: &[Part]) -> Result<Option<Rows<Part>
     Ok(Some(plain(alloc, lower)?))
 }
 
-/// Whether an attribute of an element may have a value.
-pub(crate) fn is_allowed(
+/// An attribute, if an element of this tag may have it with that value.
+pub(crate) fn suited(
     alloc: Global,
     tag: Tag,
     name: AttrName,
-    parts: &[Part],
-) -> Result<bool, NoMemory> {
+    value: Rows<Part>,
+) -> Result<Option<(AttrName, Rows<Part>)>, NoMemory>
+    ensures same { IfOk result (λ found. IfSome found (λ attribute. attribute ≡ (name, value))) }
+    ensures suits { IfOk result (λ found. IfSome found (Suits tag)) }
+{
     let mut attrs = Rows::new(alloc);
-    attrs.add((name, copied(alloc, parts)?))?;
+    attrs.add((name, value))?;
     let node = Node {
         tag,
         attrs,
         kids: Rows::new(alloc),
     };
-    Ok(wrong_value(&node).is_none())
+    if wrong_value(&node).is_some() {
+        return Ok(None);
+    }
+    let Node { mut attrs, .. } = node;
+    Ok(attrs.pop())
 }

@@ -1,66 +1,104 @@
 //! The paragraph that is open in an element: one of the deck that was given, or one that is put
 //! round texts and what may stand in a paragraph (rule 3).
-ghost use Rattle.std.specs.Prelude.{◌≢◌, IfOk};
+ghost use Rattle.std.specs.Prelude.{◌≡◌, [], true, IfOk, OnOk};
+ghost use Rattle.wap_mend.specs.Accounts.{is_paragraph, lost};
+ghost use Rattle.wap_mend.specs.inside.Frames.{Gains, nothing};
 
 use crate::change::What;
 use crate::content::{Content, Element};
 use crate::frame::Frame;
 use crate::kept::Attributes;
 use crate::notes::Notes;
+use crate::signs::texts_of;
 use std::alloc::Global;
+use std::marker::Model;
 use std::mem::replace;
 use wap_base::NoMemory;
 use wap_tokens::markup::Tag;
 
-/// A paragraph of the deck that was given.
+/// A paragraph of the deck that was given. A contract sees whether another one parted it.
 #[derive(Drop)]
 pub(crate) struct Outer {
-    is_pre: bool,
     attributes: Attributes,
-    /// Whether another paragraph parted it.
     is_parted: bool,
+}
+
+impl Model for Outer {
+    ghost use Rattle.std.specs.Prelude.{◌≡◌, Bool, true};
+    ghost use Rattle.wap_mend.specs.Accounts.{is_paragraph};
+
+    ghost Value = { Bool };
+
+    ghost view = { λ outer. outer.is_parted };
+
+    ghost invariant = { λ outer. is_paragraph outer.attributes.tag ≡ true };
+}
+
+/// Notes a paragraph that another one of a tag parts, if there is one.
+fn parted(
+    alloc: Global,
+    notes: &mut Notes,
+    outer: Option<Outer>,
+    tag: Tag,
+) -> Result<Option<Outer>, NoMemory>
+    ensures { OnOk result (lost notes.new.changes ≡ lost notes.old.changes) }
+{
+    let Some(mut outer) = outer else {
+        return Ok(None);
+    };
+    outer.is_parted = true;
+    notes.note(alloc, What::Parted(tag))?;
+    Ok(Some(outer))
 }
 
 impl Frame {
     /// Notes a paragraph that begins, if none is open.
-    pub(super) fn begin_run(&mut self, alloc: Global, notes: &mut Notes) -> Result<(), NoMemory> {
+    #[tactic(auto, using(crate::proofs::Framing::gains_nothing))]
+    pub(super) fn begin_run(&mut self, alloc: Global, notes: &mut Notes) -> Result<(), NoMemory>
+        ensures { OnOk result
+            (Gains notes.old.changes notes.new.changes self.old self.new nothing) }
+    {
         if self.outer.is_none() && self.run.is_empty() {
-            notes.note(alloc, What::Wrapped)?;
+            return notes.note(alloc, What::Wrapped);
         }
         Ok(())
     }
 
-    /// The tag and the attributes of the paragraph that is open.
-    fn paragraph(&self, alloc: Global) -> Result<(Tag, Attributes), NoMemory>
-        ensures { IfOk result (λ p. p.0 ≢ Tag.Other) }
+    /// The attributes of the paragraph that is open.
+    fn paragraph(&self, alloc: Global) -> Result<Attributes, NoMemory>
+        ensures { IfOk result (λ attributes. is_paragraph attributes.tag ≡ true) }
     {
         match &self.outer {
-            None => Ok((Tag::P, Attributes::new(alloc))),
-            Some(outer) => {
-                let attributes = outer.attributes.copy_without(alloc, None)?;
-                if outer.is_pre {
-                    Ok((Tag::Pre, attributes))
-                } else {
-                    Ok((Tag::P, attributes))
-                }
-            }
+            None => Ok(Attributes::new(alloc, Tag::P)),
+            Some(outer) => outer.attributes.copy(alloc),
         }
     }
 
     /// Ends the paragraph that is open, also if nothing is in it.
-    pub(super) fn put_run(&mut self, alloc: Global, notes: &mut Notes) -> Result<(), NoMemory> {
-        let (tag, attributes) = self.paragraph(alloc)?;
+    pub(super) fn put_run(&mut self, alloc: Global, notes: &mut Notes) -> Result<(), NoMemory>
+        ensures gains { OnOk result
+            (Gains notes.old.changes notes.new.changes self.old self.new nothing) }
+        ensures running { OnOk result (self.new.running ≡ []) }
+    {
+        let attributes = self.paragraph(alloc)?;
+        let tag = attributes.tag();
         let room = self.run.room();
-        let content = replace(&mut self.run, Content::new(alloc, room));
-        let element = Element::of(tag, attributes, content);
-        match self.rule.place_of(Tag::P) {
-            Some(group) => self.add_in_order(alloc, notes, group, element),
-            None => Ok(()),
+        let content = replace(&mut self.run, Content::new(alloc, Tag::P, room));
+        match Element::of(attributes, content) {
+            Ok(element) => self.add_in_order(alloc, notes, element),
+            Err(node) => {
+                let texts = texts_of(alloc, room + 1, &node)?;
+                notes.note_lost(alloc, What::Gone(tag), texts)
+            }
         }
     }
 
     /// Ends the paragraph that is open, if anything is in it.
-    pub(super) fn end_run(&mut self, alloc: Global, notes: &mut Notes) -> Result<(), NoMemory> {
+    pub(super) fn end_run(&mut self, alloc: Global, notes: &mut Notes) -> Result<(), NoMemory>
+        ensures gains { OnOk result
+            (Gains notes.old.changes notes.new.changes self.old self.new nothing) }
+        ensures running { OnOk result (self.new.running ≡ []) }
+    {
         if self.run.is_empty() {
             return Ok(());
         }
@@ -73,21 +111,36 @@ impl Frame {
         &mut self,
         alloc: Global,
         notes: &mut Notes,
-        tag: Tag,
         attributes: Attributes,
-    ) -> Result<Option<Outer>, NoMemory> {
+    ) -> Result<Option<Outer>, NoMemory>
+        requires { is_paragraph attributes.tag ≡ true }
+        ensures { OnOk result
+            (Gains notes.old.changes notes.new.changes self.old self.new nothing) }
+    {
         self.end_run(alloc, notes)?;
-        let mut outer = replace(&mut self.outer, None);
-        if let Some(one) = &mut outer {
-            one.is_parted = true;
-            notes.note(alloc, What::Parted(tag))?;
-        }
+        let open = replace(&mut self.outer, None);
+        let outer = parted(alloc, notes, open, attributes.tag())?;
         self.outer = Some(Outer {
-            is_pre: tag == Tag::Pre,
             attributes,
             is_parted: false,
         });
         Ok(outer)
+    }
+
+    /// Ends the paragraph that is open, if it isn't parted also if nothing is in it.
+    fn end_outer(&mut self, alloc: Global, notes: &mut Notes) -> Result<(), NoMemory>
+        ensures { OnOk result
+            (Gains notes.old.changes notes.new.changes self.old self.new nothing) }
+    {
+        let is_parted = match &self.outer {
+            Some(one) => one.is_parted,
+            None => false,
+        };
+        if is_parted {
+            self.end_run(alloc, notes)
+        } else {
+            self.put_run(alloc, notes)
+        }
     }
 
     /// Ends a paragraph, and goes on with the one in which it stands, if there is one.
@@ -96,16 +149,11 @@ impl Frame {
         alloc: Global,
         notes: &mut Notes,
         outer: Option<Outer>,
-    ) -> Result<(), NoMemory> {
-        let is_parted = match &self.outer {
-            Some(one) => one.is_parted,
-            None => false,
-        };
-        if is_parted {
-            self.end_run(alloc, notes)?;
-        } else {
-            self.put_run(alloc, notes)?;
-        }
+    ) -> Result<(), NoMemory>
+        ensures { OnOk result
+            (Gains notes.old.changes notes.new.changes self.old self.new nothing) }
+    {
+        self.end_outer(alloc, notes)?;
         self.outer = outer;
         Ok(())
     }

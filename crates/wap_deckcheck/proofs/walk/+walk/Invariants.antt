@@ -1,6 +1,6 @@
 use Rattle.std.proofs.Common.{◌≡◌, ◌-◌, ◌*◌, ◌+◌, ◌++◌, take, drop}
 use Rattle.wap_deckcheck.specs.Places.{names_among, node_places, names_level, items_places}
-use Rattle.wap_deckcheck.specs.inside.Reached.{HasReached}
+use Rattle.wap_deckcheck.specs.Reached.{HasReached}
 use Rattle.wap_deckcheck.specs.inside.Walks.{judged}
 use Rattle.wap_deckcheck.proofs.walk.+walk.Given as goal
 

@@ -1,7 +1,7 @@
 use Rattle.std.proofs.Common.{◌≡◌, [], take, drop}
 use Rattle.wap_tokens.specs.markup.Good.{rule_of}
 use Rattle.wap_deckcheck.specs.Places.{ids_among, ids_level, items_places}
-use Rattle.wap_deckcheck.specs.inside.Reached.{HasReached}
+use Rattle.wap_deckcheck.specs.Reached.{HasReached}
 use Rattle.wap_deckcheck.specs.inside.Walks.{judged}
 use Rattle.wap_deckcheck.proofs.walk.judge_top.Given as goal
 

@@ -11,7 +11,6 @@ returns-in-Err g c =
             unmended c.args.bytes.now c.in-Err.fault fault
                 (λ of why. c.in-Err.ensures.document of (ap Err why))
                 (λ why. c.in-Err.ensures.no_card (ap Err why))
-                (λ of why. c.in-Err.ensures.left of (ap Err why))
                 (sym c.ending_of.ensures ∙ is),
             refl,
           );

@@ -1,0 +1,630 @@
+-- What the walk over an element puts into another.
+use Rattle.std.proofs.Common.{◌≡◌, ℕ, zero, suc, ◌+◌, ◌-◌, ◌<◌, ◌≤◌, Bool, true, false, not}
+use Rattle.std.proofs.Common.{List, [], ◌∷◌, ◌++◌, map, Option, Some, None, Result, Ok, Err}
+use Rattle.std.proofs.Common.{length, get_or, take, add-one, refl, sym, ap, subst, ◌∙◌, arith}
+use Rattle.std.proofs.Math.Seq.{take-suc}
+use Rattle.std.specs.Prelude.{if◌then◌else◌, IfOk, IfSome, MatchOption}
+use Rattle.std.specs.Prelude.{filter}
+use Rattle.std.specs.List.{list_any, filter_map, flat_map, cons_option}
+use Rattle.std.proofs.lemmas.Grind.{flat_map-append}
+use Rattle.std.proofs.lemmas.List.Elements.{filter_map-append}
+use Rattle.std.specs.Option.{option_to_list}
+use Rattle.std.proofs.lemmas.List.{append-nil}
+use Rattle.wap_base.specs.Texts.{is_same_text, AreDistinct}
+use Rattle.wap_base.specs.declared.name.Part.{Part}
+use Rattle.wap_tokens.specs.declared.markup.deck.Node.{Node}
+use Rattle.wap_tokens.specs.declared.markup.deck.Item.{Item, out-Item}
+use Rattle.wap_tokens.specs.declared.markup.deck.Item.TheOpen.{Item-F}
+use Rattle.wap_tokens.specs.declared.markup.name.Tag.{Tag}
+use Rattle.wap_tokens.specs.markup.Tables.{is_same_tag}
+use Rattle.wap_tokens.specs.declared.markup.name.Tag.TheVariants as tags
+use Rattle.wap_tokens.specs.declared.markup.name.AttrName.{AttrName}
+use Rattle.wap_tokens.specs.markup.Normal.{IsNode}
+use Rattle.wap_tokens.specs.markup.Trees.{node_of, node_from}
+use Rattle.wap_tokens.specs.markup.Good.{Rule, rule_of, rules, has_needs, nodes_in, name_of_do}
+use Rattle.wap_deckcheck.specs.Places.{own_name, names_among}
+use Rattle.wap_mend.specs.Accounts.{signs_of, signs_in, node_signs, lost, IsWithin, number}
+use Rattle.wap_mend.specs.Accounts.{item_signs, tags_of_nodes, is_paragraph}
+use Rattle.wap_mend.specs.declared.change.Change.{Change}
+use Rattle.wap_mend.specs.inside.Building.{Kept, Built, Filled}
+use Rattle.wap_mend.specs.inside.Names.{times, taken, once_if, names_with, own_name_of, Takes}
+use Rattle.wap_mend.specs.inside.Names.{name_among}
+use Rattle.wap_mend.specs.inside.Frames.{Load, nothing, both, load_filled, load_built, load_if}
+use Rattle.wap_mend.specs.inside.Frames.{given_items, given_node, text_load, Keeps, Carries}
+use Rattle.wap_mend.specs.inside.Frames.{Framed, Gains, Closes, Moves, Puts}
+use Rattle.wap_mend.proofs.Accounting.{within_refl, within_then, within_both, within_nothing}
+use Rattle.wap_mend.proofs.Accounting.{number-append, tags-append, signs_in-append}
+use Rattle.wap_mend.proofs.Counting.{times-append, distinct_once}
+use Rattle.wap_mend.proofs.Framing.{node_levels}
+use Rattle.wap_mend.proofs.Loads.{both_nothing, keeps_still, keeps_lost, keeps_then}
+
+-- ---- steps
+
+-- what is made is added
+pub keeps_made : (before one two after : List Change) (old ready new made given : Load)
+    → Keeps before one old ready nothing → Keeps one two nothing made given
+    → Keeps two after ready new made → Keeps before after old new given
+keeps_made before one two after old ready new made given readies makes adds = record {
+  tags = λ tag. grind (arith, readies.tags tag, makes.tags tag, adds.tags tag);
+  order =
+      within_then adds.order
+      (within_both (subst (IsWithin ready.signs) (append-nil old.signs) readies.order)
+      makes.order);
+  signs = λ test. grind (arith, readies.signs test, makes.signs test, adds.signs test);
+}
+
+-- nothing is made
+pub keeps_gone : (before one after : List Change) (old ready given : Load)
+    → Keeps before one old ready nothing → Keeps one after nothing nothing given
+    → Keeps before after old ready given
+keeps_gone before one after old ready given readies makes = record {
+  tags = λ tag. grind (arith, readies.tags tag, makes.tags tag);
+  order =
+      within_then readies.order
+      (within_both (within_refl old.signs) (within_nothing given.signs));
+  signs = λ test. grind (arith, readies.signs test, makes.signs test);
+}
+
+-- nothing was noted as lost before
+pub keeps_from : (before between after : List Change) (new given : Load) → lost between ≡ lost before
+    → Keeps between after nothing new given → Keeps before after nothing new given
+keeps_from before between after new given still keeps = record {
+  tags = keeps.tags;
+  order = keeps.order;
+  signs = λ test. grind (arith, keeps.signs test, ap (number test) still);
+}
+
+-- ---- names
+
+-- the name of a do goes by its attributes
+own_same : (kept : Kept) (node : Node) → node.tag ≡ kept.tag → node.attrs ≡ kept.rows
+    → own_name true node ≡ own_name_of kept
+own_same kept node tag rows =
+    ap (λ (t : Tag). if is_same_tag t tags.Do then name_of_do node else None) tag
+    ∙ ap (λ (some : List (AttrName × List Part)).
+    if is_same_tag kept.tag tags.Do then name_among some else None) rows
+
+-- first some, and then more
+pub takes_then : (before between after some more : List (List ℕ)) → Takes before between [] some
+    → Takes between after [] more → Takes before after [] (some ++ more)
+takes_then before between after some more first second text =
+    grind (arith, first text, second text, times-append text some more)
+
+-- of which none may be left
+pub takes_none : (before between after some : List (List ℕ)) → Takes before between [] some
+    → Takes between after [] [] → Takes before after [] []
+takes_none before between after some first second text = grind (arith, first text, second text)
+
+-- names that were free when none was taken are distinct
+pub taken_apart : (after names : List (List ℕ)) → Takes [] after [] names → AreDistinct names
+taken_apart after names takes =
+    distinct_once names (λ text.
+    let few = taken_once text after in grind (arith, takes text, few))
+  where
+    once_most : (b : Bool) → once_if b ≤ 1
+    once_most true = grind (arith)
+    once_most false = grind (arith)
+
+    taken_once : (text : List ℕ) (texts : List (List ℕ)) → taken text texts ≤ 1
+    taken_once text texts = once_most (list_any (is_same_text text) texts)
+
+-- ---- puts
+
+-- nothing is put, and nothing noted as lost
+pub puts_nothing : (names : List (List ℕ)) (before after : List Change) (frame : Framed)
+    → lost after ≡ lost before → Puts names names before after frame frame nothing
+puts_nothing names before after frame still = record {
+  rule = refl;
+  room = refl;
+  load = record {
+    names = λ text. grind (arith);
+    keeps = keeps_still before after frame.load still;
+  };
+}
+
+-- what is given is noted as lost
+pub puts_lost : (names : List (List ℕ)) (before after : List Change) (frame : Framed)
+    (given : Load) (texts : List Part) → signs_of texts ≡ given.signs
+    → lost after ≡ lost before ++ signs_of texts → Puts names names before after frame frame given
+puts_lost names before after frame given texts all noted = record {
+  rule = refl;
+  room = refl;
+  load = record {
+    names = λ text. grind (arith);
+    keeps = keeps_lost before after frame.load given texts all noted;
+  };
+}
+
+-- first some, and then more
+pub puts_then : (names_before names_between names_after : List (List ℕ))
+    (before between after : List Change) (old mid new : Framed) (some more : Load)
+    → Puts names_before names_between before between old mid some
+    → Puts names_between names_after between after mid new more
+    → Puts names_before names_after before after old new (both some more)
+puts_then names_before names_between names_after before between after old mid new some more
+    first second = record {
+      rule = second.rule ∙ first.rule;
+      room = second.room ∙ first.room;
+      load = record {
+        names = λ text. grind (arith, first.load.names text, second.load.names text);
+        keeps =
+            keeps_then before between after old.load mid.load new.load some more
+            first.load.keeps second.load.keeps;
+      };
+    }
+
+-- nothing was noted as lost before
+puts_from : (names_before names_after : List (List ℕ)) (before between after : List Change)
+    (old new : Framed) (given : Load) → lost between ≡ lost before
+    → Puts names_before names_after between after old new given
+    → Puts names_before names_after before after old new given
+puts_from names_before names_after before between after old new given still puts = record {
+  rule = puts.rule;
+  room = puts.room;
+  load = record {
+    names = puts.load.names;
+    keeps = record {
+      tags = puts.load.keeps.tags;
+      order = puts.load.keeps.order;
+      signs = λ test.
+          grind (arith, puts.load.keeps.signs test, ap (number test) still);
+    };
+  };
+}
+
+-- what gains no name takes none
+pub puts_gains : (names : List (List ℕ)) (before after : List Change) (old new : Framed)
+    (given : Load) → given.names ≡ [] → Gains before after old new given
+    → Puts names names before after old new given
+puts_gains names before after old new given none gains = record {
+  rule = gains.rule;
+  room = gains.room;
+  load = record {
+    names = λ text. grind (arith, gains.load.names text, ap (times text) none);
+    keeps = gains.load.keeps;
+  };
+}
+
+-- a node more is no fewer tags
+pub own_more : (tag : Tag) (node : Node) (nodes : List Node)
+    → number (is_same_tag tag) (tags_of_nodes nodes)
+    ≤ number (is_same_tag tag) (tags_of_nodes (node ∷ nodes))
+own_more tag node nodes =
+    subst (λ n. number (is_same_tag tag) (tags_of_nodes nodes) ≤ n)
+    (sym (ap (number (is_same_tag tag)) (tags-append (node ∷ []) nodes)
+    ∙ number-append (is_same_tag tag) (tags_of_nodes (node ∷ [])) (tags_of_nodes nodes)))
+    (grind (arith))
+
+-- it comes first
+own_number : (tag : Tag) (node : Node) (nodes : List Node)
+    → number (is_same_tag tag) (tags_of_nodes (node ∷ nodes))
+    ≡ number (is_same_tag tag) (tags_of_nodes (node ∷ []))
+    + number (is_same_tag tag) (tags_of_nodes nodes)
+own_number tag node nodes =
+    ap (number (is_same_tag tag)) (tags-append (node ∷ []) nodes)
+    ∙ number-append (is_same_tag tag) (tags_of_nodes (node ∷ [])) (tags_of_nodes nodes)
+
+-- the element is opened: what is in it is put
+pub puts_opened : (names_before names_after : List (List ℕ)) (before after : List Change)
+    (old new : Framed) (levels : ℕ) (node : Node) → 0 < levels
+    → Puts names_before names_after before after old new (given_items (levels - 1) node.kids)
+    → Puts names_before names_after before after old new (given_node levels node)
+puts_opened names_before names_after before after old new zero node deep puts =
+    absurd (grind (arith, deep))
+puts_opened names_before names_after before after old new (suc levels) node deep puts =
+    let same : suc levels - 1 ≡ levels = grind (arith) in
+    let here =
+    subst (λ l. Puts names_before names_after before after old new (given_items l node.kids))
+    same puts in
+    record {
+      rule = here.rule;
+      room = here.room;
+      load = record {
+        names = here.load.names;
+        keeps = record {
+          tags = λ tag.
+              let more = own_more tag node (nodes_in (suc levels) node.kids) in
+              grind (arith, here.load.keeps.tags tag, more);
+          order = here.load.keeps.order;
+          signs = here.load.keeps.signs;
+        };
+      };
+    }
+
+-- the same, where that was noted
+pub puts_opened_noted : (names_before names_after : List (List ℕ))
+    (before one after : List Change) (old new : Framed) (levels : ℕ) (kids : List Item)
+    (node : Node) → IsNode levels node → kids ≡ node.kids → lost one ≡ lost before
+    → Puts names_before names_after one after old new (given_items (levels - 1) kids)
+    → Puts names_before names_after before after old new (given_node levels node)
+puts_opened_noted names_before names_after before one after old new levels kids node is same
+    still puts =
+    puts_opened names_before names_after before after old new levels node
+    (node_levels levels node is)
+    (puts_from names_before names_after before one after old new
+    (given_items (levels - 1) node.kids) still
+    (subst (λ some. Puts names_before names_after one after old new (given_items (levels - 1) some))
+    same puts))
+
+-- a paragraph is put: what is before it ends, what is in it is put, and it ends
+pub puts_paragraph : (names_before names_after : List (List ℕ))
+    (before one two three after : List Change) (old entered full new : Framed) (levels : ℕ)
+    (kids : List Item) (node : Node) → IsNode levels node → kids ≡ node.kids
+    → lost one ≡ lost before → Gains one two old entered nothing
+    → Puts names_before names_after two three entered full (given_items (levels - 1) kids)
+    → Gains three after full new nothing
+    → Puts names_before names_after before after old new (given_node levels node)
+puts_paragraph names_before names_after before one two three after old entered full new levels
+    kids node is same still enters inner leaves =
+    let puts =
+    subst (λ some. Puts names_before names_after two three entered full
+    (given_items (levels - 1) some)) same inner in
+    let first : Puts names_before names_before before one old old nothing =
+    puts_nothing names_before before one old still in
+    let second : Puts names_before names_before before two old entered nothing =
+    puts_then names_before names_before names_before before one two old old entered nothing
+    nothing first (puts_gains names_before one two old entered nothing refl enters) in
+    let all : Puts names_before names_after before three old full
+    (given_items (levels - 1) node.kids) =
+    puts_then names_before names_before names_after before two three old entered full nothing
+    (given_items (levels - 1) node.kids) second puts in
+    let end : Puts names_before names_after before after old new
+    (both (given_items (levels - 1) node.kids) nothing) =
+    puts_then names_before names_after names_after before three after old full new
+    (given_items (levels - 1) node.kids) nothing all
+    (puts_gains names_after three after full new nothing refl leaves) in
+    puts_opened names_before names_after before after old new levels node
+    (node_levels levels node is)
+    (subst (Puts names_before names_after before after old new)
+    (both_nothing (given_items (levels - 1) node.kids)) end)
+
+-- an element that was made is put, or none
+pub puts_element : (names_before names_after : List (List ℕ)) (before one two after : List Change)
+    (old ready new : Framed) (element : Built) (given : Load) → Gains before one old ready nothing
+    → Moves names_before names_after one two nothing (load_built element) given
+    → Gains two after ready new (load_built element)
+    → Puts names_before names_after before after old new given
+puts_element names_before names_after before one two after old ready new element given
+    readies moves gains = record {
+      rule = gains.rule ∙ readies.rule;
+      room = gains.room ∙ readies.room;
+      load = record {
+        names = λ text.
+            grind (arith, readies.load.names text, moves.names text, gains.load.names text);
+        keeps = keeps_made before one two after old.load ready.load new.load (load_built element)
+            given readies.load.keeps moves.keeps gains.load.keeps;
+      };
+    }
+
+pub puts_none : (names_before names_after : List (List ℕ)) (before one after : List Change)
+    (old ready : Framed) (given : Load) → Gains before one old ready nothing
+    → Moves names_before names_after one after nothing nothing given
+    → Puts names_before names_after before after old ready given
+puts_none names_before names_after before one after old ready given readies moves = record {
+  rule = readies.rule;
+  room = readies.room;
+  load = record {
+    names = λ text. grind (arith, readies.load.names text, moves.names text);
+    keeps = keeps_gone before one after old.load ready.load given readies.load.keeps
+        moves.keeps;
+  };
+}
+
+-- ---- elements
+
+-- it is made with a name
+pub moves_named : (names_before between names_after : List (List ℕ))
+    (before one two after : List Change) (kept : Kept) (element : Built) (given : Load)
+    → lost one ≡ lost before → lost two ≡ lost one
+    → Takes names_before between [] (option_to_list (own_name_of kept))
+    → element.node.tag ≡ kept.tag → element.node.attrs ≡ kept.rows
+    → Takes between names_after [] (names_among true element.levels element.node.kids)
+    → Keeps two after nothing (load_built element) given
+    → Moves names_before names_after before after nothing (load_built element) given
+moves_named names_before between names_after before one two after kept element given first
+    second own tag rows inner keeps = record {
+      names = takes_then names_before between names_after
+          (option_to_list (own_name true element.node))
+          (names_among true element.levels element.node.kids)
+          (subst (λ name. Takes names_before between [] (option_to_list name))
+          (sym (own_same kept element.node tag rows)) own) inner;
+      keeps = keeps_from before two after (load_built element) given (second ∙ first) keeps;
+    }
+
+pub moves_none : (names_before between names_after some : List (List ℕ))
+    (before one two after : List Change) (given : Load) → lost one ≡ lost before
+    → lost two ≡ lost one → Takes names_before between [] some → Takes between names_after [] []
+    → Keeps two after nothing nothing given
+    → Moves names_before names_after before after nothing nothing given
+moves_none names_before between names_after some before one two after given first second own
+    inner keeps = record {
+      names = takes_none names_before between names_after some own inner;
+      keeps = keeps_from before two after nothing given (second ∙ first) keeps;
+    }
+
+-- either
+pub made_named : {E : Type 0} (names_before between names_after : List (List ℕ))
+    (before one two after : List Change) (kept : Kept) (room : ℕ) (given : Load)
+    (result : Result (Option Built) E) → lost one ≡ lost before → lost two ≡ lost one
+    → Takes names_before between [] (option_to_list (own_name_of kept))
+    → IfOk result (λ made. IfSome made (λ element. (element.levels ≡ room)
+    × (element.node.tag ≡ kept.tag) × (element.node.attrs ≡ kept.rows)))
+    → IfOk result (λ made. MatchOption made (Takes between names_after [] [])
+    (λ element. Takes between names_after [] (names_among true element.levels element.node.kids)))
+    → IfOk result (λ made. Keeps two after nothing (load_if made) given)
+    → IfOk result (λ made. Moves names_before names_after before after nothing (load_if made) given)
+made_named names_before between names_after before one two after kept room given (Err e) first
+    second own same takes keeps = tt
+made_named names_before between names_after before one two after kept room given (Ok None) first
+    second own same takes keeps =
+    moves_none names_before between names_after (option_to_list (own_name_of kept)) before one two
+    after given first second own takes keeps
+made_named names_before between names_after before one two after kept room given
+    (Ok (Some element)) first second own same takes keeps =
+    moves_named names_before between names_after before one two after kept element given first
+    second own same.1 same.2 takes keeps
+
+-- or goes for want of a name
+pub moves_lost : (names_before names_after : List (List ℕ)) (before one two after : List Change)
+    (given : Load) (texts : List Part) → lost one ≡ lost before → lost two ≡ lost one
+    → Takes names_before names_after [] [] → signs_of texts ≡ given.signs
+    → lost after ≡ lost two ++ signs_of texts
+    → Moves names_before names_after before after nothing nothing given
+moves_lost names_before names_after before one two after given texts first second takes all
+    noted = record {
+      names = takes;
+      keeps = keeps_from before two after nothing given (second ∙ first)
+          (keeps_lost two after nothing given texts all noted);
+    }
+
+-- what is put into an element of which nothing is there is what it has when it is closed
+closed_takes : (names_before names_after : List (List ℕ)) (before between after : List Change)
+    (rule : Rule) (room : ℕ) (whole : Framed) (content : Filled) (given : Load)
+    → Puts names_before names_after before between
+    (record { rule = rule; room = room; load = nothing; running = [] }) whole given
+    → Closes between after whole content
+    → Takes names_before names_after [] (load_filled content).names
+closed_takes names_before names_after before between after rule room whole content given puts
+    closes text =
+    grind (arith, puts.load.names text, closes.load.names text)
+
+-- it begins with nothing
+pub put_kids : (names_before names_after : List (List ℕ)) (before after : List Change)
+    (rule : Rule) (room levels : ℕ) (start whole : Framed) (kids : List Item) (node : Node)
+    → start ≡ record { rule = rule; room = room; load = nothing; running = [] }
+    → kids ≡ node.kids
+    → Puts names_before names_after before after start whole (given_items levels kids)
+    → Puts names_before names_after before after
+    (record { rule = rule; room = room; load = nothing; running = [] }) whole
+    (given_items levels node.kids)
+put_kids names_before names_after before after rule room levels start whole kids node new same
+    puts =
+    subst (λ some. Puts names_before names_after before after
+    (record { rule = rule; room = room; load = nothing; running = [] }) whole
+    (given_items levels some)) same
+    (subst (λ f. Puts names_before names_after before after f whole (given_items levels kids)) new
+    puts)
+
+-- and so for its signs and elements
+closed_keeps : (names_before names_after : List (List ℕ)) (before between after : List Change)
+    (rule : Rule) (room : ℕ) (whole : Framed) (content : Filled) (given : Load)
+    → Puts names_before names_after before between
+    (record { rule = rule; room = room; load = nothing; running = [] }) whole given
+    → Closes between after whole content → Keeps before after nothing (load_filled content) given
+closed_keeps names_before names_after before between after rule room whole content given puts
+    closes =
+    subst (Keeps before after nothing (load_filled content)) (both_nothing given)
+    (keeps_then before between after nothing whole.load (load_filled content) given nothing
+    puts.load.keeps closes.load.keeps)
+
+-- with its own tag
+keeps_own : (before after : List Change) (content : Filled) (element : Built) (levels : ℕ)
+    (node : Node) → 0 < levels → element.levels ≡ suc content.room
+    → element.node.kids ≡ content.items → element.node.tag ≡ node.tag
+    → Keeps before after nothing (load_filled content) (given_items (levels - 1) node.kids)
+    → Keeps before after nothing (load_built element) (given_node levels node)
+keeps_own before after content element zero node deep at kids own keeps =
+    absurd (grind (arith, deep))
+keeps_own before after content element (suc levels) node deep at kids own keeps =
+    let same : suc levels - 1 ≡ levels = grind (arith) in
+    let here =
+    subst (λ l. Keeps before after nothing (load_filled content) (given_items l node.kids)) same
+    keeps in
+    let signs : node_signs element.levels element.node ≡ signs_in content.room content.items =
+    ap (λ l. node_signs l element.node) at ∙ ap (signs_in content.room) kids in
+    record {
+      tags = λ tag.
+          grind (
+            arith,
+            here.tags tag,
+            own_number tag element.node (nodes_in element.levels element.node.kids),
+            own_number tag node (nodes_in (suc levels) node.kids),
+            ap (λ (t : Tag). number (is_same_tag tag) (filter (λ other. not (is_paragraph other))
+                (t ∷ []))) own,
+            ap (λ nodes. number (is_same_tag tag) (tags_of_nodes nodes))
+                (ap (λ l. nodes_in l element.node.kids) at ∙ ap (nodes_in (suc content.room)) kids),
+          );
+      order = subst (λ some. IsWithin some (signs_in levels node.kids)) (sym signs) here.order;
+      signs = λ test. grind (arith, here.signs test, ap (number test) signs);
+    }
+
+-- an element is made of what was put
+pub made_keeps : (names_before names_after : List (List ℕ)) (before between after : List Change)
+    (rule : Rule) (room : ℕ) (whole : Framed) (content : Filled) (attributes : Kept)
+    (element : Built) (levels : ℕ) (node : Node) → 0 < levels
+    → Puts names_before names_after before between
+    (record { rule = rule; room = room; load = nothing; running = [] }) whole
+    (given_items (levels - 1) node.kids)
+    → Closes between after whole content → attributes.tag ≡ node.tag → element ≡ record {
+      levels = suc content.room;
+      node = record { tag = attributes.tag; attrs = attributes.rows; kids = content.items };
+    } → Keeps before after nothing (load_built element) (given_node levels node)
+made_keeps names_before names_after before between after rule room whole content attributes
+    element levels node deep puts closes tag made =
+    keeps_own before after content element levels node deep (ap (λ (e : Built). e.levels) made)
+    (ap (λ (e : Built). e.node.kids) made) (ap (λ (e : Built). e.node.tag) made ∙ tag)
+    (closed_keeps names_before names_after before between after rule room whole content
+    (given_items (levels - 1) node.kids) puts closes)
+
+-- with these names
+pub made_takes : (names_before names_after : List (List ℕ)) (before between after : List Change)
+    (rule : Rule) (room : ℕ) (whole : Framed) (content : Filled) (attributes : Kept)
+    (element : Built) (given : Load) → Puts names_before names_after before between
+    (record { rule = rule; room = room; load = nothing; running = [] }) whole given
+    → Closes between after whole content → element ≡ record {
+      levels = suc content.room;
+      node = record { tag = attributes.tag; attrs = attributes.rows; kids = content.items };
+    }
+    → Takes names_before names_after [] (names_among true element.levels element.node.kids)
+made_takes names_before names_after before between after rule room whole content attributes
+    element given puts closes made =
+    subst (λ (e : Built). Takes names_before names_after []
+    (names_among true e.levels e.node.kids)) (sym made)
+    (closed_takes names_before names_after before between after rule room whole content given
+    puts closes)
+
+-- that are distinct where none was taken before
+pub made_apart : (names_before names_after : List (List ℕ)) (before between after : List Change)
+    (rule : Rule) (room : ℕ) (whole : Framed) (content : Filled) (given : Load)
+    → names_before ≡ [] → Puts names_before names_after before between
+    (record { rule = rule; room = room; load = nothing; running = [] }) whole given
+    → Closes between after whole content
+    → AreDistinct (names_among true (suc content.room) content.items)
+made_apart names_before names_after before between after rule room whole content given none puts
+    closes =
+    taken_apart names_after (names_among true (suc content.room) content.items)
+    (subst (λ names. Takes names names_after [] (names_among true (suc content.room) content.items))
+    none
+    (closed_takes names_before names_after before between after rule room whole content given
+    puts closes))
+
+-- or what was put goes for want of what the element can't do without
+pub unmade_keeps : (names_before names_after : List (List ℕ))
+    (before between closed after : List Change) (rule : Rule) (room : ℕ) (whole : Framed)
+    (content : Filled) (attributes : Kept) (unmade : Node) (texts : List Part)
+    (above levels : ℕ) (node : Node) → 0 < levels → above ≡ suc content.room
+    → Puts names_before names_after before between
+    (record { rule = rule; room = room; load = nothing; running = [] }) whole
+    (given_items (levels - 1) node.kids)
+    → Closes between closed whole content → attributes.tag ≡ node.tag
+    → unmade ≡ record { tag = attributes.tag; attrs = attributes.rows; kids = content.items }
+    → signs_of texts ≡ node_signs above unmade
+    → lost after ≡ lost closed ++ signs_of texts
+    → Keeps before after nothing nothing (given_node levels node)
+unmade_keeps names_before names_after before between closed after rule room whole content
+    attributes unmade texts above levels node deep at puts closes tag made all noted =
+    let kept =
+    made_keeps names_before names_after before between closed rule room whole content attributes
+    (record {
+      levels = suc content.room;
+      node = record { tag = attributes.tag; attrs = attributes.rows; kids = content.items };
+    }) levels node deep puts closes tag refl in
+    record {
+      tags = λ tag. grind (arith);
+      order = within_nothing (node_signs levels node);
+      signs = λ test.
+          grind (
+            arith,
+            kept.signs test,
+            ap (number test) noted
+                ∙ number-append test (lost closed) (signs_of texts),
+            ap (number test) (all ∙ ap (λ l. node_signs l unmade) at
+                ∙ ap (node_signs (suc content.room)) made),
+          );
+    }
+
+pub unmade_takes : (names_before names_after : List (List ℕ)) (before between after : List Change)
+    (rule : Rule) (room : ℕ) (whole : Framed) (given : Load)
+    → Puts names_before names_after before between
+    (record { rule = rule; room = room; load = nothing; running = [] }) whole given
+    → Takes names_before names_after [] []
+unmade_takes names_before names_after before between after rule room whole given puts text =
+    grind (arith, puts.load.names text)
+
+-- a card has nothing that it can't do without
+pub card_whole : (rule : Rule) (node : Node) → rule ≡ rule_of tags.Card
+    → has_needs rule node ≡ true
+unfolding rule_of rules
+card_whole rule node is = ap (λ r. has_needs r node) is
+
+-- ---- items one by one
+
+-- what is given in more items
+pub given_behind : (levels : ℕ) (items more : List Item)
+    → given_items levels (items ++ more) ≡ both (given_items levels items) (given_items levels more)
+given_behind levels items more =
+    let below : Node → List Node = λ node. node ∷ nodes_in levels node.kids in
+    ap (λ (some : List Tag). record {
+      names = [];
+      tags = some;
+      signs = signs_in levels (items ++ more);
+    }) (ap (λ nodes. tags_of_nodes (flat_map below nodes)) (filter_map-append node_of items more)
+    ∙ ap tags_of_nodes
+    (flat_map-append below (filter_map node_of items) (filter_map node_of more))
+    ∙ tags-append (flat_map below (filter_map node_of items))
+    (flat_map below (filter_map node_of more)))
+    ∙ ap (λ (some : List Part). record {
+      names = [];
+      tags = tags_of_nodes (nodes_in (suc levels) items)
+          ++ tags_of_nodes (nodes_in (suc levels) more);
+      signs = some;
+    }) (signs_in-append levels items more)
+
+-- one item that is a text, or a node
+pub given_text : (levels : ℕ) (one : Item) (parts : List Part) → out-Item one ≡ Item-F.Text parts
+    → given_items levels (one ∷ []) ≡ text_load parts
+given_text levels one parts is =
+    ap (λ level. record {
+      names = [];
+      tags = tags_of_nodes (flat_map (λ node. node ∷ nodes_in levels node.kids)
+          (cons_option (node_from level) []));
+      signs = item_signs (node_signs levels) level ++ [];
+    }) is
+    ∙ ap (λ (some : List Part). record { names = []; tags = []; signs = some })
+    (append-nil (signs_of parts))
+
+pub given_one : (levels : ℕ) (one : Item) (node : Node) → out-Item one ≡ Item-F.Node node
+    → given_items levels (one ∷ []) ≡ given_node levels node
+given_one levels one node is =
+    ap (λ level. record {
+      names = [];
+      tags = tags_of_nodes (flat_map (λ node. node ∷ nodes_in levels node.kids)
+          (cons_option (node_from level) []));
+      signs = item_signs (node_signs levels) level ++ [];
+    }) is
+    ∙ ap (λ nodes. record {
+      names = [];
+      tags = tags_of_nodes (node ∷ nodes);
+      signs = node_signs levels node ++ [];
+    }) (append-nil (nodes_in levels node.kids))
+    ∙ ap (λ (some : List Part). record {
+      names = [];
+      tags = tags_of_nodes (node ∷ nodes_in levels node.kids);
+      signs = some;
+    }) (append-nil (node_signs levels node))
+
+-- ---- turns of the walk
+
+module _ (items : List Item) (n : ℕ) (one : Item) (within : n < length items)
+    (is : one ≡ get_or items n one) where
+  next_before : take (n + 1) items ≡ take n items ++ one ∷ []
+  next_before =
+      rw add-one (take-suc items n one within) ∙ ap (λ last. take n items ++ last ∷ []) (sym is)
+
+  -- one item more is put
+  pub puts_turn : (names_before names_between names_after : List (List ℕ))
+      (before one_before two_before after : List Change) (old mid new : Framed) (levels : ℕ)
+      → Puts names_before names_between before one_before old mid (given_items levels (take n items))
+      → lost two_before ≡ lost one_before
+      → Puts names_between names_after two_before after mid new (given_items levels (one ∷ []))
+      → Puts names_before names_after before after old new (given_items levels (take (n + 1) items))
+  puts_turn names_before names_between names_after before one_before two_before after old mid new
+      levels so still puts =
+      subst (Puts names_before names_after before after old new)
+      (ap (both (given_items levels (take n items))) refl
+      ∙ sym (given_behind levels (take n items) (one ∷ [])) ∙ ap (given_items levels)
+      (sym next_before))
+      (puts_then names_before names_between names_after before one_before after old mid new
+      (given_items levels (take n items)) (given_items levels (one ∷ [])) so
+      (puts_from names_between names_after one_before two_before after mid new
+      (given_items levels (one ∷ [])) still puts))

@@ -1,0 +1,89 @@
+-- What stays of the texts and elements of a deck that is mended, and what changes say is lost. This
+-- project's own.
+use Rattle.std.specs.Prelude.{◌≡◌, ℕ, zero, suc, ◌+◌, ◌≤◌, Bool, true, false, not, ◌||◌, map}
+use Rattle.std.specs.Prelude.{filter, length, List, [], ◌∷◌, ◌++◌}
+use Rattle.std.specs.List.{flat_map}
+use Rattle.wap_base.specs.declared.name.Part.{Part}
+use Rattle.wap_base.specs.declared.name.Part.TheVariants.{Lit, Var}
+use Rattle.wap_tokens.specs.declared.markup.deck.Deck.{Deck}
+use Rattle.wap_tokens.specs.declared.markup.deck.Node.{Node}
+use Rattle.wap_tokens.specs.declared.markup.deck.Item.{Item, out-Item}
+use Rattle.wap_tokens.specs.declared.markup.deck.Item.TheOpen.{Item-F}
+use Rattle.wap_tokens.specs.declared.markup.name.Tag.{Tag}
+use Rattle.wap_tokens.specs.declared.markup.name.Tag.TheVariants as tags
+use Rattle.wap_tokens.specs.declared.markup.document.TheConstants.{LEVEL_LIMIT}
+use Rattle.wap_tokens.specs.markup.Tables.{is_same_tag}
+use Rattle.wap_tokens.specs.markup.Trees.{ItemLevel}
+use Rattle.wap_tokens.specs.markup.Good.{is_blank, nodes_in}
+use Rattle.wap_mend.specs.declared.change.Change.{Change}
+
+-- ---- signs
+
+-- a character by itself
+abbrev pub character : ℕ → Part
+character c = Lit (c ∷ [])
+
+-- the signs of a text, one by one: its characters but for blanks, and its references
+abbrev pub signs_of : List Part → List Part
+signs_of [] = []
+signs_of (Lit text ∷ parts) =
+    map character (filter (λ c. not (is_blank c)) text) ++ signs_of parts
+signs_of (Var name conv ∷ parts) = Var name conv ∷ signs_of parts
+
+-- those of an item, by those of a node
+abbrev pub item_signs : (Node → List Part) → ItemLevel → List Part
+item_signs inner (Item-F.Text parts) = signs_of parts
+item_signs inner (Item-F.Node node) = inner node
+
+-- those in a node of so many levels, and in items of so many levels, in the order of the document
+abbrev pub node_signs : ℕ → Node → List Part
+node_signs zero node = []
+node_signs (suc levels) node =
+    flat_map (λ item. item_signs (node_signs levels) (out-Item item)) node.kids
+
+abbrev pub signs_in : ℕ → List Item → List Part
+signs_in levels items = flat_map (λ item. item_signs (node_signs levels) (out-Item item)) items
+
+-- those of a deck
+abbrev pub signs : Deck → List Part
+signs deck = node_signs LEVEL_LIMIT deck.root
+
+-- those that changes say are lost
+abbrev pub lost : List Change → List Part
+lost changes = flat_map (λ change. signs_of change.lost) changes
+
+-- ---- order and number
+
+-- some of a list, in its order
+pub data IsWithin {X : Type 0} : List X → List X → Type 0 where
+  nothing : IsWithin [] []
+  kept : (x : X) (some all : List X) → IsWithin some all → IsWithin (x ∷ some) (x ∷ all)
+  left_out : (x : X) (some all : List X) → IsWithin some all → IsWithin some (x ∷ all)
+
+-- how many pass a test
+abbrev pub number : {X : Type 0} → (X → Bool) → List X → ℕ
+number test xs = length (filter test xs)
+
+-- whether an element of this tag is a paragraph, preformatted or not
+abbrev pub is_paragraph : Tag → Bool
+is_paragraph tag = is_same_tag tag tags.P || is_same_tag tag tags.Pre
+
+-- the tags of nodes, but for paragraphs
+abbrev pub tags_of_nodes : List Node → List Tag
+tags_of_nodes nodes = filter (λ tag. not (is_paragraph tag)) (map (λ node. node.tag) nodes)
+
+-- ---- decks
+
+-- the tags of the elements below the root of a deck, but for paragraphs
+abbrev pub elements : Deck → List Tag
+elements deck = tags_of_nodes (nodes_in LEVEL_LIMIT deck.root.kids)
+
+-- a deck is made of another, and changes say what is lost: its signs are some of those that were
+-- given, in their order; each sign that was given is in it, or is said to be lost; and its elements
+-- but paragraphs are some of those that were given
+pub record IsMadeOf (given : Deck) (changes : List Change) (made : Deck) : Type 0 where
+  pub order : IsWithin (signs made) (signs given)
+  pub all : (test : Part → Bool) →
+      number test (signs given) ≡ number test (signs made) + number test (lost changes)
+  pub elements : (tag : Tag) →
+      number (is_same_tag tag) (elements made) ≤ number (is_same_tag tag) (elements given)

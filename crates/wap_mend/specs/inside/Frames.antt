@@ -1,0 +1,163 @@
+-- What elements that are being put together gain: names of dos are those of what is added at most,
+-- and so are elements; and texts are kept in their order, or noted as lost. This project's own.
+use Rattle.std.specs.Prelude.{◌≡◌, ℕ, suc, ◌+◌, ◌≤◌, Bool, true, false, List, [], ◌∷◌, ◌++◌}
+use Rattle.std.specs.Prelude.{Option, Some, None}
+use Rattle.wap_base.specs.declared.name.Part.{Part}
+use Rattle.wap_tokens.specs.declared.markup.deck.Item.{Item}
+use Rattle.wap_tokens.specs.declared.markup.deck.Node.{Node}
+use Rattle.wap_tokens.specs.declared.markup.name.Tag.{Tag}
+use Rattle.wap_tokens.specs.declared.markup.name.Tag.TheVariants as tags
+use Rattle.wap_tokens.specs.markup.Tables.{is_same_tag}
+use Rattle.wap_tokens.specs.markup.Good.{Rule, rule_of, nodes_in}
+use Rattle.wap_deckcheck.specs.Places.{names_among}
+use Rattle.wap_mend.specs.Accounts.{signs_of, node_signs, signs_in, lost, IsWithin, number}
+use Rattle.wap_mend.specs.Accounts.{tags_of_nodes}
+use Rattle.wap_mend.specs.declared.change.Change.{Change}
+use Rattle.wap_mend.specs.inside.Building.{Built, Filled}
+use Rattle.wap_mend.specs.inside.Names.{names_with, Adds, Takes}
+
+-- ---- what is in elements
+
+-- the names of dos, the tags of elements but paragraphs, and the signs of texts
+pub record Load : Type 0 where
+  pub names : List (List ℕ)
+  pub tags : List Tag
+  pub signs : List Part
+
+abbrev pub nothing : Load
+nothing = record { names = []; tags = []; signs = [] }
+
+abbrev pub both : Load → Load → Load
+both some more = record {
+  names = some.names ++ more.names;
+  tags = some.tags ++ more.tags;
+  signs = some.signs ++ more.signs;
+}
+
+-- those in content
+abbrev pub load_filled : Filled → Load
+load_filled content = record {
+  names = names_among true (suc content.room) content.items;
+  tags = tags_of_nodes (nodes_in (suc content.room) content.items);
+  signs = signs_in content.room content.items;
+}
+
+-- those of an element
+abbrev pub load_built : Built → Load
+load_built element = record {
+  names = names_with element.levels element.node;
+  tags = tags_of_nodes (element.node ∷ nodes_in element.levels element.node.kids);
+  signs = node_signs element.levels element.node;
+}
+
+abbrev pub load_if : Option Built → Load
+load_if None = nothing
+load_if (Some element) = load_built element
+
+abbrev pub load_all : List Built → Load
+load_all [] = nothing
+load_all (element ∷ elements) = both (load_built element) (load_all elements)
+
+-- what is given in items of so many levels: what they have, without names
+abbrev pub given_items : ℕ → List Item → Load
+given_items levels items = record {
+  names = [];
+  tags = tags_of_nodes (nodes_in (suc levels) items);
+  signs = signs_in levels items;
+}
+
+-- and in a node of so many levels
+abbrev pub given_node : ℕ → Node → Load
+given_node levels node = record {
+  names = [];
+  tags = tags_of_nodes (node ∷ nodes_in levels node.kids);
+  signs = node_signs levels node;
+}
+
+-- in a text
+abbrev pub text_load : List Part → Load
+text_load parts = record { names = []; tags = []; signs = signs_of parts }
+
+-- an element without signs
+abbrev pub IsMute : Built → Type 0
+IsMute element = node_signs element.levels element.node ≡ []
+
+-- one that has none if it is an event or a timer
+pub record IsQuiet (element : Built) : Type 0 where
+  pub event : element.node.tag ≡ tags.Onevent → IsMute element
+  pub timer : element.node.tag ≡ tags.Timer → IsMute element
+
+-- ---- gains
+
+-- no more elements than there were and this more; and signs in their order, or noted as lost
+pub record Keeps (before after : List Change) (old new more : Load) : Type 0 where
+  pub tags : (tag : Tag) → number (is_same_tag tag) new.tags
+      ≤ number (is_same_tag tag) old.tags + number (is_same_tag tag) more.tags
+  pub order : IsWithin new.signs (old.signs ++ more.signs)
+  pub signs : (test : Part → Bool) → number test new.signs + number test (lost after)
+      ≡ (number test old.signs + number test more.signs) + number test (lost before)
+
+-- with this more at most
+pub record Carries (before after : List Change) (old new more : Load) : Type 0 where
+  pub names : Adds old.names new.names more.names
+  pub keeps : Keeps before after old new more
+
+-- an element that is being put together: its rule, the levels of the elements in it, what is in
+-- it, and the signs in the paragraph that is open
+pub record Framed : Type 0 where
+  pub rule : Rule
+  pub room : ℕ
+  pub load : Load
+  pub running : List Part
+
+-- by its groups and the paragraph that is open
+abbrev pub framed : Filled → Option Built → List Built → Filled → Framed
+framed first second third run = record {
+  rule = first.rule;
+  room = first.room;
+  load =
+      both (load_filled first) (both (load_if second) (both (load_all third) (load_filled run)));
+  running = signs_in run.room run.items;
+}
+
+-- where groups come in their order, the first two have no texts; else all is in the first
+pub record IsFramed (first : Filled) (second : Option Built) (third : List Built)
+    (run : Filled) : Type 0 where
+  pub paragraph : run.rule ≡ rule_of tags.P
+  pub first_mute : first.rule.in_order ≡ true → signs_in first.room first.items ≡ []
+  pub second_mute : (load_if second).signs ≡ []
+  pub one : first.rule.in_order ≡ false → load_all third ≡ nothing
+  pub none : first.rule.in_order ≡ false → run.items ≡ []
+
+-- with more in it
+pub record Gains (before after : List Change) (old new : Framed) (more : Load) : Type 0 where
+  pub rule : new.rule ≡ old.rule
+  pub room : new.room ≡ old.room
+  pub load : Carries before after old.load new.load more
+
+-- the same of content
+pub record Collects (before after : List Change) (old new : Filled) (more : Load) : Type 0 where
+  pub rule : new.rule ≡ old.rule
+  pub room : new.room ≡ old.room
+  pub load : Carries before after (load_filled old) (load_filled new) more
+
+-- what stands in it when all was put there
+pub record Closes (before after : List Change) (whole : Framed) (content : Filled) : Type 0 where
+  pub rule : content.rule ≡ whole.rule
+  pub room : content.room ≡ whole.room
+  pub load : Carries before after whole.load (load_filled content) nothing
+
+-- ---- the walk
+
+-- the same, but that names were free before and are taken then
+pub record Moves (names_before names_after : List (List ℕ)) (before after : List Change)
+    (old new more : Load) : Type 0 where
+  pub names : Takes names_before names_after old.names new.names
+  pub keeps : Keeps before after old new more
+
+-- what was given is put into an element
+pub record Puts (names_before names_after : List (List ℕ)) (before after : List Change)
+    (old new : Framed) (given : Load) : Type 0 where
+  pub rule : new.rule ≡ old.rule
+  pub room : new.room ≡ old.room
+  pub load : Moves names_before names_after before after old.load new.load given
