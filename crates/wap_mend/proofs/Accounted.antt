@@ -17,21 +17,23 @@ use Rattle.wap_tokens.specs.declared.markup.deck.Item.TheVariants.{outs-Text, ou
 use Rattle.wap_tokens.specs.declared.markup.deck.Item.TheVariants as item
 use Rattle.wap_tokens.specs.declared.markup.name.Tag.{Tag}
 use Rattle.wap_tokens.specs.declared.markup.name.Tag.TheVariants as tags
-use Rattle.wap_tokens.specs.markup.Tables.{is_same_tag}
 use Rattle.wap_tokens.specs.markup.Normal.{IsNode}
 use Rattle.wap_tokens.specs.markup.Good.{is_blank_text, nodes_in}
-use Rattle.wap_mend.specs.Accounts.{signs_of, signs, node_signs, signs_in, lost, number, IsWithin}
-use Rattle.wap_mend.specs.Accounts.{tags_of_nodes, elements, IsMadeOf}
+use Rattle.wap_mend.specs.Accounts.{signs_of, signs, node_signs, signs_in, lost, gone, number}
+use Rattle.wap_mend.specs.Accounts.{tags_of_nodes, elements, IsWithin, IsMadeOf}
 use Rattle.wap_mend.specs.declared.change.Change.{Change}
+use Rattle.wap_mend.specs.declared.signs.Lost.{Lost}
 use Rattle.wap_mend.specs.inside.Building.{Built, IsBuilt}
 use Rattle.wap_mend.specs.inside.Frames.{Load, nothing, both, load_built, load_if, load_all}
-use Rattle.wap_mend.specs.inside.Frames.{given_items, given_node, text_load, Keeps}
+use Rattle.wap_mend.specs.inside.Frames.{given_items, given_node, text_load, tag_load, load_lost}
+use Rattle.wap_mend.specs.inside.Frames.{IsStill, IsNoted, Keeps}
 use Rattle.wap_mend.specs.inside.Tops.{Topped, IsUnder, IsTop, items_with, items_in, load_top}
 use Rattle.wap_mend.proofs.Accounting.{signs_blank}
 use Rattle.wap_mend.proofs.Loads.{both_nothing, both_assoc, keeps_all, keeps_lost, keeps_still}
-use Rattle.wap_mend.proofs.Loads.{keeps_then, keeps_first, keeps_second}
+use Rattle.wap_mend.proofs.Loads.{keeps_then, keeps_first, keeps_second, still_then, noted_as}
+use Rattle.wap_mend.proofs.Framing.{node_levels}
 use Rattle.wap_mend.proofs.Muteness.{is_mute, mute}
-use Rattle.wap_mend.proofs.Putting.{keeps_made, keeps_gone, keeps_from, own_more}
+use Rattle.wap_mend.proofs.Putting.{keeps_made, keeps_gone, keeps_from, given_own}
 use Rattle.wap_mend.proofs.Putting.{given_behind, given_text, given_one}
 
 -- ---- elements that get to their places
@@ -47,7 +49,7 @@ pub none_there : (found : Option Built) → is_some found ≡ false → found �
 none_there None none = refl
 none_there (Some element) none = absurd (cc none)
 
-module _ (before after : List Change) (element : Built) (still : lost after ≡ lost before) where
+module _ (before after : List Change) (element : Built) (still : IsStill before after) where
   -- a head, where there was none
   pub head_added : (head : Option Built) (rest : Load) → head ≡ None
       → (load_built element).signs ≡ []
@@ -95,7 +97,7 @@ module _ (before after : List Change) (element : Built) (still : lost after ≡ 
 module _ (before after : List Change) (levels : ℕ) (one : Item) where
   -- a blank text has no signs
   pub blank_keeps : (load : Load) (parts : List Part) → one ≡ item.Text parts
-      → is_blank_text parts ≡ true → lost after ≡ lost before
+      → is_blank_text parts ≡ true → IsStill before after
       → Keeps before after load load (given_items levels (one ∷ []))
   blank_keeps load parts is blank still =
       subst (Keeps before after load load)
@@ -105,13 +107,14 @@ module _ (before after : List Change) (levels : ℕ) (one : Item) where
       (keeps_still before after load still)
 
   -- another text is noted as lost
-  pub text_keeps : (load : Load) (parts texts : List Part) → one ≡ item.Text parts → texts ≡ parts
-      → lost after ≡ lost before ++ signs_of texts
+  pub text_keeps : (load : Load) (parts : List Part) (what : Lost) → one ≡ item.Text parts
+      → load_lost what ≡ text_load parts → IsNoted before after (load_lost what)
       → Keeps before after load load (given_items levels (one ∷ []))
-  text_keeps load parts texts is same noted =
+  text_keeps load parts what is same noted =
       subst (Keeps before after load load)
       (sym (given_text levels one parts (ap out-Item is ∙ outs-Text parts)))
-      (keeps_lost before after load (text_load parts) texts (ap signs_of same) noted)
+      (keeps_lost before after load (text_load parts)
+      (noted_as before after (load_lost what) (text_load parts) same noted))
 
   -- an element is put
   pub node_keeps : (old new : Load) (node : Node) → one ≡ item.Node node
@@ -137,24 +140,17 @@ turn_keeps before between after old mid new levels items n one within is first n
 
 -- ---- elements of the walk
 
--- what is in an element is put in its place
+-- what is in an element is put in its place, which is noted
 pub opened_keeps : (before between after : List Change) (old new : Load) (levels : ℕ) (node : Node)
-    (kids : List Item) → IsNode levels node → lost between ≡ lost before → kids ≡ node.kids
-    → Keeps between after old new (given_items (levels - 1) kids)
+    (kids : List Item) → IsNode levels node → IsNoted before between (tag_load node.tag)
+    → kids ≡ node.kids → Keeps between after old new (given_items (levels - 1) kids)
     → Keeps before after old new (given_node levels node)
-opened_keeps before between after old new zero node kids normal still is keeps = absurd normal
-opened_keeps before between after old new (suc levels) node kids normal still is keeps =
-    let same : suc levels - 1 ≡ levels = grind (arith) in
-    let here =
-    subst (λ l. Keeps between after old new (given_items l node.kids)) same
-    (subst (λ some. Keeps between after old new (given_items (suc levels - 1) some)) is keeps) in
-    record {
-      tags = λ tag.
-          let more = own_more tag node (nodes_in (suc levels) node.kids) in
-          grind (arith, here.tags tag, more);
-      order = here.order;
-      signs = λ test. grind (arith, here.signs test, ap (number test) still);
-    }
+opened_keeps before between after old new levels node kids normal noted is keeps =
+    subst (Keeps before after old new)
+    (ap (λ some. both (tag_load node.tag) (given_items (levels - 1) some)) is
+    ∙ given_own levels node (node_levels levels node normal))
+    (keeps_then before between after old old new (tag_load node.tag)
+    (given_items (levels - 1) kids) (keeps_lost before between old (tag_load node.tag) noted) keeps)
 
 -- what holds where there is one holds of it
 pub some_then : {X : Type 0} (P : X → Type 0) (found : Option X) (x : X) → found ≡ Some x
@@ -162,7 +158,7 @@ pub some_then : {X : Type 0} (P : X → Type 0) (found : Option X) (x : X) → f
 some_then P found x is holds = subst (λ some. IfSome some P) is holds
 
 module _ (before one two : List Change) (old between : Load) (given : Load)
-    (first : lost one ≡ lost before) (second : lost two ≡ lost one) (same : between ≡ old) where
+    (first : IsStill before one) (second : IsStill one two) (same : between ≡ old) where
   -- what is made of it is added
   pub element_keeps : (three after : List Change) (new made : Load)
       → Keeps two three nothing made given → Keeps three after between new made
@@ -170,7 +166,7 @@ module _ (before one two : List Change) (old between : Load) (given : Load)
   element_keeps three after new made makes adds =
       keeps_made before two three after old between new made given
       (subst (λ load. Keeps before two old load nothing) (sym same)
-      (keeps_still before two old (second ∙ first))) makes adds
+      (keeps_still before two old (still_then before one two first second))) makes adds
 
   -- nothing is made of it
   pub none_keeps : (after : List Change) → Keeps two after nothing nothing given
@@ -178,7 +174,7 @@ module _ (before one two : List Change) (old between : Load) (given : Load)
   none_keeps after makes =
       keeps_gone before two after old between given
       (subst (λ load. Keeps before two old load nothing) (sym same)
-      (keeps_still before two old (second ∙ first))) makes
+      (keeps_still before two old (still_then before one two first second))) makes
 
 -- ---- the deck
 
@@ -227,7 +223,7 @@ module _ (room : ℕ) (limit : room ≡ LEVEL_LIMIT - 1) where
 
   -- the deck that is made has what is in the root
   pub deck_made : (before after : List Change) (top : Topped) (given made : Node)
-      → suc room ≡ LEVEL_LIMIT → lost before ≡ [] → IsTop top → made.kids ≡ items_in top
+      → suc room ≡ LEVEL_LIMIT → IsStill [] before → IsTop top → made.kids ≡ items_in top
       → Keeps before after nothing (load_top top) (given_items room given.kids)
       → IsMadeOf (record { root = given }) after (record { root = made })
   deck_made before after top given made deep none is kids keeps =
@@ -253,13 +249,14 @@ module _ (room : ℕ) (limit : room ≡ LEVEL_LIMIT - 1) where
               keeps.signs test,
               ap (number test) made_signs,
               ap (number test) given_signs,
-              ap (number test) none,
+              ap (number test) none.lost,
             );
-        elements = λ tag.
+        elements = λ test.
             grind (
               arith,
-              keeps.tags tag,
-              ap (number (is_same_tag tag)) made_tags,
-              ap (number (is_same_tag tag)) given_tags,
+              keeps.tags test,
+              ap (number test) made_tags,
+              ap (number test) given_tags,
+              ap (number test) none.gone,
             );
       }

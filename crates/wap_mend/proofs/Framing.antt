@@ -20,22 +20,24 @@ use Rattle.wap_tokens.specs.markup.Normal.{IsAttribute, IsNode, IsItem}
 use Rattle.wap_tokens.specs.markup.Good.{Rule, rule_of, rules, holds_dos, nodes_in, is_blank_text}
 use Rattle.wap_deck.specs.documents.Adding.{part_after, marks_after}
 use Rattle.wap_deckcheck.specs.Places.{own_name, names_among}
-use Rattle.wap_mend.specs.Accounts.{signs_of, signs_in, node_signs, lost, tags_of_nodes}
+use Rattle.wap_mend.specs.Accounts.{signs_of, signs_in, node_signs, lost, gone, tags_of_nodes}
 use Rattle.wap_mend.specs.Accounts.{is_paragraph, IsWithin, kept, left_out}
 use Rattle.wap_mend.specs.Accounts.{nothing as none_within}
 use Rattle.wap_mend.specs.declared.change.Change.{Change}
+use Rattle.wap_mend.specs.declared.signs.Lost.{Lost}
 use Rattle.wap_mend.specs.inside.Building.{Kept, Built, IsBuilt, Filled}
 use Rattle.wap_mend.specs.inside.Names.{names_with}
 use Rattle.wap_mend.specs.inside.Frames.{Load, nothing, both, load_filled, load_built, load_if}
 use Rattle.wap_mend.specs.inside.Frames.{load_all, Carries, Framed, framed, IsFramed, Gains}
 use Rattle.wap_mend.specs.inside.Frames.{Collects, Closes, IsMute, IsQuiet, text_load}
+use Rattle.wap_mend.specs.inside.Frames.{load_lost, given_node, IsStill, IsNoted}
 use Rattle.wap_mend.proofs.Building.{names_behind, names_same}
 use Rattle.wap_mend.proofs.Muteness.{is_mute, mute}
 use Rattle.wap_mend.proofs.Accounting.{signs_blank}
 use Rattle.wap_mend.proofs.Accounting.{signs_behind, signs_more, tags_behind, tags_more}
 use Rattle.wap_mend.proofs.Loads.{both_nothing, both_assoc, carries_all, carries_lost}
 use Rattle.wap_mend.proofs.Loads.{carries_still, carries_then, carries_first, carries_second}
-use Rattle.wap_mend.proofs.Loads.{carries_dropped, carries_joined}
+use Rattle.wap_mend.proofs.Loads.{carries_dropped, carries_joined, still_refl, noted_built}
 
 -- ---- paragraphs
 
@@ -97,7 +99,7 @@ filled_behind content node =
 pub element_collects : (before after : List Change) (old new : Filled) (element : Built)
     → element.levels ≡ old.room
     → new ≡ record old { items = old.items ++ item.Node element.node ∷ [] }
-    → lost after ≡ lost before → Collects before after old new (load_built element)
+    → IsStill before after → Collects before after old new (load_built element)
 element_collects before after old new element levels same still = record {
   rule = ap (λ (f : Filled). f.rule) same;
   room = ap (λ (f : Filled). f.room) same;
@@ -124,23 +126,24 @@ element_added changes old new element takes taken follows is may done same =
     (eqb-true element.levels old.room (and_parts _ follows fits).0)
     (same ∙ ap (λ (b : Bool).
     record old { items = if b then old.items ++ item.Node element.node ∷ [] else old.items })
-    (done ∙ fits)) refl
+    (done ∙ fits)) (still_refl changes)
 
 -- or it is noted
-pub element_lost : (before after : List Change) (content : Filled) (element : Built)
-    (texts : List Part) → signs_of texts ≡ node_signs element.levels element.node
-    → lost after ≡ lost before ++ signs_of texts
+pub element_lost : (before after : List Change) (content : Filled) (element : Built) (what : Lost)
+    → load_lost what ≡ given_node element.levels element.node
+    → IsNoted before after (load_lost what)
     → Collects before after content content (load_built element)
-element_lost before after content element texts all noted = record {
+element_lost before after content element what all noted = record {
   rule = refl;
   room = refl;
   load =
-      carries_lost before after (load_filled content) (load_built element) texts all noted;
+      carries_lost before after (load_filled content) (load_built element)
+      (noted_built before after what element all noted);
 }
 
 -- where nothing changes nothing is collected
 pub nothing_collected : (before after : List Change) (content : Filled)
-    → lost after ≡ lost before → Collects before after content content nothing
+    → IsStill before after → Collects before after content content nothing
 nothing_collected before after content still = record {
   rule = refl;
   room = refl;
@@ -200,7 +203,7 @@ filled_text content parts =
 
 pub text_collects : (before after : List Change) (old new : Filled) (parts : List Part)
     → new ≡ record old { items = marks_after old.items (map part parts) }
-    → lost after ≡ lost before → Collects before after old new (text_load parts)
+    → IsStill before after → Collects before after old new (text_load parts)
 text_collects before after old new parts same still = record {
   rule = ap (λ (f : Filled). f.rule) same;
   room = ap (λ (f : Filled). f.room) same;
@@ -273,28 +276,36 @@ built_quiet levels node element told is = subst IsQuiet told (record {
 
 -- nothing is gained where nothing changes
 pub gains_nothing : (before after : List Change) (old new : Framed) → new ≡ old
-    → lost after ≡ lost before → Gains before after old new nothing
+    → IsStill before after → Gains before after old new nothing
 gains_nothing before after old new same still =
     subst (λ f. Gains before after old f nothing) (sym same)
     (record { rule = refl; room = refl; load = carries_still before after old.load still })
 
 -- what isn't gained is noted
-pub gains_lost : (before after : List Change) (old new : Framed) (more : Load)
-    (texts : List Part) → new ≡ old → signs_of texts ≡ more.signs
-    → lost after ≡ lost before ++ signs_of texts → Gains before after old new more
-gains_lost before after old new more texts same all noted =
+pub gains_lost : (before after : List Change) (old new : Framed) (more : Load) → new ≡ old
+    → IsNoted before after more → Gains before after old new more
+gains_lost before after old new more same noted =
     subst (λ f. Gains before after old f more) (sym same) (record {
       rule = refl;
       room = refl;
-      load = carries_lost before after old.load more texts all noted;
+      load = carries_lost before after old.load more noted;
     })
 
--- a blank text has none
+-- a blank text has nothing that is lost
+blank_noted : (changes : List Change) (parts : List Part) → is_blank_text parts ≡ true
+    → IsNoted changes changes (text_load parts)
+blank_noted changes parts blank = record {
+  lost =
+      sym (ap (λ some. lost changes ++ some) (signs_blank parts blank)
+      ∙ append-nil (lost changes));
+  gone = sym (append-nil (gone changes));
+}
+
+-- so nothing is gained with it
 pub gains_blank : (changes : List Change) (old : Framed) (parts : List Part)
     → is_blank_text parts ≡ true → Gains changes changes old old (text_load parts)
 gains_blank changes old parts blank =
-    gains_lost changes changes old old (text_load parts) [] refl (sym (signs_blank parts blank))
-    (sym (append-nil (lost changes)))
+    gains_lost changes changes old old (text_load parts) refl (blank_noted changes parts blank)
 
 -- first some, and then more
 pub gains_then : (before between after : List Change) (old mid new : Framed) (some more : Load)
@@ -378,7 +389,7 @@ first_added before after old first new second third run element told is mute col
 pub second_gains : (before after : List Change) (old : Framed) (first : Filled)
     (second : Option Built) (third : List Built) (run : Filled) (element : Built)
     → framed first second third run ≡ old → second ≡ None
-    → node_signs element.levels element.node ≡ [] → lost after ≡ lost before
+    → node_signs element.levels element.node ≡ [] → IsStill before after
     → Gains before after old (framed first (Some element) third run) (load_built element)
 second_gains before after old first second third run element told none mute still =
     subst (λ f. Gains before after f (framed first (Some element) third run) (load_built element))
@@ -406,7 +417,7 @@ all_behind (first ∷ elements) element =
 pub third_gains : (before after : List Change) (old : Framed) (first : Filled)
     (second : Option Built) (third new : List Built) (run : Filled) (element : Built)
     → framed first second third run ≡ old → new ≡ third ++ element ∷ []
-    → old.running ≡ [] → lost after ≡ lost before
+    → old.running ≡ nothing → IsStill before after
     → Gains before after old (framed first second new run) (load_built element)
 third_gains before after old first second third new run element told same free still =
     subst (λ f. Gains before after f (framed first second new run) (load_built element)) told
@@ -423,7 +434,7 @@ third_gains before after old first second third new run element told same free s
           (subst (λ load. Carries before after (load_all third) load (load_built element))
           (sym (ap load_all same ∙ all_behind third element))
           (carries_all before after (load_all third) (load_built element) still))
-          (inr (ap (λ (f : Framed). f.running) told ∙ free))));
+          (inr (ap (λ (load : Load). load.signs) (ap (λ (f : Framed). f.running) told ∙ free)))));
     })
 
 -- in the paragraph that is open
@@ -463,18 +474,6 @@ emptied_gains before after first second third run empty none carries = record {
       (subst (λ load. Carries before after (load_filled run) load nothing) (sym none) carries)));
 }
 
-pub run_lost : (before after : List Change) (old : Framed) (first : Filled)
-    (second : Option Built) (third : List Built) (run : Filled) (rule : Rule) (room : ℕ)
-    (texts : List Part) → framed first second third run ≡ old
-    → signs_of texts ≡ signs_in run.room run.items → lost after ≡ lost before ++ signs_of texts
-    → Gains before after old
-    (framed first second third (record { rule = rule; room = room; items = [] })) nothing
-run_lost before after old first second third run rule room texts told all noted =
-    let empty : Filled = record { rule = rule; room = room; items = [] } in
-    subst (λ f. Gains before after f (framed first second third empty) nothing) told
-    (emptied_gains before after first second third run empty refl
-    (carries_dropped before after (load_filled run) texts all noted))
-
 -- without it, and with it behind all others
 run_behind : (first : Filled) (second : Option Built) (third : List Built) (run : Filled)
     → both (both (load_filled first) (both (load_if second) (both (load_all third) nothing)))
@@ -508,6 +507,28 @@ paragraph_load attributes run is =
       tags = cond (not b) (attributes.tag ∷ tags_of_nodes nodes) (tags_of_nodes nodes);
       signs = signs;
     }) is
+
+-- it ends, and is noted
+pub run_lost : (before after : List Change) (old : Framed) (first : Filled)
+    (second : Option Built) (third : List Built) (run : Filled) (rule : Rule) (room : ℕ)
+    (attributes : Kept) (what : Lost) → framed first second third run ≡ old
+    → is_paragraph attributes.tag ≡ true
+    → load_lost what ≡ given_node (suc run.room)
+    (record { tag = attributes.tag; attrs = attributes.rows; kids = run.items })
+    → IsNoted before after (load_lost what)
+    → Gains before after old
+    (framed first second third (record { rule = rule; room = room; items = [] })) nothing
+run_lost before after old first second third run rule room attributes what told is all noted =
+    let empty : Filled = record { rule = rule; room = room; items = [] } in
+    let made : Built = record {
+      levels = suc run.room;
+      node = record { tag = attributes.tag; attrs = attributes.rows; kids = run.items };
+    } in
+    subst (λ f. Gains before after f (framed first second third empty) nothing) told
+    (emptied_gains before after first second third run empty refl
+    (carries_dropped before after (load_filled run)
+    (subst (IsNoted before after) (paragraph_load attributes run is)
+    (noted_built before after what made all noted))))
 
 -- it ends, and stands among the others
 pub run_ended : (before after : List Change) (old new : Framed) (first : Filled)
@@ -543,13 +564,14 @@ run_ended before after old new first second third run rule room attributes eleme
 pub closes : (before one two after : List Change) (whole : Framed) (first : Filled)
     (second : Option Built) (third : List Built) (run mid content : Filled)
     → Gains before one whole (framed first second third run) nothing
-    → signs_in run.room run.items ≡ [] → Collects one two first mid (load_if second)
+    → load_filled run ≡ nothing → Collects one two first mid (load_if second)
     → Collects two after mid content (load_all third) → Closes before after whole content
 closes before one two after whole first second third run mid content gains free some others =
     let none : Filled = record { rule = run.rule; room = run.room; items = [] } in
     let dropped =
     emptied_gains one one first second third run none refl
-    (carries_dropped one one (load_filled run) [] (sym free) (sym (append-nil (lost one)))) in
+    (subst (λ load. Carries one one load nothing nothing) (sym free)
+    (carries_still one one nothing (still_refl one))) in
     let all =
     carries_then one two after (load_filled first) (load_filled mid) (load_filled content)
     (load_if second) (load_all third) some.load others.load in

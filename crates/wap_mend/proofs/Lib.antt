@@ -9,6 +9,7 @@ pub mod Rooted
 pub mod Accounted
 pub mod Framing
 pub mod Putting
+pub mod Collecting
 pub mod Causes
 pub mod Canonical
 pub mod Telling

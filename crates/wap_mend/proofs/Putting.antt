@@ -1,6 +1,6 @@
 -- What the walk over an element puts into another.
 use Rattle.std.proofs.Common.{◌≡◌, ℕ, zero, suc, ◌+◌, ◌-◌, ◌<◌, ◌≤◌, Bool, true, false, not}
-use Rattle.std.proofs.Common.{List, [], ◌∷◌, ◌++◌, map, Option, Some, None, Result, Ok, Err}
+use Rattle.std.proofs.Common.{List, [], ◌∷◌, ◌++◌, map, Option, Some, None, Result, Ok, Err, cond}
 use Rattle.std.proofs.Common.{length, get_or, take, add-one, refl, sym, ap, subst, ◌∙◌, arith}
 use Rattle.std.proofs.Math.Seq.{take-suc}
 use Rattle.std.specs.Prelude.{if◌then◌else◌, IfOk, IfSome, MatchOption}
@@ -23,20 +23,23 @@ use Rattle.wap_tokens.specs.markup.Normal.{IsNode}
 use Rattle.wap_tokens.specs.markup.Trees.{node_of, node_from}
 use Rattle.wap_tokens.specs.markup.Good.{Rule, rule_of, rules, has_needs, nodes_in, name_of_do}
 use Rattle.wap_deckcheck.specs.Places.{own_name, names_among}
-use Rattle.wap_mend.specs.Accounts.{signs_of, signs_in, node_signs, lost, IsWithin, number}
-use Rattle.wap_mend.specs.Accounts.{item_signs, tags_of_nodes, is_paragraph}
+use Rattle.wap_mend.specs.Accounts.{signs_of, signs_in, node_signs, lost, gone, IsWithin, number}
+use Rattle.wap_mend.specs.Accounts.{item_signs, tags_of_nodes, is_paragraph, but_paragraphs}
 use Rattle.wap_mend.specs.declared.change.Change.{Change}
+use Rattle.wap_mend.specs.declared.signs.Lost.{Lost}
 use Rattle.wap_mend.specs.inside.Building.{Kept, Built, Filled}
 use Rattle.wap_mend.specs.inside.Names.{times, taken, once_if, names_with, own_name_of, Takes}
 use Rattle.wap_mend.specs.inside.Names.{name_among}
 use Rattle.wap_mend.specs.inside.Frames.{Load, nothing, both, load_filled, load_built, load_if}
 use Rattle.wap_mend.specs.inside.Frames.{given_items, given_node, text_load, Keeps, Carries}
-use Rattle.wap_mend.specs.inside.Frames.{Framed, Gains, Closes, Moves, Puts}
+use Rattle.wap_mend.specs.inside.Frames.{Framed, Gains, Closes, Moves, Puts, IsStill, IsNoted}
+use Rattle.wap_mend.specs.inside.Frames.{load_lost, tag_load}
 use Rattle.wap_mend.proofs.Accounting.{within_refl, within_then, within_both, within_nothing}
 use Rattle.wap_mend.proofs.Accounting.{number-append, tags-append, signs_in-append}
 use Rattle.wap_mend.proofs.Counting.{times-append, distinct_once}
 use Rattle.wap_mend.proofs.Framing.{node_levels}
-use Rattle.wap_mend.proofs.Loads.{both_nothing, keeps_still, keeps_lost, keeps_then}
+use Rattle.wap_mend.proofs.Loads.{both_nothing, keeps_still, keeps_lost, keeps_dropped, keeps_then}
+use Rattle.wap_mend.proofs.Loads.{still_then, noted_as, noted_built}
 
 -- ---- steps
 
@@ -45,7 +48,7 @@ pub keeps_made : (before one two after : List Change) (old ready new made given 
     → Keeps before one old ready nothing → Keeps one two nothing made given
     → Keeps two after ready new made → Keeps before after old new given
 keeps_made before one two after old ready new made given readies makes adds = record {
-  tags = λ tag. grind (arith, readies.tags tag, makes.tags tag, adds.tags tag);
+  tags = λ test. grind (arith, readies.tags test, makes.tags test, adds.tags test);
   order =
       within_then adds.order
       (within_both (subst (IsWithin ready.signs) (append-nil old.signs) readies.order)
@@ -58,7 +61,7 @@ pub keeps_gone : (before one after : List Change) (old ready given : Load)
     → Keeps before one old ready nothing → Keeps one after nothing nothing given
     → Keeps before after old ready given
 keeps_gone before one after old ready given readies makes = record {
-  tags = λ tag. grind (arith, readies.tags tag, makes.tags tag);
+  tags = λ test. grind (arith, readies.tags test, makes.tags test);
   order =
       within_then readies.order
       (within_both (within_refl old.signs) (within_nothing given.signs));
@@ -66,12 +69,12 @@ keeps_gone before one after old ready given readies makes = record {
 }
 
 -- nothing was noted as lost before
-pub keeps_from : (before between after : List Change) (new given : Load) → lost between ≡ lost before
+pub keeps_from : (before between after : List Change) (new given : Load) → IsStill before between
     → Keeps between after nothing new given → Keeps before after nothing new given
 keeps_from before between after new given still keeps = record {
-  tags = keeps.tags;
+  tags = λ test. grind (arith, keeps.tags test, ap (number test) still.gone);
   order = keeps.order;
-  signs = λ test. grind (arith, keeps.signs test, ap (number test) still);
+  signs = λ test. grind (arith, keeps.signs test, ap (number test) still.lost);
 }
 
 -- ---- names
@@ -112,7 +115,7 @@ taken_apart after names takes =
 
 -- nothing is put, and nothing noted as lost
 pub puts_nothing : (names : List (List ℕ)) (before after : List Change) (frame : Framed)
-    → lost after ≡ lost before → Puts names names before after frame frame nothing
+    → IsStill before after → Puts names names before after frame frame nothing
 puts_nothing names before after frame still = record {
   rule = refl;
   room = refl;
@@ -124,14 +127,13 @@ puts_nothing names before after frame still = record {
 
 -- what is given is noted as lost
 pub puts_lost : (names : List (List ℕ)) (before after : List Change) (frame : Framed)
-    (given : Load) (texts : List Part) → signs_of texts ≡ given.signs
-    → lost after ≡ lost before ++ signs_of texts → Puts names names before after frame frame given
-puts_lost names before after frame given texts all noted = record {
+    (given : Load) → IsNoted before after given → Puts names names before after frame frame given
+puts_lost names before after frame given noted = record {
   rule = refl;
   room = refl;
   load = record {
     names = λ text. grind (arith);
-    keeps = keeps_lost before after frame.load given texts all noted;
+    keeps = keeps_lost before after frame.load given noted;
   };
 }
 
@@ -155,7 +157,7 @@ puts_then names_before names_between names_after before between after old mid ne
 
 -- nothing was noted as lost before
 puts_from : (names_before names_after : List (List ℕ)) (before between after : List Change)
-    (old new : Framed) (given : Load) → lost between ≡ lost before
+    (old new : Framed) (given : Load) → IsStill before between
     → Puts names_before names_after between after old new given
     → Puts names_before names_after before after old new given
 puts_from names_before names_after before between after old new given still puts = record {
@@ -164,10 +166,11 @@ puts_from names_before names_after before between after old new given still puts
   load = record {
     names = puts.load.names;
     keeps = record {
-      tags = puts.load.keeps.tags;
+      tags = λ test.
+          grind (arith, puts.load.keeps.tags test, ap (number test) still.gone);
       order = puts.load.keeps.order;
       signs = λ test.
-          grind (arith, puts.load.keeps.signs test, ap (number test) still);
+          grind (arith, puts.load.keeps.signs test, ap (number test) still.lost);
     };
   };
 }
@@ -185,98 +188,68 @@ puts_gains names before after old new given none gains = record {
   };
 }
 
--- a node more is no fewer tags
-pub own_more : (tag : Tag) (node : Node) (nodes : List Node)
-    → number (is_same_tag tag) (tags_of_nodes nodes)
-    ≤ number (is_same_tag tag) (tags_of_nodes (node ∷ nodes))
-own_more tag node nodes =
-    subst (λ n. number (is_same_tag tag) (tags_of_nodes nodes) ≤ n)
-    (sym (ap (number (is_same_tag tag)) (tags-append (node ∷ []) nodes)
-    ∙ number-append (is_same_tag tag) (tags_of_nodes (node ∷ [])) (tags_of_nodes nodes)))
-    (grind (arith))
-
--- it comes first
-own_number : (tag : Tag) (node : Node) (nodes : List Node)
-    → number (is_same_tag tag) (tags_of_nodes (node ∷ nodes))
-    ≡ number (is_same_tag tag) (tags_of_nodes (node ∷ []))
-    + number (is_same_tag tag) (tags_of_nodes nodes)
-own_number tag node nodes =
-    ap (number (is_same_tag tag)) (tags-append (node ∷ []) nodes)
-    ∙ number-append (is_same_tag tag) (tags_of_nodes (node ∷ [])) (tags_of_nodes nodes)
-
--- the element is opened: what is in it is put
-pub puts_opened : (names_before names_after : List (List ℕ)) (before after : List Change)
-    (old new : Framed) (levels : ℕ) (node : Node) → 0 < levels
-    → Puts names_before names_after before after old new (given_items (levels - 1) node.kids)
-    → Puts names_before names_after before after old new (given_node levels node)
-puts_opened names_before names_after before after old new zero node deep puts =
-    absurd (grind (arith, deep))
-puts_opened names_before names_after before after old new (suc levels) node deep puts =
+-- an element has its own tag, and what is in it
+pub given_own : (levels : ℕ) (node : Node) → 0 < levels
+    → both (tag_load node.tag) (given_items (levels - 1) node.kids) ≡ given_node levels node
+given_own zero node deep = absurd (grind (arith, deep))
+given_own (suc levels) node deep =
     let same : suc levels - 1 ≡ levels = grind (arith) in
-    let here =
-    subst (λ l. Puts names_before names_after before after old new (given_items l node.kids))
-    same puts in
-    record {
-      rule = here.rule;
-      room = here.room;
-      load = record {
-        names = here.load.names;
-        keeps = record {
-          tags = λ tag.
-              let more = own_more tag node (nodes_in (suc levels) node.kids) in
-              grind (arith, here.load.keeps.tags tag, more);
-          order = here.load.keeps.order;
-          signs = here.load.keeps.signs;
-        };
-      };
-    }
+    ap (λ l. both (tag_load node.tag) (given_items l node.kids)) same
+    ∙ ap (λ (some : List Tag). record {
+      names = [];
+      tags = some;
+      signs = signs_in levels node.kids;
+    }) (sym (tags-append (node ∷ []) (nodes_in (suc levels) node.kids)))
 
--- the same, where that was noted
-pub puts_opened_noted : (names_before names_after : List (List ℕ))
-    (before one after : List Change) (old new : Framed) (levels : ℕ) (kids : List Item)
-    (node : Node) → IsNode levels node → kids ≡ node.kids → lost one ≡ lost before
+-- the element is opened, which is noted: what is in it is put
+pub puts_opened : (names_before names_after : List (List ℕ)) (before one after : List Change)
+    (old new : Framed) (levels : ℕ) (kids : List Item) (node : Node) → IsNode levels node
+    → kids ≡ node.kids → IsNoted before one (tag_load node.tag)
     → Puts names_before names_after one after old new (given_items (levels - 1) kids)
     → Puts names_before names_after before after old new (given_node levels node)
-puts_opened_noted names_before names_after before one after old new levels kids node is same
-    still puts =
-    puts_opened names_before names_after before after old new levels node
-    (node_levels levels node is)
-    (puts_from names_before names_after before one after old new
-    (given_items (levels - 1) node.kids) still
-    (subst (λ some. Puts names_before names_after one after old new (given_items (levels - 1) some))
-    same puts))
+puts_opened names_before names_after before one after old new levels kids node is same noted
+    puts =
+    subst (Puts names_before names_after before after old new)
+    (ap (λ some. both (tag_load node.tag) (given_items (levels - 1) some)) same
+    ∙ given_own levels node (node_levels levels node is))
+    (puts_then names_before names_before names_after before one after old old new
+    (tag_load node.tag) (given_items (levels - 1) kids)
+    (puts_lost names_before before one old (tag_load node.tag) noted) puts)
+
+-- a paragraph by itself is nothing that is lost
+paragraph_noted : (changes : List Change) (tag : Tag) → is_paragraph tag ≡ true
+    → IsNoted changes changes (tag_load tag)
+paragraph_noted changes tag is = record {
+  lost = sym (append-nil (lost changes));
+  gone =
+      sym (ap (λ b. gone changes ++ cond (not b) (tag ∷ []) []) is ∙ append-nil (gone changes));
+}
 
 -- a paragraph is put: what is before it ends, what is in it is put, and it ends
 pub puts_paragraph : (names_before names_after : List (List ℕ))
     (before one two three after : List Change) (old entered full new : Framed) (levels : ℕ)
-    (kids : List Item) (node : Node) → IsNode levels node → kids ≡ node.kids
-    → lost one ≡ lost before → Gains one two old entered nothing
+    (kids : List Item) (node : Node) → IsNode levels node → is_paragraph node.tag ≡ true
+    → kids ≡ node.kids → IsStill before one → Gains one two old entered nothing
     → Puts names_before names_after two three entered full (given_items (levels - 1) kids)
     → Gains three after full new nothing
     → Puts names_before names_after before after old new (given_node levels node)
 puts_paragraph names_before names_after before one two three after old entered full new levels
-    kids node is same still enters inner leaves =
-    let puts =
-    subst (λ some. Puts names_before names_after two three entered full
-    (given_items (levels - 1) some)) same inner in
+    kids node is paragraph same still enters inner leaves =
+    let given = given_items (levels - 1) kids in
     let first : Puts names_before names_before before one old old nothing =
     puts_nothing names_before before one old still in
     let second : Puts names_before names_before before two old entered nothing =
     puts_then names_before names_before names_before before one two old old entered nothing
     nothing first (puts_gains names_before one two old entered nothing refl enters) in
-    let all : Puts names_before names_after before three old full
-    (given_items (levels - 1) node.kids) =
+    let all : Puts names_before names_after before three old full given =
     puts_then names_before names_before names_after before two three old entered full nothing
-    (given_items (levels - 1) node.kids) second puts in
-    let end : Puts names_before names_after before after old new
-    (both (given_items (levels - 1) node.kids) nothing) =
-    puts_then names_before names_after names_after before three after old full new
-    (given_items (levels - 1) node.kids) nothing all
-    (puts_gains names_after three after full new nothing refl leaves) in
-    puts_opened names_before names_after before after old new levels node
-    (node_levels levels node is)
-    (subst (Puts names_before names_after before after old new)
-    (both_nothing (given_items (levels - 1) node.kids)) end)
+    given second inner in
+    let end : Puts names_before names_after before after old new (both given nothing) =
+    puts_then names_before names_after names_after before three after old full new given nothing
+    all (puts_gains names_after three after full new nothing refl leaves) in
+    puts_opened names_before names_after before before after old new levels kids node is same
+    (paragraph_noted before node.tag paragraph)
+    (subst (Puts names_before names_after before after old new) (both_nothing given) end)
 
 -- an element that was made is put, or none
 pub puts_element : (names_before names_after : List (List ℕ)) (before one two after : List Change)
@@ -315,7 +288,7 @@ puts_none names_before names_after before one after old ready given readies move
 -- it is made with a name
 pub moves_named : (names_before between names_after : List (List ℕ))
     (before one two after : List Change) (kept : Kept) (element : Built) (given : Load)
-    → lost one ≡ lost before → lost two ≡ lost one
+    → IsStill before one → IsStill one two
     → Takes names_before between [] (option_to_list (own_name_of kept))
     → element.node.tag ≡ kept.tag → element.node.attrs ≡ kept.rows
     → Takes between names_after [] (names_among true element.levels element.node.kids)
@@ -328,24 +301,24 @@ moves_named names_before between names_after before one two after kept element g
           (names_among true element.levels element.node.kids)
           (subst (λ name. Takes names_before between [] (option_to_list name))
           (sym (own_same kept element.node tag rows)) own) inner;
-      keeps = keeps_from before two after (load_built element) given (second ∙ first) keeps;
+      keeps = keeps_from before two after (load_built element) given (still_then before one two first second) keeps;
     }
 
 pub moves_none : (names_before between names_after some : List (List ℕ))
-    (before one two after : List Change) (given : Load) → lost one ≡ lost before
-    → lost two ≡ lost one → Takes names_before between [] some → Takes between names_after [] []
+    (before one two after : List Change) (given : Load) → IsStill before one
+    → IsStill one two → Takes names_before between [] some → Takes between names_after [] []
     → Keeps two after nothing nothing given
     → Moves names_before names_after before after nothing nothing given
 moves_none names_before between names_after some before one two after given first second own
     inner keeps = record {
       names = takes_none names_before between names_after some own inner;
-      keeps = keeps_from before two after nothing given (second ∙ first) keeps;
+      keeps = keeps_from before two after nothing given (still_then before one two first second) keeps;
     }
 
 -- either
 pub made_named : {E : Type 0} (names_before between names_after : List (List ℕ))
     (before one two after : List Change) (kept : Kept) (room : ℕ) (given : Load)
-    (result : Result (Option Built) E) → lost one ≡ lost before → lost two ≡ lost one
+    (result : Result (Option Built) E) → IsStill before one → IsStill one two
     → Takes names_before between [] (option_to_list (own_name_of kept))
     → IfOk result (λ made. IfSome made (λ element. (element.levels ≡ room)
     × (element.node.tag ≡ kept.tag) × (element.node.attrs ≡ kept.rows)))
@@ -366,22 +339,22 @@ made_named names_before between names_after before one two after kept room given
 
 -- or goes for want of a name
 pub moves_lost : (names_before names_after : List (List ℕ)) (before one two after : List Change)
-    (given : Load) (texts : List Part) → lost one ≡ lost before → lost two ≡ lost one
-    → Takes names_before names_after [] [] → signs_of texts ≡ given.signs
-    → lost after ≡ lost two ++ signs_of texts
+    (given : Load) (what : Lost) → IsStill before one → IsStill one two
+    → Takes names_before names_after [] [] → load_lost what ≡ given
+    → IsNoted two after (load_lost what)
     → Moves names_before names_after before after nothing nothing given
-moves_lost names_before names_after before one two after given texts first second takes all
+moves_lost names_before names_after before one two after given what first second takes all
     noted = record {
       names = takes;
-      keeps = keeps_from before two after nothing given (second ∙ first)
-          (keeps_lost two after nothing given texts all noted);
+      keeps = keeps_from before two after nothing given (still_then before one two first second)
+          (keeps_lost two after nothing given (noted_as two after (load_lost what) given all noted));
     }
 
 -- what is put into an element of which nothing is there is what it has when it is closed
 closed_takes : (names_before names_after : List (List ℕ)) (before between after : List Change)
     (rule : Rule) (room : ℕ) (whole : Framed) (content : Filled) (given : Load)
     → Puts names_before names_after before between
-    (record { rule = rule; room = room; load = nothing; running = [] }) whole given
+    (record { rule = rule; room = room; load = nothing; running = nothing }) whole given
     → Closes between after whole content
     → Takes names_before names_after [] (load_filled content).names
 closed_takes names_before names_after before between after rule room whole content given puts
@@ -391,16 +364,16 @@ closed_takes names_before names_after before between after rule room whole conte
 -- it begins with nothing
 pub put_kids : (names_before names_after : List (List ℕ)) (before after : List Change)
     (rule : Rule) (room levels : ℕ) (start whole : Framed) (kids : List Item) (node : Node)
-    → start ≡ record { rule = rule; room = room; load = nothing; running = [] }
+    → start ≡ record { rule = rule; room = room; load = nothing; running = nothing }
     → kids ≡ node.kids
     → Puts names_before names_after before after start whole (given_items levels kids)
     → Puts names_before names_after before after
-    (record { rule = rule; room = room; load = nothing; running = [] }) whole
+    (record { rule = rule; room = room; load = nothing; running = nothing }) whole
     (given_items levels node.kids)
 put_kids names_before names_after before after rule room levels start whole kids node new same
     puts =
     subst (λ some. Puts names_before names_after before after
-    (record { rule = rule; room = room; load = nothing; running = [] }) whole
+    (record { rule = rule; room = room; load = nothing; running = nothing }) whole
     (given_items levels some)) same
     (subst (λ f. Puts names_before names_after before after f whole (given_items levels kids)) new
     puts)
@@ -409,13 +382,21 @@ put_kids names_before names_after before after rule room levels start whole kids
 closed_keeps : (names_before names_after : List (List ℕ)) (before between after : List Change)
     (rule : Rule) (room : ℕ) (whole : Framed) (content : Filled) (given : Load)
     → Puts names_before names_after before between
-    (record { rule = rule; room = room; load = nothing; running = [] }) whole given
+    (record { rule = rule; room = room; load = nothing; running = nothing }) whole given
     → Closes between after whole content → Keeps before after nothing (load_filled content) given
 closed_keeps names_before names_after before between after rule room whole content given puts
     closes =
     subst (Keeps before after nothing (load_filled content)) (both_nothing given)
     (keeps_then before between after nothing whole.load (load_filled content) given nothing
     puts.load.keeps closes.load.keeps)
+
+-- its own tag comes first
+own_number : (test : Tag → Bool) (node : Node) (nodes : List Node)
+    → number test (tags_of_nodes (node ∷ nodes))
+    ≡ number test (tags_of_nodes (node ∷ [])) + number test (tags_of_nodes nodes)
+own_number test node nodes =
+    ap (number test) (tags-append (node ∷ []) nodes)
+    ∙ number-append test (tags_of_nodes (node ∷ [])) (tags_of_nodes nodes)
 
 -- with its own tag
 keeps_own : (before after : List Change) (content : Filled) (element : Built) (levels : ℕ)
@@ -433,15 +414,14 @@ keeps_own before after content element (suc levels) node deep at kids own keeps 
     let signs : node_signs element.levels element.node ≡ signs_in content.room content.items =
     ap (λ l. node_signs l element.node) at ∙ ap (signs_in content.room) kids in
     record {
-      tags = λ tag.
+      tags = λ test.
           grind (
             arith,
-            here.tags tag,
-            own_number tag element.node (nodes_in element.levels element.node.kids),
-            own_number tag node (nodes_in (suc levels) node.kids),
-            ap (λ (t : Tag). number (is_same_tag tag) (filter (λ other. not (is_paragraph other))
-                (t ∷ []))) own,
-            ap (λ nodes. number (is_same_tag tag) (tags_of_nodes nodes))
+            here.tags test,
+            own_number test element.node (nodes_in element.levels element.node.kids),
+            own_number test node (nodes_in (suc levels) node.kids),
+            ap (λ (tag : Tag). number test (but_paragraphs (tag ∷ []))) own,
+            ap (λ nodes. number test (tags_of_nodes nodes))
                 (ap (λ l. nodes_in l element.node.kids) at ∙ ap (nodes_in (suc content.room)) kids),
           );
       order = subst (λ some. IsWithin some (signs_in levels node.kids)) (sym signs) here.order;
@@ -453,7 +433,7 @@ pub made_keeps : (names_before names_after : List (List ℕ)) (before between af
     (rule : Rule) (room : ℕ) (whole : Framed) (content : Filled) (attributes : Kept)
     (element : Built) (levels : ℕ) (node : Node) → 0 < levels
     → Puts names_before names_after before between
-    (record { rule = rule; room = room; load = nothing; running = [] }) whole
+    (record { rule = rule; room = room; load = nothing; running = nothing }) whole
     (given_items (levels - 1) node.kids)
     → Closes between after whole content → attributes.tag ≡ node.tag → element ≡ record {
       levels = suc content.room;
@@ -470,7 +450,7 @@ made_keeps names_before names_after before between after rule room whole content
 pub made_takes : (names_before names_after : List (List ℕ)) (before between after : List Change)
     (rule : Rule) (room : ℕ) (whole : Framed) (content : Filled) (attributes : Kept)
     (element : Built) (given : Load) → Puts names_before names_after before between
-    (record { rule = rule; room = room; load = nothing; running = [] }) whole given
+    (record { rule = rule; room = room; load = nothing; running = nothing }) whole given
     → Closes between after whole content → element ≡ record {
       levels = suc content.room;
       node = record { tag = attributes.tag; attrs = attributes.rows; kids = content.items };
@@ -487,7 +467,7 @@ made_takes names_before names_after before between after rule room whole content
 pub made_apart : (names_before names_after : List (List ℕ)) (before between after : List Change)
     (rule : Rule) (room : ℕ) (whole : Framed) (content : Filled) (given : Load)
     → names_before ≡ [] → Puts names_before names_after before between
-    (record { rule = rule; room = room; load = nothing; running = [] }) whole given
+    (record { rule = rule; room = room; load = nothing; running = nothing }) whole given
     → Closes between after whole content
     → AreDistinct (names_among true (suc content.room) content.items)
 made_apart names_before names_after before between after rule room whole content given none puts
@@ -501,42 +481,31 @@ made_apart names_before names_after before between after rule room whole content
 -- or what was put goes for want of what the element can't do without
 pub unmade_keeps : (names_before names_after : List (List ℕ))
     (before between closed after : List Change) (rule : Rule) (room : ℕ) (whole : Framed)
-    (content : Filled) (attributes : Kept) (unmade : Node) (texts : List Part)
+    (content : Filled) (attributes : Kept) (unmade : Node) (what : Lost)
     (above levels : ℕ) (node : Node) → 0 < levels → above ≡ suc content.room
     → Puts names_before names_after before between
-    (record { rule = rule; room = room; load = nothing; running = [] }) whole
+    (record { rule = rule; room = room; load = nothing; running = nothing }) whole
     (given_items (levels - 1) node.kids)
     → Closes between closed whole content → attributes.tag ≡ node.tag
     → unmade ≡ record { tag = attributes.tag; attrs = attributes.rows; kids = content.items }
-    → signs_of texts ≡ node_signs above unmade
-    → lost after ≡ lost closed ++ signs_of texts
+    → load_lost what ≡ given_node above unmade → IsNoted closed after (load_lost what)
     → Keeps before after nothing nothing (given_node levels node)
 unmade_keeps names_before names_after before between closed after rule room whole content
-    attributes unmade texts above levels node deep at puts closes tag made all noted =
-    let kept =
-    made_keeps names_before names_after before between closed rule room whole content attributes
-    (record {
+    attributes unmade what above levels node deep at puts closes tag made all noted =
+    let one : Built = record {
       levels = suc content.room;
       node = record { tag = attributes.tag; attrs = attributes.rows; kids = content.items };
-    }) levels node deep puts closes tag refl in
-    record {
-      tags = λ tag. grind (arith);
-      order = within_nothing (node_signs levels node);
-      signs = λ test.
-          grind (
-            arith,
-            kept.signs test,
-            ap (number test) noted
-                ∙ number-append test (lost closed) (signs_of texts),
-            ap (number test) (all ∙ ap (λ l. node_signs l unmade) at
-                ∙ ap (node_signs (suc content.room)) made),
-          );
-    }
+    } in
+    keeps_dropped before closed after nothing (load_built one) (given_node levels node)
+    (made_keeps names_before names_after before between closed rule room whole content attributes
+    one levels node deep puts closes tag refl)
+    (noted_built closed after what one
+    (all ∙ ap (λ l. given_node l unmade) at ∙ ap (given_node (suc content.room)) made) noted)
 
 pub unmade_takes : (names_before names_after : List (List ℕ)) (before between after : List Change)
     (rule : Rule) (room : ℕ) (whole : Framed) (given : Load)
     → Puts names_before names_after before between
-    (record { rule = rule; room = room; load = nothing; running = [] }) whole given
+    (record { rule = rule; room = room; load = nothing; running = nothing }) whole given
     → Takes names_before names_after [] []
 unmade_takes names_before names_after before between after rule room whole given puts text =
     grind (arith, puts.load.names text)
@@ -615,7 +584,7 @@ module _ (items : List Item) (n : ℕ) (one : Item) (within : n < length items)
   pub puts_turn : (names_before names_between names_after : List (List ℕ))
       (before one_before two_before after : List Change) (old mid new : Framed) (levels : ℕ)
       → Puts names_before names_between before one_before old mid (given_items levels (take n items))
-      → lost two_before ≡ lost one_before
+      → IsStill one_before two_before
       → Puts names_between names_after two_before after mid new (given_items levels (one ∷ []))
       → Puts names_before names_after before after old new (given_items levels (take (n + 1) items))
   puts_turn names_before names_between names_after before one_before two_before after old mid new

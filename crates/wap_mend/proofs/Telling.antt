@@ -7,7 +7,8 @@ use Rattle.wap_tokens.specs.markup.Decks.{deck_of}
 use Rattle.wap_tokens.specs.markup.Documents.{IsDocument}
 use Rattle.wap_wbxml.specs.spelling.Spelling.{spelling, canon}
 use Rattle.wap_deck.specs.reading.Meanings.{IsMeant}
-use Rattle.wap_mend.specs.Accounts.{signs, elements, lost, number, IsMadeOf}
+use Rattle.wap_mend.specs.Accounts.{signs, elements, lost, gone, number, IsMadeOf}
+use Rattle.wap_mend.specs.inside.Frames.{IsStill}
 use Rattle.wap_mend.specs.Pages.{IsTold}
 use Rattle.wap_mend.specs.declared.change.Change.{Change}
 use Rattle.wap_mend.specs.declared.pages.MendedPage.{MendedPage}
@@ -18,7 +19,7 @@ made_of_itself : (deck : Deck) → IsMadeOf deck [] deck
 made_of_itself deck = record {
   order = within_refl (signs deck);
   all = λ test. grind (arith);
-  elements = λ tag. grind (arith);
+  elements = λ test. grind (arith);
 }
 
 -- what is written for a document means its deck
@@ -46,14 +47,15 @@ told_mended given made own changes meant made_of =
 
 -- with changes by which nothing more is lost
 pub told_with : (page : MendedPage) (changes : List Change) → IsTold page
-    → lost changes ≡ lost page.changes
+    → IsStill page.changes changes
     → IsTold (record { given = page.given; bytes = page.bytes; changes = changes })
 told_with page changes told same = record {
   made = told.made;
   meant = told.meant;
   made_of = record {
     order = told.made_of.order;
-    all = λ test. grind (arith, told.made_of.all test, ap (number test) same);
-    elements = told.made_of.elements;
+    all = λ test. grind (arith, told.made_of.all test, ap (number test) same.lost);
+    elements = λ test.
+        grind (arith, told.made_of.elements test, ap (number test) same.gone);
   };
 }

@@ -1,6 +1,6 @@
 -- What stays of the texts and elements of a deck that is mended, and what changes say is lost. This
 -- project's own.
-use Rattle.std.specs.Prelude.{◌≡◌, ℕ, zero, suc, ◌+◌, ◌≤◌, Bool, true, false, not, ◌||◌, map}
+use Rattle.std.specs.Prelude.{◌≡◌, ℕ, zero, suc, ◌+◌, Bool, true, false, not, ◌||◌, map}
 use Rattle.std.specs.Prelude.{filter, length, List, [], ◌∷◌, ◌++◌}
 use Rattle.std.specs.List.{flat_map}
 use Rattle.wap_base.specs.declared.name.Part.{Part}
@@ -68,9 +68,17 @@ number test xs = length (filter test xs)
 abbrev pub is_paragraph : Tag → Bool
 is_paragraph tag = is_same_tag tag tags.P || is_same_tag tag tags.Pre
 
+-- some tags, but for those of paragraphs
+abbrev pub but_paragraphs : List Tag → List Tag
+but_paragraphs all = filter (λ tag. not (is_paragraph tag)) all
+
 -- the tags of nodes, but for paragraphs
 abbrev pub tags_of_nodes : List Node → List Tag
-tags_of_nodes nodes = filter (λ tag. not (is_paragraph tag)) (map (λ node. node.tag) nodes)
+tags_of_nodes nodes = but_paragraphs (map (λ node. node.tag) nodes)
+
+-- the tags of the elements that changes say are gone, but for paragraphs
+abbrev pub gone : List Change → List Tag
+gone changes = flat_map (λ change. but_paragraphs change.gone) changes
 
 -- ---- decks
 
@@ -79,11 +87,11 @@ abbrev pub elements : Deck → List Tag
 elements deck = tags_of_nodes (nodes_in LEVEL_LIMIT deck.root.kids)
 
 -- a deck is made of another, and changes say what is lost: its signs are some of those that were
--- given, in their order; each sign that was given is in it, or is said to be lost; and its elements
--- but paragraphs are some of those that were given
+-- given, in their order; each sign that was given is in it, or is said to be lost; and each element
+-- but paragraphs that was given is in it, or is said to be gone
 pub record IsMadeOf (given : Deck) (changes : List Change) (made : Deck) : Type 0 where
   pub order : IsWithin (signs made) (signs given)
   pub all : (test : Part → Bool) →
       number test (signs given) ≡ number test (signs made) + number test (lost changes)
-  pub elements : (tag : Tag) →
-      number (is_same_tag tag) (elements made) ≤ number (is_same_tag tag) (elements given)
+  pub elements : (test : Tag → Bool) →
+      number test (elements given) ≡ number test (elements made) + number test (gone changes)

@@ -2,8 +2,8 @@
 ghost use Rattle.std.specs.Prelude.{◌≡◌, [], IfOk, OnOk, IfSome, MatchOption};
 ghost use Rattle.std.specs.Option.{option_to_list, option_copied, option_and_then};
 ghost use Rattle.wap_tokens.specs.markup.Trees.{plain_text};
-ghost use Rattle.wap_mend.specs.Accounts.{lost};
 ghost use Rattle.wap_mend.specs.inside.Names.{Takes, name_among, own_name_of};
+ghost use Rattle.wap_mend.specs.inside.Frames.{IsStill};
 
 use crate::change::What;
 use crate::kept::Attributes;
@@ -65,7 +65,7 @@ fn do_with_other(
     name: &Text,
 ) -> Result<Option<Attributes>, NoMemory>
     ensures tag { IfOk result (λ named. IfSome named (λ kept. kept.tag ≡ attributes.now.tag)) }
-    ensures still { OnOk result (lost notes.new.changes ≡ lost notes.old.changes) }
+    ensures still { OnOk result (IsStill notes.old.changes notes.new.changes) }
     ensures taken { IfOk result (λ named. MatchOption named (Takes names.old names.new [] [])
         (λ kept. Takes names.old names.new [] (option_to_list (name_among kept.rows)))) }
 {
@@ -84,7 +84,7 @@ fn do_attributes(
     attributes: Attributes,
 ) -> Result<Option<Attributes>, NoMemory>
     ensures tag { IfOk result (λ named. IfSome named (λ kept. kept.tag ≡ attributes.tag)) }
-    ensures still { OnOk result (lost notes.new.changes ≡ lost notes.old.changes) }
+    ensures still { OnOk result (IsStill notes.old.changes notes.new.changes) }
     ensures taken { IfOk result (λ named. MatchOption named (Takes names.old names.new [] [])
         (λ kept. Takes names.old names.new [] (option_to_list (name_among kept.rows)))) }
 {
@@ -107,7 +107,7 @@ pub(crate) fn told_apart(
     attributes: Attributes,
 ) -> Result<Option<Attributes>, NoMemory>
     ensures tag { IfOk result (λ named. IfSome named (λ kept. kept.tag ≡ attributes.tag)) }
-    ensures still { OnOk result (lost notes.new.changes ≡ lost notes.old.changes) }
+    ensures still { OnOk result (IsStill notes.old.changes notes.new.changes) }
     ensures taken { IfOk result (λ named. MatchOption named (Takes names.old names.new [] [])
         (λ kept. Takes names.old names.new [] (option_to_list (own_name_of kept)))) }
 {

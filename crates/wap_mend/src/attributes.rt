@@ -2,8 +2,8 @@
 ghost use Rattle.std.specs.Prelude.{◌≡◌, IfOk, IfSome, OnOk};
 ghost use Rattle.std.specs.List.{AllByRecursion};
 ghost use Rattle.wap_tokens.specs.markup.Normal.{IsAttribute, IsValue};
-ghost use Rattle.wap_mend.specs.Accounts.{lost};
 ghost use Rattle.wap_mend.specs.inside.Building.{Suits};
+ghost use Rattle.wap_mend.specs.inside.Frames.{IsStill};
 
 use crate::change::What;
 use crate::kept::Attributes;
@@ -59,7 +59,7 @@ fn add_attribute(
 ) -> Result<(), NoMemory>
     requires { IsAttribute attribute.now }
     ensures tag { OnOk result (attributes.new.tag ≡ attributes.old.tag) }
-    ensures still { OnOk result (lost notes.new.changes ≡ lost notes.old.changes) }
+    ensures still { OnOk result (IsStill notes.old.changes notes.new.changes) }
 {
     let tag = attributes.tag();
     let name = attribute.0;
@@ -80,6 +80,7 @@ fn add_attribute(
 }
 
 /// The attributes of an element that may stand, for one of this tag.
+#[tactic(auto, using(crate::proofs::Loads::still_refl, crate::proofs::Loads::still_then))]
 pub(crate) fn mended_attributes(
     alloc: Global,
     notes: &mut Notes,
@@ -88,7 +89,7 @@ pub(crate) fn mended_attributes(
 ) -> Result<Attributes, NoMemory>
     requires { AllByRecursion IsAttribute node.now.attrs }
     ensures tag { IfOk result (λ attributes. attributes.tag ≡ tag) }
-    ensures still { OnOk result (lost notes.new.changes ≡ lost notes.old.changes) }
+    ensures still { OnOk result (IsStill notes.old.changes notes.new.changes) }
 {
     let mut attributes = Attributes::new(alloc, tag);
     for attribute in node.attrs.as_slice() {

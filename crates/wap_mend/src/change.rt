@@ -10,6 +10,8 @@ pub struct Change {
     pub what: What,
     /// The texts that go with it, by their parts.
     pub lost: Rows<Part>,
+    /// The elements that go with it, by their tags.
+    pub gone: Rows<Tag>,
 }
 
 /// What is changed.

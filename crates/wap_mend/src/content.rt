@@ -11,11 +11,11 @@ ghost use Rattle.wap_tokens.specs.markup.Normal.{IsPart};
 ghost use Rattle.wap_deck.specs.documents.Adding.{part_after, marks_after};
 ghost use Rattle.wap_deckcheck.specs.Places.{names_among};
 ghost use Rattle.wap_base.specs.Texts.{AreDistinct};
-ghost use Rattle.wap_mend.specs.Accounts.{signs_of, node_signs};
 ghost use Rattle.wap_mend.specs.inside.Building.{Built, IsApart, IsBuilt, Filled, IsFilled};
+ghost use Rattle.wap_mend.specs.inside.Frames.{load_lost, given_node};
 
 use crate::kept::Attributes;
-use crate::signs::texts_of;
+use crate::signs::Lost;
 use crate::values::copied_part;
 use std::alloc::Global;
 use std::marker::Model;
@@ -93,12 +93,12 @@ impl Element {
         self.node.tag
     }
 
-    /// The texts in it, by their parts.
-    pub(crate) fn texts(&self, alloc: Global) -> Result<Rows<Part>, NoMemory>
-        ensures { IfOk result (λ texts.
-            signs_of texts ≡ node_signs self.now.levels self.now.node) }
+    /// What goes with it.
+    pub(crate) fn lost(&self, alloc: Global) -> Result<Lost, NoMemory>
+        ensures { IfOk result (λ lost.
+            load_lost lost ≡ given_node self.now.levels self.now.node) }
     {
-        texts_of(alloc, self.levels, &self.node)
+        Lost::of_node(alloc, self.levels, &self.node)
     }
 
     /// The element itself.

@@ -22,7 +22,7 @@ use crate::kept::Attributes;
 use crate::names::Names;
 use crate::needs::is_whole;
 use crate::notes::Notes;
-use crate::signs::texts_of;
+use crate::signs::Lost;
 use std::alloc::Global;
 use wap_base::NoMemory;
 use wap_tokens::markup::{Item, LEVEL_LIMIT, Node, Tag};
@@ -87,7 +87,7 @@ fn put_node(
     let place = frame.place_of(node.tag);
     match place {
         Place::Nowhere => {
-            notes.note(alloc, What::Opened(node.tag))?;
+            notes.note_opened(alloc, What::Opened(node.tag), node.tag)?;
             let kids = node.kids.as_slice();
             put_items(alloc, notes, names, levels - 1, kids, frame)
         }
@@ -141,19 +141,19 @@ fn put_element(
 {
     let kids = node.kids.as_slice();
     if !is_whole(alloc, levels, node)? {
-        notes.note(alloc, What::Lacking(node.tag))?;
+        notes.note_opened(alloc, What::Lacking(node.tag), node.tag)?;
         return put_items(alloc, notes, names, levels - 1, kids, frame);
     }
     if frame.is_second(place, node.tag) {
         return notes.note_lost(
             alloc,
             What::Second(node.tag),
-            texts_of(alloc, levels, node)?,
+            Lost::of_node(alloc, levels, node)?,
         );
     }
     let room = frame.room_at(place);
     if room == 0 {
-        notes.note(alloc, What::Opened(node.tag))?;
+        notes.note_opened(alloc, What::Opened(node.tag), node.tag)?;
         return put_items(alloc, notes, names, levels - 1, kids, frame);
     }
     frame.prepare(alloc, notes, place)?;
@@ -185,7 +185,8 @@ fn made_with_name(
     match told_apart(alloc, notes, names, attributes)? {
         Some(attributes) => made(alloc, notes, names, levels, node, attributes, room),
         None => {
-            notes.note_lost(alloc, What::Gone(node.tag), texts_of(alloc, levels, node)?)?;
+            let lost = Lost::of_node(alloc, levels, node)?;
+            notes.note_lost(alloc, What::Gone(node.tag), lost)?;
             Ok(None)
         }
     }
@@ -224,8 +225,8 @@ pub(crate) fn made(
     match Element::of(attributes, content) {
         Ok(element) => Ok(Some(element)),
         Err(node) => {
-            let texts = texts_of(alloc, room + 1, &node)?;
-            notes.note_lost(alloc, What::Gone(node.tag), texts)?;
+            let lost = Lost::of_node(alloc, room + 1, &node)?;
+            notes.note_lost(alloc, What::Gone(node.tag), lost)?;
             Ok(None)
         }
     }

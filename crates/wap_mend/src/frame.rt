@@ -30,8 +30,7 @@ pub(crate) enum Place {
 
 /// An element that is being put together. Where its groups come in their order, which is so in a
 /// card, they are its events, its timer, and the rest; else all is in the first. A contract sees
-/// its rule, the levels of the elements in it, what is in it, and the signs in the paragraph that
-/// is open.
+/// its rule, the levels of the elements in it, what is in it, and in the paragraph that is open.
 #[derive(Drop)]
 pub(crate) struct Frame {
     /// The last group of which there is an element.
@@ -79,7 +78,7 @@ impl Frame {
     pub(crate) fn new(alloc: Global, tag: Tag, room: u32) -> Frame
         requires { room < LEVEL_LIMIT }
         ensures { result
-            ≡ record { rule = rule_of tag; room = room; load = nothing; running = [] } }
+            ≡ record { rule = rule_of tag; room = room; load = nothing; running = nothing } }
     {
         Frame {
             reached: 0,

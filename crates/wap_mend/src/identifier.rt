@@ -1,7 +1,7 @@
 //! The identifiers of documents of WML's family that aren't read (rule 1).
 ghost use Rattle.std.specs.Prelude.{◌≡◌, ◌≢◌, [], ◌∷◌, IfOk};
 ghost use Rattle.wap_tokens.specs.declared.markup.codes.TheConstants.{WML_1_3};
-ghost use Rattle.wap_mend.specs.Accounts.{lost};
+ghost use Rattle.wap_mend.specs.inside.Frames.{IsStill};
 ghost use Rattle.wap_mend.specs.Identifiers.{known};
 
 use crate::change::{Change, What};
@@ -37,13 +37,14 @@ pub(crate) fn with_identifier(
     changes: Rows<Change>,
 ) -> Result<Rows<Change>, NoMemory>
     ensures some { IfOk result (λ all. all ≢ []) }
-    ensures lost { IfOk result (λ all. lost all ≡ lost changes) }
+    ensures still { IfOk result (λ all. IsStill changes all) }
 {
     let mut all = Vec::new(alloc);
     all.push(Change {
         path: Rows::new(alloc),
         what: What::Identifier,
         lost: Rows::new(alloc),
+        gone: Rows::new(alloc),
     })?;
     all.append(&mut changes.into_vec())?;
     Ok(Rows::from_vec(all))

@@ -1,10 +1,12 @@
 //! Where a walk is in the deck that was given, and what was changed so far.
-ghost use Rattle.std.specs.Prelude.{◌≡◌, ◌≢◌, [], ◌++◌, OnOk};
-ghost use Rattle.wap_mend.specs.Accounts.{lost, signs_of};
+ghost use Rattle.std.specs.Prelude.{◌≡◌, ◌≢◌, [], OnOk};
+ghost use Rattle.wap_mend.specs.inside.Frames.{load_lost, tag_load, IsNoted, IsStill};
 
 use crate::change::{Change, What};
+use crate::signs::Lost;
 use std::alloc::Global;
-use wap_base::{NoMemory, Part, Rows};
+use wap_base::{NoMemory, Rows};
+use wap_tokens::markup::Tag;
 
 /// What is kept on a walk over the deck that was given.
 #[derive(Drop)]
@@ -24,32 +26,52 @@ impl Notes {
         }
     }
 
-    /// Notes what is changed where the walk is, and the texts that go with it.
+    /// Notes what is changed where the walk is, and what goes with it.
+    #[tactic(auto, using(crate::proofs::Loads::noted_one))]
     pub(crate) fn note_lost(
         &mut self,
         alloc: Global,
         what: What,
-        texts: Rows<Part>,
+        lost: Lost,
     ) -> Result<(), NoMemory>
-        ensures lost { OnOk result (lost self.new.changes
-            ≡ lost self.old.changes ++ signs_of texts) }
+        ensures lost { OnOk result
+            (IsNoted self.old.changes self.new.changes (load_lost lost)) }
         ensures noted { OnOk result (self.new.changes ≢ []) }
         ensures path { self.new.path ≡ self.old.path }
     {
         let path = Rows::of(alloc, self.path.as_slice())?;
+        let Lost { texts, elements } = lost;
         self.changes.add(Change {
             path,
             what,
             lost: texts,
+            gone: elements,
         })
     }
 
-    /// Notes what is changed where the walk is, where no text goes.
-    pub(crate) fn note(&mut self, alloc: Global, what: What) -> Result<(), NoMemory>
-        ensures lost { OnOk result (lost self.new.changes ≡ lost self.old.changes) }
+    /// Notes an element of a tag that is opened where the walk is.
+    #[tactic(auto, using(crate::proofs::Loads::noted_as))]
+    pub(crate) fn note_opened(
+        &mut self,
+        alloc: Global,
+        what: What,
+        tag: Tag,
+    ) -> Result<(), NoMemory>
+        ensures lost { OnOk result
+            (IsNoted self.old.changes self.new.changes (tag_load tag)) }
         ensures noted { OnOk result (self.new.changes ≢ []) }
         ensures path { self.new.path ≡ self.old.path }
     {
-        self.note_lost(alloc, what, Rows::new(alloc))
+        self.note_lost(alloc, what, Lost::of_tag(alloc, tag)?)
+    }
+
+    /// Notes what is changed where the walk is, where nothing goes.
+    #[tactic(auto, using(crate::proofs::Loads::noted_nothing))]
+    pub(crate) fn note(&mut self, alloc: Global, what: What) -> Result<(), NoMemory>
+        ensures still { OnOk result (IsStill self.old.changes self.new.changes) }
+        ensures noted { OnOk result (self.new.changes ≢ []) }
+        ensures path { self.new.path ≡ self.old.path }
+    {
+        self.note_lost(alloc, what, Lost::new(alloc))
     }
 }

@@ -8,8 +8,8 @@ ghost use Rattle.wap_tokens.specs.markup.Trees.{if_tagged, node_with};
 ghost use Rattle.wap_tokens.specs.markup.Cards.{cards_of};
 ghost use Rattle.wap_tokens.specs.markup.Normal.{IsItem, IsNode, IsNormal};
 ghost use Rattle.wap_tokens.specs.markup.Good.{IsGood};
-ghost use Rattle.wap_mend.specs.Accounts.{lost, IsMadeOf};
-ghost use Rattle.wap_mend.specs.inside.Frames.{given_items, given_node, Keeps};
+ghost use Rattle.wap_mend.specs.Accounts.{IsMadeOf};
+ghost use Rattle.wap_mend.specs.inside.Frames.{given_items, given_node, IsStill, Keeps};
 ghost use Rattle.wap_mend.specs.inside.Tops.{AreTaken, Gathers, load_top};
 
 use crate::attributes::mended_attributes;
@@ -19,9 +19,8 @@ use crate::elements::made;
 use crate::names::Names;
 use crate::needs::is_whole;
 use crate::notes::Notes;
-use crate::signs::texts_of;
+use crate::signs::Lost;
 use crate::top::Top;
-use crate::values::copied;
 use std::alloc::Global;
 use wap_base::NoMemory;
 use wap_deckcheck::is_blank_text;
@@ -70,7 +69,7 @@ fn put_item(
     match item {
         Item::Text(parts) if is_blank_text(parts.as_slice()) => Ok(()),
         Item::Text(parts) => {
-            notes.note_lost(alloc, What::Text, copied(alloc, parts.as_slice())?)
+            notes.note_lost(alloc, What::Text, Lost::of_text(alloc, parts.as_slice())?)
         }
         Item::Node(node) => put_node(alloc, notes, levels, node, top),
     }
@@ -96,7 +95,7 @@ fn put_node(
     match node.tag {
         Tag::Head | Tag::Template | Tag::Card => put_element(alloc, notes, levels, node, top),
         _ => {
-            notes.note(alloc, What::Opened(node.tag))?;
+            notes.note_opened(alloc, What::Opened(node.tag), node.tag)?;
             put_items(alloc, notes, levels - 1, node.kids.as_slice(), top)
         }
     }
@@ -120,14 +119,14 @@ fn put_element(
         (load_top top.old) (load_top top.new) (given_node levels node.now)) }
 {
     if !is_whole(alloc, levels, node)? {
-        notes.note(alloc, What::Lacking(node.tag))?;
+        notes.note_opened(alloc, What::Lacking(node.tag), node.tag)?;
         return put_items(alloc, notes, levels - 1, node.kids.as_slice(), top);
     }
     if top.is_second(node.tag) {
         return notes.note_lost(
             alloc,
             What::Second(node.tag),
-            texts_of(alloc, levels, node)?,
+            Lost::of_node(alloc, levels, node)?,
         );
     }
     let attributes = mended_attributes(alloc, notes, node.tag, node)?;
@@ -142,7 +141,7 @@ fn put_element(
 
 /// Notes a root that isn't wml.
 fn note_root(alloc: Global, notes: &mut Notes, tag: Tag) -> Result<(), NoMemory>
-    ensures { OnOk result (lost notes.new.changes ≡ lost notes.old.changes) }
+    ensures { OnOk result (IsStill notes.old.changes notes.new.changes) }
 {
     if tag != Tag::Wml {
         return notes.note(alloc, What::Root(tag));

@@ -1,47 +1,59 @@
-//! The texts in content, by their parts.
-ghost use Rattle.std.specs.Prelude.{◌≡◌, ◌++◌, IfOk, OnOk};
-ghost use Rattle.wap_mend.specs.Accounts.{signs_of, signs_in, node_signs};
+//! What goes with a change: texts, by their parts, and elements, by their tags.
+ghost use Rattle.std.specs.Prelude.{◌≡◌, ◌++◌, ◌∷◌, [], IfOk, OnOk};
+ghost use Rattle.wap_mend.specs.Accounts.{signs_of};
+ghost use Rattle.wap_mend.specs.inside.Frames.{nothing, both, text_load, tag_load, load_lost};
+ghost use Rattle.wap_mend.specs.inside.Frames.{given_items, given_node};
 
-use crate::values::copied_part;
+use crate::values::{copied, copied_part};
 use std::alloc::Global;
 use wap_base::{NoMemory, Part, Rows};
-use wap_tokens::markup::{Item, Node};
+use wap_tokens::markup::{Item, Node, Tag};
 
-/// Adds the texts in items, of so many levels.
-#[cycle(texts)]
-fn add_texts(
-    alloc: Global,
-    levels: u32,
-    items: &[Item],
-    texts: &mut Rows<Part>,
-) -> Result<(), NoMemory>
+/// What goes.
+#[derive(Drop)]
+pub(crate) struct Lost {
+    pub(crate) texts: Rows<Part>,
+    pub(crate) elements: Rows<Tag>,
+}
+
+/// Adds items, of so many levels.
+#[cycle(lost)]
+#[tactic(auto, using(crate::proofs::Collecting::item_more))]
+fn add_items(alloc: Global, levels: u32, items: &[Item], lost: &mut Lost) -> Result<(), NoMemory>
     ensures { OnOk result
-        (signs_of texts.new ≡ signs_of texts.old ++ signs_in levels items.now) }
+        (load_lost lost.new ≡ both (load_lost lost.old) (given_items levels items.now)) }
 {
     for item in items {
-        match item {
-            Item::Text(parts) => add_parts(alloc, parts.as_slice(), texts)?,
-            Item::Node(node) => add_texts_in(alloc, levels, node, texts)?,
-        }
+        add_item(alloc, levels, item, lost)?;
     }
     Ok(())
 }
 
-/// Adds the texts in a node, of so many levels.
-#[cycle(texts)]
-fn add_texts_in(
-    alloc: Global,
-    levels: u32,
-    node: &Node,
-    texts: &mut Rows<Part>,
-) -> Result<(), NoMemory>
+/// Adds an item, of so many levels.
+#[cycle(lost)]
+#[tactic(auto, using(crate::proofs::Collecting::text_more, crate::proofs::Collecting::one_more))]
+fn add_item(alloc: Global, levels: u32, item: &Item, lost: &mut Lost) -> Result<(), NoMemory>
     ensures { OnOk result
-        (signs_of texts.new ≡ signs_of texts.old ++ node_signs levels node.now) }
+        (load_lost lost.new ≡ both (load_lost lost.old) (given_items levels (item.now ∷ []))) }
 {
+    match item {
+        Item::Text(parts) => add_parts(alloc, parts.as_slice(), &mut lost.texts),
+        Item::Node(node) => add_node(alloc, levels, node, lost),
+    }
+}
+
+/// Adds a node, of so many levels.
+#[cycle(lost)]
+#[tactic(auto, using(crate::proofs::Collecting::node_alone, crate::proofs::Collecting::node_more))]
+fn add_node(alloc: Global, levels: u32, node: &Node, lost: &mut Lost) -> Result<(), NoMemory>
+    ensures { OnOk result
+        (load_lost lost.new ≡ both (load_lost lost.old) (given_node levels node.now)) }
+{
+    lost.elements.add(node.tag)?;
     if levels == 0 {
         return Ok(());
     }
-    add_texts(alloc, levels - 1, node.kids.as_slice(), texts)
+    add_items(alloc, levels - 1, node.kids.as_slice(), lost)
 }
 
 /// Adds parts, as copies.
@@ -54,20 +66,42 @@ fn add_parts(alloc: Global, parts: &[Part], texts: &mut Rows<Part>) -> Result<()
     Ok(())
 }
 
-/// The texts in items of so many levels.
-pub(crate) fn texts_in(alloc: Global, levels: u32, items: &[Item]) -> Result<Rows<Part>, NoMemory>
-    ensures { IfOk result (λ texts. signs_of texts ≡ signs_in levels items.now) }
-{
-    let mut texts = Rows::new(alloc);
-    add_texts(alloc, levels, items, &mut texts)?;
-    Ok(texts)
-}
+impl Lost {
+    /// Nothing.
+    pub(crate) fn new(alloc: Global) -> Lost
+        ensures { load_lost result ≡ nothing }
+    {
+        Lost {
+            texts: Rows::new(alloc),
+            elements: Rows::new(alloc),
+        }
+    }
 
-/// The texts in a node of so many levels.
-pub(crate) fn texts_of(alloc: Global, levels: u32, node: &Node) -> Result<Rows<Part>, NoMemory>
-    ensures { IfOk result (λ texts. signs_of texts ≡ node_signs levels node.now) }
-{
-    let mut texts = Rows::new(alloc);
-    add_texts_in(alloc, levels, node, &mut texts)?;
-    Ok(texts)
+    /// A text.
+    pub(crate) fn of_text(alloc: Global, parts: &[Part]) -> Result<Lost, NoMemory>
+        ensures { IfOk result (λ lost. load_lost lost ≡ text_load parts.now) }
+    {
+        Ok(Lost {
+            texts: copied(alloc, parts)?,
+            elements: Rows::new(alloc),
+        })
+    }
+
+    /// An element by itself, without what is in it.
+    pub(crate) fn of_tag(alloc: Global, tag: Tag) -> Result<Lost, NoMemory>
+        ensures { IfOk result (λ lost. load_lost lost ≡ tag_load tag) }
+    {
+        let mut lost = Lost::new(alloc);
+        lost.elements.add(tag)?;
+        Ok(lost)
+    }
+
+    /// A node of so many levels, with all that is in it.
+    pub(crate) fn of_node(alloc: Global, levels: u32, node: &Node) -> Result<Lost, NoMemory>
+        ensures { IfOk result (λ lost. load_lost lost ≡ given_node levels node.now) }
+    {
+        let mut lost = Lost::new(alloc);
+        add_node(alloc, levels, node, &mut lost)?;
+        Ok(lost)
+    }
 }

@@ -9,8 +9,7 @@ ghost use Rattle.wap_tokens.specs.markup.Good.{rule_of, may_follow, tags_of};
 ghost use Rattle.wap_deckcheck.specs.Places.{own_id};
 ghost use Rattle.wap_mend.specs.inside.Tops.{IsUnder, items_with, items_in, own_id_of, AreTaken};
 ghost use Rattle.wap_mend.specs.inside.Tops.{IsTop, Gathers, load_top};
-ghost use Rattle.wap_mend.specs.inside.Frames.{load_built, Keeps};
-ghost use Rattle.wap_mend.specs.Accounts.{lost};
+ghost use Rattle.wap_mend.specs.inside.Frames.{load_built, IsStill, Keeps};
 
 use crate::apart::text_of;
 use crate::change::What;
@@ -153,7 +152,7 @@ impl Top {
         ensures tag { IfOk result (λ told. told.tag ≡ attributes.tag) }
         ensures cards { OnOk result (self.new.cards ≡ self.old.cards) }
         ensures same { OnOk result (load_top self.new ≡ load_top self.old) }
-        ensures still { OnOk result (lost notes.new.changes ≡ lost notes.old.changes) }
+        ensures still { OnOk result (IsStill notes.old.changes notes.new.changes) }
         ensures taken { IfOk result (λ told. AreTaken self.new (own_id_of told)) }
     {
         let Some(id) = id_of_card(alloc, &attributes)? else {
@@ -168,7 +167,7 @@ impl Top {
 
     /// Notes an element of a tag that comes behind one before which it has to stand (rule 7).
     fn note_late(&self, alloc: Global, notes: &mut Notes, tag: Tag) -> Result<(), NoMemory>
-        ensures { OnOk result (lost notes.new.changes ≡ lost notes.old.changes) }
+        ensures { OnOk result (IsStill notes.old.changes notes.new.changes) }
     {
         if self.is_late(tag) {
             return notes.note(alloc, What::Moved(tag));
@@ -198,8 +197,8 @@ impl Top {
             Tag::Template if self.template.is_none() => self.template = Some(element),
             Tag::Card => self.cards.add(element)?,
             _ => {
-                let texts = element.texts(alloc)?;
-                notes.note_lost(alloc, What::Gone(tag), texts)?;
+                let lost = element.lost(alloc)?;
+                notes.note_lost(alloc, What::Gone(tag), lost)?;
             }
         }
         Ok(())

@@ -1,5 +1,5 @@
--- What elements that are being put together gain: names of dos are those of what is added at most,
--- and so are elements; and texts are kept in their order, or noted as lost. This project's own.
+-- What elements that are being put together gain: names of dos are those of what is added at most;
+-- and elements and texts are kept, these in their order, or noted as lost. This project's own.
 use Rattle.std.specs.Prelude.{◌≡◌, ℕ, suc, ◌+◌, ◌≤◌, Bool, true, false, List, [], ◌∷◌, ◌++◌}
 use Rattle.std.specs.Prelude.{Option, Some, None}
 use Rattle.wap_base.specs.declared.name.Part.{Part}
@@ -7,12 +7,12 @@ use Rattle.wap_tokens.specs.declared.markup.deck.Item.{Item}
 use Rattle.wap_tokens.specs.declared.markup.deck.Node.{Node}
 use Rattle.wap_tokens.specs.declared.markup.name.Tag.{Tag}
 use Rattle.wap_tokens.specs.declared.markup.name.Tag.TheVariants as tags
-use Rattle.wap_tokens.specs.markup.Tables.{is_same_tag}
 use Rattle.wap_tokens.specs.markup.Good.{Rule, rule_of, nodes_in}
 use Rattle.wap_deckcheck.specs.Places.{names_among}
 use Rattle.wap_mend.specs.Accounts.{signs_of, node_signs, signs_in, lost, IsWithin, number}
-use Rattle.wap_mend.specs.Accounts.{tags_of_nodes}
+use Rattle.wap_mend.specs.Accounts.{tags_of_nodes, but_paragraphs, gone}
 use Rattle.wap_mend.specs.declared.change.Change.{Change}
+use Rattle.wap_mend.specs.declared.signs.Lost.{Lost}
 use Rattle.wap_mend.specs.inside.Building.{Built, Filled}
 use Rattle.wap_mend.specs.inside.Names.{names_with, Adds, Takes}
 
@@ -78,6 +78,18 @@ given_node levels node = record {
 abbrev pub text_load : List Part → Load
 text_load parts = record { names = []; tags = []; signs = signs_of parts }
 
+-- in an element by itself, without what is in it
+abbrev pub tag_load : Tag → Load
+tag_load tag = record { names = []; tags = but_paragraphs (tag ∷ []); signs = [] }
+
+-- in what goes
+abbrev pub load_lost : Lost → Load
+load_lost lost = record {
+  names = [];
+  tags = but_paragraphs lost.elements;
+  signs = signs_of lost.texts;
+}
+
 -- an element without signs
 abbrev pub IsMute : Built → Type 0
 IsMute element = node_signs element.levels element.node ≡ []
@@ -87,12 +99,24 @@ pub record IsQuiet (element : Built) : Type 0 where
   pub event : element.node.tag ≡ tags.Onevent → IsMute element
   pub timer : element.node.tag ≡ tags.Timer → IsMute element
 
+-- ---- changes
+
+-- nothing more is lost
+pub record IsStill (before after : List Change) : Type 0 where
+  pub lost : lost after ≡ lost before
+  pub gone : gone after ≡ gone before
+
+-- this is lost
+pub record IsNoted (before after : List Change) (load : Load) : Type 0 where
+  pub lost : lost after ≡ lost before ++ load.signs
+  pub gone : gone after ≡ gone before ++ load.tags
+
 -- ---- gains
 
--- no more elements than there were and this more; and signs in their order, or noted as lost
+-- the elements that there were and these more, or noted as lost; and so the signs, in their order
 pub record Keeps (before after : List Change) (old new more : Load) : Type 0 where
-  pub tags : (tag : Tag) → number (is_same_tag tag) new.tags
-      ≤ number (is_same_tag tag) old.tags + number (is_same_tag tag) more.tags
+  pub tags : (test : Tag → Bool) → number test new.tags + number test (gone after)
+      ≡ (number test old.tags + number test more.tags) + number test (gone before)
   pub order : IsWithin new.signs (old.signs ++ more.signs)
   pub signs : (test : Part → Bool) → number test new.signs + number test (lost after)
       ≡ (number test old.signs + number test more.signs) + number test (lost before)
@@ -103,12 +127,12 @@ pub record Carries (before after : List Change) (old new more : Load) : Type 0 w
   pub keeps : Keeps before after old new more
 
 -- an element that is being put together: its rule, the levels of the elements in it, what is in
--- it, and the signs in the paragraph that is open
+-- it, and in the paragraph that is open
 pub record Framed : Type 0 where
   pub rule : Rule
   pub room : ℕ
   pub load : Load
-  pub running : List Part
+  pub running : Load
 
 -- by its groups and the paragraph that is open
 abbrev pub framed : Filled → Option Built → List Built → Filled → Framed
@@ -117,7 +141,7 @@ framed first second third run = record {
   room = first.room;
   load =
       both (load_filled first) (both (load_if second) (both (load_all third) (load_filled run)));
-  running = signs_in run.room run.items;
+  running = load_filled run;
 }
 
 -- where groups come in their order, the first two have no texts; else all is in the first

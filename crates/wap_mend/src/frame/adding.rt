@@ -10,7 +10,7 @@ use crate::content::{Content, Element};
 use crate::frame::closing::add_one;
 use crate::frame::{Frame, Place};
 use crate::notes::Notes;
-use crate::values::copied;
+use crate::signs::Lost;
 use std::alloc::Global;
 use std::mem::replace;
 use wap_base::{NoMemory, Part};
@@ -73,7 +73,7 @@ impl Frame {
         ensures running { self.new.running ≡ self.old.running }
     {
         if self.second.is_some() {
-            return notes.note_lost(alloc, What::Gone(Tag::Timer), element.texts(alloc)?);
+            return notes.note_lost(alloc, What::Gone(Tag::Timer), element.lost(alloc)?);
         }
         self.second = Some(element);
         Ok(())
@@ -87,11 +87,11 @@ impl Frame {
         element: Element,
     ) -> Result<(), NoMemory>
         requires order { self.old.rule.in_order ≡ true }
-        requires running { self.old.running ≡ [] }
+        requires running { self.old.running ≡ nothing }
         requires quiet { IsQuiet element }
         ensures gains { OnOk result (Gains notes.old.changes notes.new.changes self.old self.new
             (load_built element)) }
-        ensures running { self.new.running ≡ [] }
+        ensures running { self.new.running ≡ nothing }
     {
         match element.tag() {
             Tag::Onevent => self.add_to_first(alloc, notes, element),
@@ -107,10 +107,10 @@ impl Frame {
         notes: &mut Notes,
         element: Element,
     ) -> Result<(), NoMemory>
-        requires { self.old.running ≡ [] }
+        requires { self.old.running ≡ nothing }
         ensures gains { OnOk result (Gains notes.old.changes notes.new.changes self.old self.new
             (load_built element)) }
-        ensures running { self.new.running ≡ [] }
+        ensures running { self.new.running ≡ nothing }
     {
         if !self.is_in_order() {
             return self.add_to_first(alloc, notes, element);
@@ -222,7 +222,7 @@ impl Frame {
             (text_load parts.now)) }
     {
         if self.is_in_order() || !self.first.rule().has_text() {
-            return notes.note_lost(alloc, What::Text, copied(alloc, parts)?);
+            return notes.note_lost(alloc, What::Text, Lost::of_text(alloc, parts)?);
         }
         let mut first = replace(&mut self.first, Content::new(alloc, Tag::Card, 0));
         first.add_text(alloc, parts)?;

@@ -24,7 +24,7 @@ pub(super) fn add_one(
         content.add(element)?;
         return Ok(());
     }
-    notes.note_lost(alloc, What::Gone(element.tag()), element.texts(alloc)?)
+    notes.note_lost(alloc, What::Gone(element.tag()), element.lost(alloc)?)
 }
 
 /// Adds an element, if there is one.

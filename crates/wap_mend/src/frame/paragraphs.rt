@@ -1,15 +1,15 @@
 //! The paragraph that is open in an element: one of the deck that was given, or one that is put
 //! round texts and what may stand in a paragraph (rule 3).
 ghost use Rattle.std.specs.Prelude.{◌≡◌, [], true, IfOk, OnOk};
-ghost use Rattle.wap_mend.specs.Accounts.{is_paragraph, lost};
-ghost use Rattle.wap_mend.specs.inside.Frames.{Gains, nothing};
+ghost use Rattle.wap_mend.specs.Accounts.{is_paragraph};
+ghost use Rattle.wap_mend.specs.inside.Frames.{Gains, IsStill, nothing};
 
 use crate::change::What;
 use crate::content::{Content, Element};
 use crate::frame::Frame;
 use crate::kept::Attributes;
 use crate::notes::Notes;
-use crate::signs::texts_of;
+use crate::signs::Lost;
 use std::alloc::Global;
 use std::marker::Model;
 use std::mem::replace;
@@ -41,7 +41,7 @@ fn parted(
     outer: Option<Outer>,
     tag: Tag,
 ) -> Result<Option<Outer>, NoMemory>
-    ensures { OnOk result (lost notes.new.changes ≡ lost notes.old.changes) }
+    ensures { OnOk result (IsStill notes.old.changes notes.new.changes) }
 {
     let Some(mut outer) = outer else {
         return Ok(None);
@@ -78,7 +78,7 @@ impl Frame {
     pub(super) fn put_run(&mut self, alloc: Global, notes: &mut Notes) -> Result<(), NoMemory>
         ensures gains { OnOk result
             (Gains notes.old.changes notes.new.changes self.old self.new nothing) }
-        ensures running { OnOk result (self.new.running ≡ []) }
+        ensures running { OnOk result (self.new.running ≡ nothing) }
     {
         let attributes = self.paragraph(alloc)?;
         let tag = attributes.tag();
@@ -87,8 +87,8 @@ impl Frame {
         match Element::of(attributes, content) {
             Ok(element) => self.add_in_order(alloc, notes, element),
             Err(node) => {
-                let texts = texts_of(alloc, room + 1, &node)?;
-                notes.note_lost(alloc, What::Gone(tag), texts)
+                let lost = Lost::of_node(alloc, room + 1, &node)?;
+                notes.note_lost(alloc, What::Gone(tag), lost)
             }
         }
     }
@@ -97,7 +97,7 @@ impl Frame {
     pub(super) fn end_run(&mut self, alloc: Global, notes: &mut Notes) -> Result<(), NoMemory>
         ensures gains { OnOk result
             (Gains notes.old.changes notes.new.changes self.old self.new nothing) }
-        ensures running { OnOk result (self.new.running ≡ []) }
+        ensures running { OnOk result (self.new.running ≡ nothing) }
     {
         if self.run.is_empty() {
             return Ok(());

@@ -1,9 +1,9 @@
 use Rattle.std.proofs.Common.{◌≡◌}
-use Rattle.wap_mend.specs.Accounts.{lost}
+use Rattle.wap_mend.specs.inside.Frames.{IsStill}
 use Rattle.wap_mend.proofs.attributes.mended_attributes.Given as goal
 
 abbrev pub invariant-loop-attribute : goal.invariant-loop-attribute
 invariant-loop-attribute l = record {
   tag : l.attributes.tag ≡ l.fn.tag;
-  still : lost l.notes.changes ≡ lost l.initial.notes.changes;
+  still : IsStill l.initial.notes.changes l.notes.changes;
 }

@@ -12,8 +12,9 @@ use Rattle.wap_mend.specs.inside.Building.{Built, Kept}
 use Rattle.wap_mend.specs.inside.Names.{own_name_of, Takes}
 use Rattle.wap_mend.specs.inside.Frames.{nothing, load_if, given_items, given_node}
 use Rattle.wap_mend.specs.inside.Frames.{Moves, Puts, Closes, Framed}
+use Rattle.wap_mend.proofs.Loads.{still_refl, noted_as}
 use Rattle.wap_mend.proofs.Framing.{node_levels, node_kids}
-use Rattle.wap_mend.proofs.Putting.{puts_nothing, puts_lost, puts_turn, puts_opened_noted}
+use Rattle.wap_mend.proofs.Putting.{puts_nothing, puts_lost, puts_turn, puts_opened}
 use Rattle.wap_mend.proofs.Putting.{puts_paragraph, puts_element, puts_none, moves_named}
 use Rattle.wap_mend.proofs.Putting.{moves_none, moves_lost, made_keeps, made_apart, unmade_keeps}
 use Rattle.wap_mend.proofs.Putting.{card_whole, made_named, put_kids}
@@ -22,7 +23,7 @@ use Rattle.wap_mend.proofs.elements.+walk.Goals as goal
 pub put_items-loop-number-init : goal.put_items-loop-number-init
 put_items-loop-number-init t c =
     puts_nothing c.args.names.now c.args.notes.now.changes c.args.notes.now.changes
-    c.args.frame.now refl
+    c.args.frame.now (still_refl c.args.notes.now.changes)
 
 pub put_items-loop-number-preserved : goal.put_items-loop-number-preserved
 put_items-loop-number-preserved t c =
@@ -30,16 +31,16 @@ put_items-loop-number-preserved t c =
     c.loop-number-test.true c.index-items-number.is c.args.names.now c.loop-number.names
     c.put_item.new.names c.args.notes.now.changes c.loop-number.notes.changes
     c.loop-number.notes.changes c.put_item.new.notes.changes c.args.frame.now
-    c.loop-number.frame c.put_item.new.frame c.args.levels c.loop-number.invariant refl
-    c.in_ok-put_item.ensures
+    c.loop-number.frame c.put_item.new.frame c.args.levels c.loop-number.invariant
+    (still_refl c.loop-number.notes.changes) c.in_ok-put_item.ensures
 
-pub put_node-returns-in_ok-note-in-Nowhere : goal.put_node-returns-in_ok-note-in-Nowhere
-put_node-returns-in_ok-note-in-Nowhere t c =
+pub put_node-returns-in_ok-note_opened-in-Nowhere : goal.put_node-returns-in_ok-note_opened-in-Nowhere
+put_node-returns-in_ok-note_opened-in-Nowhere t c =
     on_ok_weaker c.put_items.result
-    (puts_opened_noted c.args.names.now c.put_items.new.names c.args.notes.now.changes
-    c.note.new.self.changes c.put_items.new.notes.changes c.args.frame.now
+    (puts_opened c.args.names.now c.put_items.new.names c.args.notes.now.changes
+    c.note_opened.new.self.changes c.put_items.new.notes.changes c.args.frame.now
     c.put_items.new.frame c.args.levels c.as_slice-kids.result.now c.args.node.now c.requires
-    c.as_slice-kids.ensures c.in_ok-note-in-Nowhere.ensures.lost) c.put_items.ensures
+    c.as_slice-kids.ensures c.in_ok-note_opened-in-Nowhere.ensures.lost) c.put_items.ensures
 
 pub put_paragraph-returns : goal.put_paragraph-returns
 put_paragraph-returns t c =
@@ -48,33 +49,35 @@ put_paragraph-returns t c =
     c.mended_attributes.new.notes.changes c.enter.new.notes.changes
     c.put_items.new.notes.changes c.leave.new.notes.changes c.args.frame.now
     c.enter.new.self c.put_items.new.frame c.leave.new.self c.args.levels
-    c.as_slice-kids.result.now c.args.node.now c.requires.normal c.as_slice-kids.ensures
-    c.in_ok-attributes.ensures.still c.in_ok-outer.ensures c.in_ok-put_items.ensures)
+    c.as_slice-kids.result.now c.args.node.now c.requires.normal c.requires.paragraph
+    c.as_slice-kids.ensures c.in_ok-attributes.ensures.still c.in_ok-outer.ensures c.in_ok-put_items.ensures)
     c.leave.ensures
 
 pub put_element-returns-then-not-branch : goal.put_element-returns-then-not-branch
 put_element-returns-then-not-branch t c =
     on_ok_weaker c.put_items.result
-    (puts_opened_noted c.args.names.now c.put_items.new.names c.args.notes.now.changes
-    c.note.new.self.changes c.put_items.new.notes.changes c.args.frame.now
+    (puts_opened c.args.names.now c.put_items.new.names c.args.notes.now.changes
+    c.note_opened.new.self.changes c.put_items.new.notes.changes c.args.frame.now
     c.put_items.new.frame c.args.levels c.as_slice-kids.result.now c.args.node.now
-    c.requires.normal c.as_slice-kids.ensures c.in_ok-note.ensures.lost) c.put_items.ensures
+    c.requires.normal c.as_slice-kids.ensures c.in_ok-note_opened.ensures.lost) c.put_items.ensures
 
 pub put_element-returns-then-is_second : goal.put_element-returns-then-is_second
 put_element-returns-then-is_second t c =
     on_ok_weaker c.note_lost.result
-    (puts_lost c.args.names.now c.args.notes.now.changes c.note_lost.new.self.changes
-    c.args.frame.now (given_node c.args.levels c.args.node.now) c.in_ok-texts_of.field-0
-    c.in_ok-texts_of.ensures) c.note_lost.ensures.lost
+    (λ noted.
+    puts_lost c.args.names.now c.args.notes.now.changes c.note_lost.new.self.changes
+    c.args.frame.now (given_node c.args.levels c.args.node.now)
+    (noted_as c.args.notes.now.changes c.note_lost.new.self.changes _ _ c.in_ok-of_node.ensures
+    noted)) c.note_lost.ensures.lost
 
 pub put_element-returns-then-room-eq0 : goal.put_element-returns-then-room-eq0
 put_element-returns-then-room-eq0 t c =
     on_ok_weaker c.put_items-then-room-eq0.result
-    (puts_opened_noted c.args.names.now c.put_items-then-room-eq0.new.names
-    c.args.notes.now.changes c.note-then-room-eq0.new.self.changes
+    (puts_opened c.args.names.now c.put_items-then-room-eq0.new.names
+    c.args.notes.now.changes c.note_opened-then-room-eq0.new.self.changes
     c.put_items-then-room-eq0.new.notes.changes c.args.frame.now
     c.put_items-then-room-eq0.new.frame c.args.levels c.as_slice-kids.result.now
-    c.args.node.now c.requires.normal c.as_slice-kids.ensures c.in_ok-note-2.ensures.lost)
+    c.args.node.now c.requires.normal c.as_slice-kids.ensures c.in_ok-note_opened-2.ensures.lost)
     c.put_items-then-room-eq0.ensures
 
 pub put_element-returns-in-Some : goal.put_element-returns-in-Some
@@ -104,12 +107,12 @@ made_with_name-returns-in_ok-note_lost-in-None t c =
     moves_lost c.args.names.now c.told_apart.new.names c.args.notes.now.changes
     c.mended_attributes.new.notes.changes c.told_apart.new.notes.changes
     c.note_lost.new.self.changes (given_node c.args.levels c.args.node.now)
-    c.in_ok-texts_of-in-None.field-0 c.in_ok-attributes.ensures.still
+    c.in_ok-lost-in-None.lost c.in_ok-attributes.ensures.still
     c.in_ok-attributes-2.ensures.still
     (subst (λ named. MatchOption named (Takes c.args.names.now c.told_apart.new.names [] [])
     (λ (kept : Kept). Takes c.args.names.now c.told_apart.new.names []
     (option_to_list (own_name_of kept)))) c.in-None.is c.in_ok-attributes-2.ensures.taken)
-    c.in_ok-texts_of-in-None.ensures c.in_ok-note_lost-in-None.ensures.lost
+    c.in_ok-lost-in-None.ensures c.in_ok-note_lost-in-None.ensures.lost
 
 pub made-put_items-requires : goal.made-put_items-requires
 made-put_items-requires t c =
@@ -161,7 +164,7 @@ made-returns-in_ok-note_lost-in-Err-clause-keeps t c =
     unmade_keeps c.args.names.now c.put_items.new.names c.args.notes.now.changes
     c.put_items.new.notes.changes c.close.new.notes.changes c.note_lost.new.self.changes _ _
     c.put_items.new.frame c.in_ok-content.content c.args.attributes c.in-Err.node
-    c.in_ok-texts-in-Err.texts (c.args.room + 1) c.args.levels c.args.node.now
+    c.in_ok-lost-in-Err.lost (c.args.room + 1) c.args.levels c.args.node.now
     (node_levels c.args.levels c.args.node.now c.requires.normal)
     (let same =
     c.in_ok-content.ensures.room ∙ c.in_ok-put_items.ensures.room
@@ -170,7 +173,7 @@ made-returns-in_ok-note_lost-in-Err-clause-keeps t c =
     c.put_items.new.notes.changes _ _ (c.args.levels - 1) c.new-frame.result
     c.put_items.new.frame c.as_slice-kids.result.now c.args.node.now c.new-frame.ensures
     c.as_slice-kids.ensures c.in_ok-put_items.ensures) c.in_ok-content.ensures c.requires.tag
-    c.in-Err.ensures.back c.in_ok-texts-in-Err.ensures c.in_ok-note_lost-in-Err.ensures.lost
+    c.in-Err.ensures.back c.in_ok-lost-in-Err.ensures c.in_ok-note_lost-in-Err.ensures.lost
 
 pub made-returns-in_ok-note_lost-in-Err-clause-card :
     goal.made-returns-in_ok-note_lost-in-Err-clause-card

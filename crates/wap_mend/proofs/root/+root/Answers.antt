@@ -2,10 +2,10 @@
 use Rattle.std.proofs.Common.{refl, sym, ap, subst, ◌∙◌}
 use Rattle.std.proofs.lemmas.Result.{on_ok_weaker}
 use Rattle.wap_tokens.specs.declared.markup.deck.Item.TheVariants as item
-use Rattle.wap_mend.specs.inside.Frames.{nothing, load_if, load_built, given_node, Keeps}
+use Rattle.wap_mend.specs.inside.Frames.{nothing, load_if, load_built, given_node, text_load, Keeps}
 use Rattle.wap_mend.specs.inside.Tops.{load_top}
 use Rattle.wap_mend.proofs.Topping.{item_gathered, nothing_gathered, made_id}
-use Rattle.wap_mend.proofs.Loads.{keeps_still, keeps_lost}
+use Rattle.wap_mend.proofs.Loads.{keeps_still, keeps_lost, still_refl, noted_as}
 use Rattle.wap_mend.proofs.Accounted.{turn_keeps, blank_keeps, text_keeps, node_keeps, opened_keeps}
 use Rattle.wap_mend.proofs.Accounted.{some_then, element_keeps, none_keeps}
 use Rattle.wap_mend.proofs.root.+root.Goals as goal
@@ -13,7 +13,8 @@ use Rattle.wap_mend.proofs.root.+root.Goals as goal
 pub put_items-loop-number-init : goal.put_items-loop-number-init
 put_items-loop-number-init t c = (
   nothing_gathered c.args.top.now c.requires.taken,
-  keeps_still c.args.notes.now.changes c.args.notes.now.changes (load_top c.args.top.now) refl,
+  keeps_still c.args.notes.now.changes c.args.notes.now.changes (load_top c.args.top.now)
+      (still_refl c.args.notes.now.changes),
 )
 
 pub put_items-loop-number-preserved : goal.put_items-loop-number-preserved
@@ -32,14 +33,16 @@ pub put_item-returns-in-Text-clause-keeps : goal.put_item-returns-in-Text-clause
 put_item-returns-in-Text-clause-keeps t c =
     blank_keeps c.args.notes.now.changes c.args.notes.now.changes c.args.levels c.args.item.now
     (load_top c.args.top.now) c.as_slice.result.now
-    (c.in-Text.is ∙ ap item.Text (sym c.as_slice.ensures)) (sym c.if-is_blank_text.ensures) refl
+    (c.in-Text.is ∙ ap item.Text (sym c.as_slice.ensures)) (sym c.if-is_blank_text.ensures)
+    (still_refl c.args.notes.now.changes)
 
-pub put_item-returns-in_ok-copied-in-Text-2-clause-keeps : goal.put_item-returns-in_ok-copied-in-Text-2-clause-keeps
-put_item-returns-in_ok-copied-in-Text-2-clause-keeps t c =
+pub put_item-returns-in_ok-of_text-in-Text-2-clause-keeps : goal.put_item-returns-in_ok-of_text-in-Text-2-clause-keeps
+put_item-returns-in_ok-of_text-in-Text-2-clause-keeps t c =
     on_ok_weaker c.note_lost.result
     (text_keeps c.args.notes.now.changes c.note_lost.new.self.changes c.args.levels
-    c.args.item.now (load_top c.args.top.now) c.in-Text-2.parts c.in_ok-copied-in-Text-2.field-0
-    c.in-Text-2.is (c.in_ok-copied-in-Text-2.ensures ∙ c.as_slice-in-Text-2.ensures))
+    c.args.item.now (load_top c.args.top.now) c.in-Text-2.parts c.in_ok-of_text-in-Text-2.field-0
+    c.in-Text-2.is
+    (c.in_ok-of_text-in-Text-2.ensures ∙ ap text_load c.as_slice-in-Text-2.ensures))
     c.note_lost.ensures.lost
 
 pub put_item-returns-in-Node-clause-keeps : goal.put_item-returns-in-Node-clause-keeps
@@ -49,28 +52,30 @@ put_item-returns-in-Node-clause-keeps t c =
     c.args.item.now (load_top c.args.top.now) (load_top c.put_node.new.top) c.in-Node.node
     c.in-Node.is) c.put_node.ensures.keeps
 
-pub put_node-returns-in_ok-note-in_default-clause-keeps : goal.put_node-returns-in_ok-note-in_default-clause-keeps
-put_node-returns-in_ok-note-in_default-clause-keeps t c =
+pub put_node-returns-in_ok-note_opened-in_default-clause-keeps : goal.put_node-returns-in_ok-note_opened-in_default-clause-keeps
+put_node-returns-in_ok-note_opened-in_default-clause-keeps t c =
     on_ok_weaker c.put_items.result
-    (opened_keeps c.args.notes.now.changes c.note.new.self.changes c.put_items.new.notes.changes
+    (opened_keeps c.args.notes.now.changes c.note_opened.new.self.changes c.put_items.new.notes.changes
     (load_top c.args.top.now) (load_top c.put_items.new.top) c.args.levels c.args.node.now
-    c.as_slice.result.now c.requires.normal c.in_ok-note-in_default.ensures.lost
+    c.as_slice.result.now c.requires.normal c.in_ok-note_opened-in_default.ensures.lost
     c.as_slice.ensures) c.put_items.ensures.keeps
 
 pub put_element-returns-then-not-branch-clause-keeps : goal.put_element-returns-then-not-branch-clause-keeps
 put_element-returns-then-not-branch-clause-keeps t c =
     on_ok_weaker c.put_items.result
-    (opened_keeps c.args.notes.now.changes c.note.new.self.changes c.put_items.new.notes.changes
+    (opened_keeps c.args.notes.now.changes c.note_opened.new.self.changes c.put_items.new.notes.changes
     (load_top c.args.top.now) (load_top c.put_items.new.top) c.args.levels c.args.node.now
-    c.as_slice.result.now c.requires.normal c.in_ok-note.ensures.lost c.as_slice.ensures)
+    c.as_slice.result.now c.requires.normal c.in_ok-note_opened.ensures.lost c.as_slice.ensures)
     c.put_items.ensures.keeps
 
 pub put_element-returns-then-is_second-clause-keeps : goal.put_element-returns-then-is_second-clause-keeps
 put_element-returns-then-is_second-clause-keeps t c =
     on_ok_weaker c.note_lost.result
-    (keeps_lost c.args.notes.now.changes c.note_lost.new.self.changes (load_top c.args.top.now)
-    (given_node c.args.levels c.args.node.now) c.in_ok-texts_of.field-0
-    c.in_ok-texts_of.ensures) c.note_lost.ensures.lost
+    (λ noted.
+    keeps_lost c.args.notes.now.changes c.note_lost.new.self.changes (load_top c.args.top.now)
+    (given_node c.args.levels c.args.node.now)
+    (noted_as c.args.notes.now.changes c.note_lost.new.self.changes _ _ c.in_ok-of_node.ensures
+    noted)) c.note_lost.ensures.lost
 
 pub put_element-add-requires-clause-taken : goal.put_element-add-requires-clause-taken
 put_element-add-requires-clause-taken t c =

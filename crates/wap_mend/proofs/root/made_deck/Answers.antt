@@ -8,10 +8,10 @@ use Rattle.wap_tokens.specs.declared.markup.document.TheConstants.{LEVEL_LIMIT}
 use Rattle.wap_tokens.specs.declared.markup.deck.Node.{Node}
 use Rattle.wap_tokens.specs.markup.Trees.{node_of}
 use Rattle.wap_mend.specs.inside.Building.{Built, Filled, IsApart}
-use Rattle.wap_mend.specs.Accounts.{lost}
-use Rattle.wap_mend.specs.inside.Frames.{nothing, given_items, Keeps}
+use Rattle.wap_mend.specs.inside.Frames.{nothing, given_items, IsStill, Keeps}
 use Rattle.wap_mend.specs.inside.Tops.{Topped, load_top}
 use Rattle.wap_mend.proofs.Topping.{root_whole}
+use Rattle.wap_mend.proofs.Loads.{still_then}
 use Rattle.wap_mend.proofs.Accounted.{deck_made}
 use Rattle.wap_mend.proofs.Rooted.{good_root}
 use Rattle.wap_mend.proofs.root.made_deck.Goals as goal
@@ -56,7 +56,9 @@ returns-in-Ok-clause-made_of c =
     let given = c.args.deck.now.root in
     let room = LEVEL_LIMIT - 1 in
     deck_made room refl begun after top given c.into_node.result refl
-    (c.in_ok-attributes.ensures.still ∙ c.in_ok-note_root.ensures ∙ ap lost c.requires.fresh)
+    (subst (λ none. IsStill none begun) c.requires.fresh
+    (still_then c.args.notes.now.changes c.note_root.new.notes.changes begun
+    c.in_ok-note_root.ensures c.in_ok-attributes.ensures.still))
     c.in_ok-content.ensures.kinds
     (ap (λ (node : Node). node.kids) c.into_node.ensures.node
     ∙ ap (λ (one : Built). one.node.kids) c.in-Ok.ensures.made

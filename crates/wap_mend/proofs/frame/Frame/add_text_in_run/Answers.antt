@@ -2,6 +2,7 @@
 use Rattle.std.proofs.Common.{ap, subst, ◌∙◌, refl}
 use Rattle.wap_mend.specs.inside.Building.{Filled}
 use Rattle.wap_mend.specs.inside.Frames.{nothing, text_load, framed, Collects}
+use Rattle.wap_mend.proofs.Loads.{still_refl}
 use Rattle.wap_mend.proofs.Framing.{paragraph_text, text_collects, run_gains, gains_then}
 use Rattle.wap_mend.proofs.frame.Frame.add_text_in_run.Goals as goal
 
@@ -22,4 +23,4 @@ returns c =
     inside.run new more c.self.view_is
     (subst (λ run. Collects after after run new more) c.replace-run.ensures.value
     (text_collects after after c.replace-run.result new c.args.parts.now c.in_ok-add_text.ensures
-    refl)))
+    (still_refl after))))

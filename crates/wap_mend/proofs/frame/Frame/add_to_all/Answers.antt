@@ -3,6 +3,7 @@ use Rattle.std.proofs.Common.{◌≡◌, false, ap, sym, subst, ◌∙◌, refl}
 use Rattle.std.proofs.lemmas.Result.{on_ok_weaker}
 use Rattle.wap_mend.specs.Accounts.{signs_of}
 use Rattle.wap_mend.specs.inside.Frames.{text_load, Framed, Collects}
+use Rattle.wap_mend.proofs.Loads.{noted_as, still_refl}
 use Rattle.wap_mend.proofs.Framing.{gains_lost, all_gains, text_collects}
 use Rattle.wap_mend.proofs.frame.Frame.add_to_all.Goals as goal
 
@@ -10,9 +11,11 @@ pub returns-then-is_in_order : goal.returns-then-is_in_order
 returns-then-is_in_order c =
     let frame = c.args.self.now in
     on_ok_weaker c.note_lost.result
-    (gains_lost c.args.notes.now.changes c.note_lost.new.self.changes frame frame
-    (text_load c.args.parts.now) c.in_ok-copied.field-0 refl
-    (ap (λ parts. signs_of parts) c.in_ok-copied.ensures)) c.note_lost.ensures.lost
+    (λ noted.
+    gains_lost c.args.notes.now.changes c.note_lost.new.self.changes frame frame
+    (text_load c.args.parts.now) refl
+    (noted_as c.args.notes.now.changes c.note_lost.new.self.changes _ _ c.in_ok-of_text.ensures
+    noted)) c.note_lost.ensures.lost
 
 pub returns : goal.returns
 returns c =
@@ -27,4 +30,4 @@ returns c =
     inside.run more c.self.view_is c.self.invariant out
     (subst (λ first. Collects changes changes first new more) c.replace-first.ensures.value
     (text_collects changes changes c.replace-first.result new c.args.parts.now
-    c.in_ok-add_text.ensures refl))
+    c.in_ok-add_text.ensures (still_refl changes)))

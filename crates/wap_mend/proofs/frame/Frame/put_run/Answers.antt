@@ -1,12 +1,11 @@
--- What was in the paragraph stands among the others, or its texts are lost.
+-- What was in the paragraph stands among the others, or is noted as lost.
 use Rattle.std.proofs.Common.{◌≡◌, suc, ap, sym, subst, ◌∙◌, add-one}
 use Rattle.std.proofs.lemmas.Result.{on_ok_weaker}
 use Rattle.wap_tokens.specs.markup.Good.{rule_of}
 use Rattle.wap_tokens.specs.declared.markup.deck.Node.{Node}
 use Rattle.wap_tokens.specs.declared.markup.name.Tag.TheVariants as tags
-use Rattle.wap_mend.specs.Accounts.{signs_in, node_signs}
 use Rattle.wap_mend.specs.inside.Building.{Filled}
-use Rattle.wap_mend.specs.inside.Frames.{nothing, load_built, framed, Gains}
+use Rattle.wap_mend.specs.inside.Frames.{nothing, load_built, given_node, framed, Gains}
 use Rattle.wap_mend.proofs.Framing.{paragraph_ruled, run_ended, run_lost}
 use Rattle.wap_mend.proofs.frame.Frame.put_run.Goals as goal
 
@@ -38,24 +37,26 @@ returns-in-Ok-clause-gains c =
     (load_built element)) (c.replace-content.ensures.after ∙ c.new.ensures) gains))
     c.add_in_order.ensures.gains
 
-pub returns-in_ok-texts-in-Err-clause-gains : goal.returns-in_ok-texts-in-Err-clause-gains
-returns-in_ok-texts-in-Err-clause-gains c =
+pub returns-in_ok-lost-in-Err-clause-gains : goal.returns-in_ok-lost-in-Err-clause-gains
+returns-in_ok-lost-in-Err-clause-gains c =
     let inside = c.self.inside in
     let before = c.args.notes.now.changes in
     let after = c.note_lost.new.self.changes in
     let room = c.room-room.result in
-    let texts = c.in_ok-texts-in-Err.texts in
+    let attributes = c.in_ok-attributes.attributes in
+    let made : Filled → Node = λ run.
+    record { tag = attributes.tag; attrs = attributes.rows; kids = run.items } in
     let all =
-    c.in_ok-texts-in-Err.ensures
-    ∙ ap (λ levels. node_signs levels c.in-Err.node) (add-one room)
-    ∙ ap (λ (node : Node). node_signs (suc room) node) c.in-Err.ensures.back
-    ∙ ap (λ (run : Filled). signs_in room run.items) c.replace-content.ensures.value
-    ∙ ap (λ levels. signs_in levels inside.run.items) c.room-room.ensures.room in
+    c.in_ok-lost-in-Err.ensures
+    ∙ ap (λ levels. given_node levels c.in-Err.node) (add-one room)
+    ∙ ap (given_node (suc room)) (c.in-Err.ensures.back ∙ ap made c.replace-content.ensures.value)
+    ∙ ap (λ levels. given_node (suc levels) (made inside.run)) c.room-room.ensures.room in
     on_ok_weaker c.note_lost.result
     (λ noted.
     subst (λ run. Gains before after c.args.self.now
     (framed inside.first inside.second inside.third run) nothing)
     (sym (c.replace-content.ensures.after ∙ c.new.ensures))
     (run_lost before after c.args.self.now inside.first inside.second inside.third inside.run
-    (rule_of tags.P) room texts c.self.view_is all noted))
+    (rule_of tags.P) room attributes c.in_ok-lost-in-Err.lost c.self.view_is
+    c.in_ok-attributes.ensures all noted))
     c.note_lost.ensures.lost

@@ -2,6 +2,7 @@
 use Rattle.std.proofs.Common.{◌≡◌, [], ◌∙◌, refl, sym, subst, arith}
 use Rattle.std.proofs.lemmas.List.{nil_from_length}
 use Rattle.wap_mend.specs.inside.Frames.{load_all, load_built, Collects}
+use Rattle.wap_mend.proofs.Loads.{still_refl}
 use Rattle.wap_mend.proofs.Framing.{collects_then, nothing_collected}
 use Rattle.wap_mend.proofs.frame.closing.add_all.Goals as goal
 
@@ -31,4 +32,5 @@ returns c =
     c.loop-element.invariant end.notes.changes end.content
     (subst (λ elements.
     Collects end.notes.changes end.notes.changes end.content end.content (load_all elements))
-    (sym empty) (nothing_collected end.notes.changes end.notes.changes end.content refl))
+    (sym empty) (nothing_collected end.notes.changes end.notes.changes end.content
+    (still_refl end.notes.changes)))

@@ -1,12 +1,11 @@
 -- An element gets into the root, or is noted as lost.
 use Rattle.std.proofs.Common.{◌≡◌, true, [], ◌∷◌, ◌++◌, Some, refl, sym, ap, subst, ◌∙◌}
 use Rattle.wap_tokens.specs.declared.markup.name.Tag.TheVariants as tags
-use Rattle.wap_mend.specs.Accounts.{signs_of}
 use Rattle.wap_mend.specs.inside.Building.{Built, IsBuilt}
 use Rattle.wap_mend.specs.inside.Frames.{Load, both, load_built, load_if, load_all, Keeps}
 use Rattle.wap_mend.specs.inside.Tops.{Topped, load_top}
 use Rattle.wap_mend.proofs.Topping.{gathers_card}
-use Rattle.wap_mend.proofs.Loads.{keeps_lost}
+use Rattle.wap_mend.proofs.Loads.{keeps_lost, noted_then, noted_built}
 use Rattle.wap_mend.proofs.Accounted.{no_signs, none_there, head_added, template_added, card_added}
 use Rattle.wap_mend.proofs.top.Top.add.Goals as goal
 
@@ -88,7 +87,10 @@ returns-in_ok-add-in-Card-clause-keeps c =
 
 pub returns-in_ok-note_lost-in_default-clause-keeps : goal.returns-in_ok-note_lost-in_default-clause-keeps
 returns-in_ok-note_lost-in_default-clause-keeps c =
-    keeps_lost c.args.notes.now.changes c.note_lost.new.self.changes (load_top c.args.self.now)
-    (load_built c.args.element) c.in_ok-texts-in_default.texts c.in_ok-texts-in_default.ensures
-    (c.in_ok-note_lost-in_default.ensures.lost
-    ∙ ap (λ some. some ++ signs_of c.in_ok-texts-in_default.texts) c.in_ok-note_late.ensures)
+    let before = c.args.notes.now.changes in
+    let late = c.note_late.new.notes.changes in
+    let after = c.note_lost.new.self.changes in
+    keeps_lost before after (load_top c.args.self.now) (load_built c.args.element)
+    (noted_then before late after (load_built c.args.element) c.in_ok-note_late.ensures
+    (noted_built late after c.in_ok-lost-in_default.lost c.args.element
+    c.in_ok-lost-in_default.ensures c.in_ok-note_lost-in_default.ensures.lost))
