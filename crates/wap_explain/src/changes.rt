@@ -154,7 +154,7 @@ pub(crate) fn lines_of(alloc: Global, page: &MendedPage) -> Result<String, NoMem
     for change in page.changes.as_slice() {
         write!(out, "at {}: ", Place(root, change.path.as_slice()))?;
         add_what(&mut out, root, change)?;
-        add_lost(&mut out, change.lost.as_slice())?;
+        add_lost(&mut out, change.lost.texts.as_slice())?;
         out.push_str("\n")?;
     }
     Ok(out)

@@ -1,6 +1,6 @@
 -- What is in the root that is put together: elements that get there, what is lost on the way, and
 -- what the deck that is made has of the one that was given.
-use Rattle.std.proofs.Common.{◌≡◌, ℕ, zero, suc, ◌+◌, ◌-◌, ◌<◌, ◌≤◌, Bool, true, false}
+use Rattle.std.proofs.Common.{◌≡◌, ℕ, suc, ◌+◌, ◌-◌, ◌<◌, true, false}
 use Rattle.std.proofs.Common.{List, [], ◌∷◌, ◌++◌, length, get_or, take, Option, Some, None}
 use Rattle.std.proofs.Common.{refl, sym, ap, subst, ◌∙◌, arith}
 use Rattle.std.specs.Prelude.{IfSome, is_some}
@@ -10,7 +10,6 @@ use Rattle.std.proofs.lemmas.List.{take_more}
 use mathlib.Core.Logic.{inl}
 use Rattle.wap_base.specs.declared.name.Part.{Part}
 use Rattle.wap_tokens.specs.declared.markup.document.TheConstants.{LEVEL_LIMIT}
-use Rattle.wap_tokens.specs.declared.markup.deck.Deck.{Deck}
 use Rattle.wap_tokens.specs.declared.markup.deck.Node.{Node}
 use Rattle.wap_tokens.specs.declared.markup.deck.Item.{Item, out-Item}
 use Rattle.wap_tokens.specs.declared.markup.deck.Item.TheVariants.{outs-Text, outs-Node}
@@ -19,21 +18,25 @@ use Rattle.wap_tokens.specs.declared.markup.name.Tag.{Tag}
 use Rattle.wap_tokens.specs.declared.markup.name.Tag.TheVariants as tags
 use Rattle.wap_tokens.specs.markup.Normal.{IsNode}
 use Rattle.wap_tokens.specs.markup.Good.{is_blank_text, nodes_in}
-use Rattle.wap_mend.specs.Accounts.{signs_of, signs, node_signs, signs_in, lost, gone, number}
-use Rattle.wap_mend.specs.Accounts.{tags_of_nodes, elements, IsWithin, IsMadeOf}
+use Rattle.wap_mend.specs.Accounts.{signs, node_signs, signs_in, number}
+use Rattle.wap_mend.specs.Accounts.{attributes_of, attributes_of_nodes, IsWithin, IsMadeOf}
 use Rattle.wap_mend.specs.declared.change.Change.{Change}
-use Rattle.wap_mend.specs.declared.signs.Lost.{Lost}
+use Rattle.wap_mend.specs.declared.change.Lost.{Lost}
 use Rattle.wap_mend.specs.inside.Building.{Built, IsBuilt}
 use Rattle.wap_mend.specs.inside.Frames.{Load, nothing, both, load_built, load_if, load_all}
-use Rattle.wap_mend.specs.inside.Frames.{given_items, given_node, text_load, tag_load, load_lost}
+use Rattle.wap_mend.specs.inside.Frames.{given_items, given_node, text_load, own_load, load_lost}
+use Rattle.wap_mend.specs.inside.Frames.{rows_load, pieces_of_nodes}
 use Rattle.wap_mend.specs.inside.Frames.{IsStill, IsNoted, Keeps}
 use Rattle.wap_mend.specs.inside.Tops.{Topped, IsUnder, IsTop, items_with, items_in, load_top}
-use Rattle.wap_mend.proofs.Accounting.{signs_blank}
+use Rattle.wap_mend.proofs.Accounting.{signs_blank, number-append}
+use Rattle.wap_mend.proofs.Pieces.{on_elements, rows_elements, nodes_elements, gone_elements}
+use Rattle.wap_mend.proofs.Pieces.{came_elements, on_attributes, rows_attributes}
+use Rattle.wap_mend.proofs.Pieces.{nodes_attributes, gone_attributes_number, came_attributes}
 use Rattle.wap_mend.proofs.Loads.{both_nothing, both_assoc, keeps_all, keeps_lost, keeps_still}
-use Rattle.wap_mend.proofs.Loads.{keeps_then, keeps_first, keeps_second, still_then, noted_as}
+use Rattle.wap_mend.proofs.Loads.{keeps_then, keeps_first, keeps_second, still_refl, noted_as}
 use Rattle.wap_mend.proofs.Framing.{node_levels}
 use Rattle.wap_mend.proofs.Muteness.{is_mute, mute}
-use Rattle.wap_mend.proofs.Putting.{keeps_made, keeps_gone, keeps_from, given_own}
+use Rattle.wap_mend.proofs.Putting.{keeps_made, keeps_gone, given_own}
 use Rattle.wap_mend.proofs.Putting.{given_behind, given_text, given_one}
 
 -- ---- elements that get to their places
@@ -102,7 +105,7 @@ module _ (before after : List Change) (levels : ℕ) (one : Item) where
   blank_keeps load parts is blank still =
       subst (Keeps before after load load)
       (sym (given_text levels one parts (ap out-Item is ∙ outs-Text parts)
-      ∙ ap (λ (some : List Part). record { names = []; tags = []; signs = some })
+      ∙ ap (λ (some : List Part). record { names = []; pieces = []; signs = some })
       (signs_blank parts blank)))
       (keeps_still before after load still)
 
@@ -142,45 +145,44 @@ turn_keeps before between after old mid new levels items n one within is first n
 
 -- what is in an element is put in its place, which is noted
 pub opened_keeps : (before between after : List Change) (old new : Load) (levels : ℕ) (node : Node)
-    (kids : List Item) → IsNode levels node → IsNoted before between (tag_load node.tag)
+    (kids : List Item) → IsNode levels node → IsNoted before between (own_load node)
     → kids ≡ node.kids → Keeps between after old new (given_items (levels - 1) kids)
     → Keeps before after old new (given_node levels node)
 opened_keeps before between after old new levels node kids normal noted is keeps =
     subst (Keeps before after old new)
-    (ap (λ some. both (tag_load node.tag) (given_items (levels - 1) some)) is
+    (ap (λ some. both (own_load node) (given_items (levels - 1) some)) is
     ∙ given_own levels node (node_levels levels node normal))
-    (keeps_then before between after old old new (tag_load node.tag)
-    (given_items (levels - 1) kids) (keeps_lost before between old (tag_load node.tag) noted) keeps)
+    (keeps_then before between after old old new (own_load node)
+    (given_items (levels - 1) kids) (keeps_lost before between old (own_load node) noted) keeps)
 
 -- what holds where there is one holds of it
 pub some_then : {X : Type 0} (P : X → Type 0) (found : Option X) (x : X) → found ≡ Some x
     → IfSome found P → P x
 some_then P found x is holds = subst (λ some. IfSome some P) is holds
 
-module _ (before one two : List Change) (old between : Load) (given : Load)
-    (first : IsStill before one) (second : IsStill one two) (same : between ≡ old) where
+module _ (before : List Change) (old between : Load) (given : Load) (same : between ≡ old) where
   -- what is made of it is added
   pub element_keeps : (three after : List Change) (new made : Load)
-      → Keeps two three nothing made given → Keeps three after between new made
+      → Keeps before three nothing made given → Keeps three after between new made
       → Keeps before after old new given
   element_keeps three after new made makes adds =
-      keeps_made before two three after old between new made given
-      (subst (λ load. Keeps before two old load nothing) (sym same)
-      (keeps_still before two old (still_then before one two first second))) makes adds
+      keeps_made before before three after old between new made given
+      (subst (λ load. Keeps before before old load nothing) (sym same)
+      (keeps_still before before old (still_refl before))) makes adds
 
   -- nothing is made of it
-  pub none_keeps : (after : List Change) → Keeps two after nothing nothing given
+  pub none_keeps : (after : List Change) → Keeps before after nothing nothing given
       → Keeps before after old between given
   none_keeps after makes =
-      keeps_gone before two after old between given
-      (subst (λ load. Keeps before two old load nothing) (sym same)
-      (keeps_still before two old (still_then before one two first second))) makes
+      keeps_gone before before after old between given
+      (subst (λ load. Keeps before before old load nothing) (sym same)
+      (keeps_still before before old (still_refl before))) makes
 
 -- ---- the deck
 
 -- without names
 abbrev nameless : Load → Load
-nameless load = record { names = []; tags = load.tags; signs = load.signs }
+nameless load = record { names = []; pieces = load.pieces; signs = load.signs }
 
 module _ (room : ℕ) (limit : room ≡ LEVEL_LIMIT - 1) where
   -- an element as an item
@@ -223,22 +225,24 @@ module _ (room : ℕ) (limit : room ≡ LEVEL_LIMIT - 1) where
 
   -- the deck that is made has what is in the root
   pub deck_made : (before after : List Change) (top : Topped) (given made : Node)
-      → suc room ≡ LEVEL_LIMIT → IsStill [] before → IsTop top → made.kids ≡ items_in top
+      → suc room ≡ LEVEL_LIMIT
+      → Keeps [] before nothing (rows_load tags.Wml made.attrs) (rows_load tags.Wml given.attrs)
+      → IsTop top → made.kids ≡ items_in top
       → Keeps before after nothing (load_top top) (given_items room given.kids)
       → IsMadeOf (record { root = given }) after (record { root = made })
-  deck_made before after top given made deep none is kids keeps =
+  deck_made before after top given made deep mends is kids keeps =
       let has : given_items room made.kids ≡ nameless (load_top top) =
       ap (given_items room) kids ∙ given_top top is in
       let made_signs : signs (record { root = made }) ≡ (load_top top).signs =
       ap (λ levels. node_signs levels made) (sym deep) ∙ ap (λ (load : Load). load.signs) has in
       let given_signs : signs (record { root = given }) ≡ signs_in room given.kids =
       ap (λ levels. node_signs levels given) (sym deep) in
-      let made_tags : elements (record { root = made }) ≡ (load_top top).tags =
-      ap (λ levels. tags_of_nodes (nodes_in levels made.kids)) (sym deep)
-      ∙ ap (λ (load : Load). load.tags) has in
-      let given_tags : elements (record { root = given })
-      ≡ tags_of_nodes (nodes_in (suc room) given.kids) =
-      ap (λ levels. tags_of_nodes (nodes_in levels given.kids)) (sym deep) in
+      let made_pieces : pieces_of_nodes (nodes_in LEVEL_LIMIT made.kids) ≡ (load_top top).pieces =
+      ap (λ levels. pieces_of_nodes (nodes_in levels made.kids)) (sym deep)
+      ∙ ap (λ (load : Load). load.pieces) has in
+      let given_pieces : pieces_of_nodes (nodes_in LEVEL_LIMIT given.kids)
+      ≡ pieces_of_nodes (nodes_in (suc room) given.kids) =
+      ap (λ levels. pieces_of_nodes (nodes_in levels given.kids)) (sym deep) in
       record {
         order =
             subst (λ some. IsWithin some (signs (record { root = given }))) (sym made_signs)
@@ -246,17 +250,41 @@ module _ (room : ℕ) (limit : room ≡ LEVEL_LIMIT - 1) where
         all = λ test.
             grind (
               arith,
+              mends.signs test,
               keeps.signs test,
               ap (number test) made_signs,
               ap (number test) given_signs,
-              ap (number test) none.lost,
             );
         elements = λ test.
             grind (
               arith,
-              keeps.tags test,
-              ap (number test) made_tags,
-              ap (number test) given_tags,
-              ap (number test) none.gone,
+              mends.pieces (on_elements test),
+              keeps.pieces (on_elements test),
+              rows_elements test tags.Wml made.attrs,
+              rows_elements test tags.Wml given.attrs,
+              ap (number (on_elements test)) made_pieces,
+              ap (number (on_elements test)) given_pieces,
+              nodes_elements test (nodes_in LEVEL_LIMIT made.kids),
+              nodes_elements test (nodes_in LEVEL_LIMIT given.kids),
+              gone_elements test after,
+              came_elements test after,
+            );
+        attributes = λ test.
+            grind (
+              arith,
+              mends.pieces (on_attributes test),
+              keeps.pieces (on_attributes test),
+              rows_attributes test tags.Wml made.attrs,
+              rows_attributes test tags.Wml given.attrs,
+              ap (number (on_attributes test)) made_pieces,
+              ap (number (on_attributes test)) given_pieces,
+              nodes_attributes test (nodes_in LEVEL_LIMIT made.kids),
+              nodes_attributes test (nodes_in LEVEL_LIMIT given.kids),
+              gone_attributes_number test after,
+              came_attributes test after,
+              number-append test (attributes_of tags.Wml made.attrs)
+                  (attributes_of_nodes (nodes_in LEVEL_LIMIT made.kids)),
+              number-append test (attributes_of tags.Wml given.attrs)
+                  (attributes_of_nodes (nodes_in LEVEL_LIMIT given.kids)),
             );
       }

@@ -1,5 +1,5 @@
--- The signs of texts: what is some of a list, how many of it pass a test, and the signs and tags of
--- content as it is put together.
+-- The signs of texts: what is some of a list, how many of it pass a test, and the signs and pieces
+-- of content as it is put together.
 use Rattle.std.proofs.Common.{◌≡◌, ℕ, suc, ◌+◌, ◌<◌, Bool, true, false, cond, List, [], ◌∷◌, ◌++◌}
 use Rattle.std.proofs.Common.{map, length, take, get_or, refl, sym, ap, ◌∙◌, append_assoc}
 use Rattle.std.specs.Prelude.{filter, not, ◌&&◌}
@@ -14,14 +14,13 @@ use Rattle.wap_tokens.specs.declared.markup.deck.Item.{Item, out-Item}
 use Rattle.wap_tokens.specs.declared.markup.deck.Item.TheOpen.{Item-F}
 use Rattle.wap_tokens.specs.declared.markup.deck.Item.TheVariants.{outs-Text, outs-Node}
 use Rattle.wap_tokens.specs.declared.markup.deck.Item.TheVariants as item
-use Rattle.wap_tokens.specs.declared.markup.name.Tag.{Tag}
 use Rattle.wap_tokens.specs.markup.Trees.{ItemLevel, node_from, node_of, words_from}
 use Rattle.wap_tokens.specs.markup.Decks.{before, part}
 use Rattle.wap_tokens.specs.markup.Good.{is_blank, is_blank_text, nodes_in}
 use Rattle.wap_deck.specs.documents.Adding.{part_added, after_last, part_after, marks_after}
 use Rattle.wap_mend.specs.Accounts.{character, signs_of, item_signs, node_signs, signs_in}
 use Rattle.wap_mend.specs.Accounts.{IsWithin, nothing, kept, left_out, number, is_paragraph}
-use Rattle.wap_mend.specs.Accounts.{tags_of_nodes}
+use Rattle.wap_mend.specs.inside.Frames.{Piece, no_paragraphs, own_pieces, pieces_of_nodes}
 use Rattle.wap_mend.proofs.Building.{nodes_same}
 
 -- ---- some of a list
@@ -224,15 +223,28 @@ parts_turn parts n one copy begun old new within is same so_far made =
     (sym (ap signs_of (take_more parts n one within)
     ∙ signs_of-append (take n parts) (get_or parts n one ∷ [])))
 
--- ---- tags in content
+-- ---- pieces in content
+
+-- what is left of two lists of pieces, and how many of them pass
+pub kept-append : (some more : List Piece)
+    → no_paragraphs (some ++ more) ≡ no_paragraphs some ++ no_paragraphs more
+kept-append some more =
+    filter-append (λ (piece : Piece). not (is_paragraph piece.0)) some more
+
+pub kept_number : (test : Piece → Bool) (some more : List Piece)
+    → number test (no_paragraphs (some ++ more))
+    ≡ number test (no_paragraphs some) + number test (no_paragraphs more)
+kept_number test some more =
+    ap (number test) (kept-append some more)
+    ∙ number-append test (no_paragraphs some) (no_paragraphs more)
 
 -- those of nodes and more
-pub tags-append : (some more : List Node)
-    → tags_of_nodes (some ++ more) ≡ tags_of_nodes some ++ tags_of_nodes more
-tags-append some more =
-    let tag_of : Node → Tag = λ node. node.tag in
-    ap (filter (λ tag. not (is_paragraph tag))) (map-append tag_of some more)
-    ∙ filter-append (λ tag. not (is_paragraph tag)) (map tag_of some) (map tag_of more)
+pub pieces-append : (some more : List Node)
+    → pieces_of_nodes (some ++ more) ≡ pieces_of_nodes some ++ pieces_of_nodes more
+pieces-append some more =
+    ap no_paragraphs (flat_map-append own_pieces some more)
+    ∙ filter-append (λ (piece : Piece). not (is_paragraph piece.0)) (flat_map own_pieces some)
+    (flat_map own_pieces more)
 
 module _ (room : ℕ) where
   abbrev below : Node → List Node
@@ -247,27 +259,27 @@ module _ (room : ℕ) where
       (ap node_from (outs-Node node))
 
   -- those in content with an element more
-  pub tags_behind : (items : List Item) (node : Node)
-      → tags_of_nodes (nodes_in (suc room) (items ++ item.Node node ∷ []))
-      ≡ tags_of_nodes (nodes_in (suc room) items)
-      ++ tags_of_nodes (node ∷ nodes_in room node.kids)
-  tags_behind items node =
-      ap tags_of_nodes (ap (flat_map below) (nodes_more items node)
+  pub pieces_behind : (items : List Item) (node : Node)
+      → pieces_of_nodes (nodes_in (suc room) (items ++ item.Node node ∷ []))
+      ≡ pieces_of_nodes (nodes_in (suc room) items)
+      ++ pieces_of_nodes (node ∷ nodes_in room node.kids)
+  pieces_behind items node =
+      ap pieces_of_nodes (ap (flat_map below) (nodes_more items node)
       ∙ flat_map-append below (filter_map node_of items) (node ∷ [])
       ∙ ap (λ nodes. flat_map below (filter_map node_of items) ++ nodes) (append-nil (below node)))
-      ∙ tags-append (flat_map below (filter_map node_of items)) (below node)
+      ∙ pieces-append (flat_map below (filter_map node_of items)) (below node)
 
   -- those in content with a part of a text more are the same
-  pub tags_more : (items : List Item) (more : Part)
-      → tags_of_nodes (nodes_in (suc room) (part_after items more))
-      ≡ tags_of_nodes (nodes_in (suc room) items)
-  tags_more items more =
-      ap (λ nodes. tags_of_nodes (flat_map below nodes)) (nodes_same items more)
+  pub pieces_more : (items : List Item) (more : Part)
+      → pieces_of_nodes (nodes_in (suc room) (part_after items more))
+      ≡ pieces_of_nodes (nodes_in (suc room) items)
+  pieces_more items more =
+      ap (λ nodes. pieces_of_nodes (flat_map below nodes)) (nodes_same items more)
 
   -- so they are with parts of a text more
-  pub tags_parts : (items : List Item) (parts : List Part)
-      → tags_of_nodes (nodes_in (suc room) (marks_after items (map part parts)))
-      ≡ tags_of_nodes (nodes_in (suc room) items)
-  tags_parts items [] = refl
-  tags_parts items (more ∷ parts) =
-      tags_parts (part_after items more) parts ∙ tags_more items more
+  pub pieces_parts : (items : List Item) (parts : List Part)
+      → pieces_of_nodes (nodes_in (suc room) (marks_after items (map part parts)))
+      ≡ pieces_of_nodes (nodes_in (suc room) items)
+  pieces_parts items [] = refl
+  pieces_parts items (more ∷ parts) =
+      pieces_parts (part_after items more) parts ∙ pieces_more items more

@@ -1,8 +1,10 @@
 -- What elements that are being put together gain.
-use Rattle.std.proofs.Common.{◌≡◌, ◌≢◌, ℕ, zero, suc, ◌+◌, ◌-◌, ◌<◌, Bool, true, false, not}
+use Rattle.std.proofs.Common.{◌≡◌, ℕ, zero, suc, ◌-◌, ◌<◌, Bool, true, false, not}
 use Rattle.std.proofs.Common.{List, [], ◌∷◌, ◌++◌, map, Option, Some, None, cond}
 use Rattle.std.proofs.Common.{refl, sym, ap, subst, ◌∙◌, arith}
-use Rattle.std.specs.List.{AllByRecursion}
+use Rattle.std.specs.Prelude.{filter}
+use Rattle.std.specs.List.{AllByRecursion, flat_map}
+use Rattle.std.proofs.lemmas.List.Elements.{filter-append}
 use Rattle.std.specs.Option.{option_to_list}
 use Rattle.std.proofs.lemmas.List.{append-nil}
 use Rattle.std.proofs.lemmas.Bool.{and_parts, eqb-true}
@@ -17,24 +19,25 @@ use Rattle.wap_tokens.specs.declared.markup.name.Tag.{Tag}
 use Rattle.wap_tokens.specs.declared.markup.name.Tag.TheVariants as tags
 use Rattle.wap_tokens.specs.markup.Decks.{part}
 use Rattle.wap_tokens.specs.markup.Normal.{IsAttribute, IsNode, IsItem}
-use Rattle.wap_tokens.specs.markup.Good.{Rule, rule_of, rules, holds_dos, nodes_in, is_blank_text}
+use Rattle.wap_tokens.specs.markup.Good.{Rule, rule_of, rules, nodes_in, is_blank_text}
 use Rattle.wap_deck.specs.documents.Adding.{part_after, marks_after}
 use Rattle.wap_deckcheck.specs.Places.{own_name, names_among}
-use Rattle.wap_mend.specs.Accounts.{signs_of, signs_in, node_signs, lost, gone, tags_of_nodes}
+use Rattle.wap_mend.specs.Accounts.{signs_in, node_signs, lost}
 use Rattle.wap_mend.specs.Accounts.{is_paragraph, IsWithin, kept, left_out}
 use Rattle.wap_mend.specs.Accounts.{nothing as none_within}
 use Rattle.wap_mend.specs.declared.change.Change.{Change}
-use Rattle.wap_mend.specs.declared.signs.Lost.{Lost}
+use Rattle.wap_mend.specs.declared.change.Lost.{Lost}
 use Rattle.wap_mend.specs.inside.Building.{Kept, Built, IsBuilt, Filled}
 use Rattle.wap_mend.specs.inside.Names.{names_with}
 use Rattle.wap_mend.specs.inside.Frames.{Load, nothing, both, load_filled, load_built, load_if}
 use Rattle.wap_mend.specs.inside.Frames.{load_all, Carries, Framed, framed, IsFramed, Gains}
 use Rattle.wap_mend.specs.inside.Frames.{Collects, Closes, IsMute, IsQuiet, text_load}
-use Rattle.wap_mend.specs.inside.Frames.{load_lost, given_node, IsStill, IsNoted}
+use Rattle.wap_mend.specs.inside.Frames.{load_lost, given_node, IsStill, IsNoted, IsSame}
+use Rattle.wap_mend.specs.inside.Frames.{Piece, no_paragraphs, own_pieces, pieces_of_nodes, dressed}
 use Rattle.wap_mend.proofs.Building.{names_behind, names_same}
 use Rattle.wap_mend.proofs.Muteness.{is_mute, mute}
 use Rattle.wap_mend.proofs.Accounting.{signs_blank}
-use Rattle.wap_mend.proofs.Accounting.{signs_behind, signs_more, tags_behind, tags_more}
+use Rattle.wap_mend.proofs.Accounting.{signs_behind, signs_more, pieces_behind, pieces_more}
 use Rattle.wap_mend.proofs.Loads.{both_nothing, both_assoc, carries_all, carries_lost}
 use Rattle.wap_mend.proofs.Loads.{carries_still, carries_then, carries_first, carries_second}
 use Rattle.wap_mend.proofs.Loads.{carries_dropped, carries_joined, still_refl, noted_built}
@@ -52,15 +55,6 @@ paragraph_ruled _ is = absurd (cc is)
 pub paragraph_text : (rule : Rule) → rule ≡ rule_of tags.P → rule.text ≡ true
 unfolding rule_of rules
 paragraph_text rule is = ap (λ r. r.text) is
-
--- it is known, holds no names of dos, and is no do
-pub paragraph_known : (tag : Tag) → is_paragraph tag ≡ true → tag ≢ tags.Other
-paragraph_known tag is other = absurd (cc (sym is ∙ ap is_paragraph other))
-
-pub paragraph_inner : (tag : Tag) → is_paragraph tag ≡ true → holds_dos tag ≡ true → ⊥
-paragraph_inner tags.P is = λ holds. absurd (cc holds)
-paragraph_inner tags.Pre is = λ holds. absurd (cc holds)
-paragraph_inner _ is = absurd (cc is)
 
 paragraph_unnamed : (tag : Tag) (rows : List (AttrName × List Part)) (kids : List Item)
     → is_paragraph tag ≡ true
@@ -80,18 +74,18 @@ filled_behind content node =
     let items = content.items ++ item.Node node ∷ [] in
     ap (λ (names : List (List ℕ)). record {
       names = names;
-      tags = tags_of_nodes (nodes_in (suc room) items);
+      pieces = pieces_of_nodes (nodes_in (suc room) items);
       signs = signs_in room items;
     }) (names_behind room content.items node)
-    ∙ ap (λ (some : List Tag). record {
+    ∙ ap (λ (some : List Piece). record {
       names = names_among true (suc room) content.items ++ names_with room node;
-      tags = some;
+      pieces = some;
       signs = signs_in room items;
-    }) (tags_behind room content.items node)
+    }) (pieces_behind room content.items node)
     ∙ ap (λ (some : List Part). record {
       names = names_among true (suc room) content.items ++ names_with room node;
-      tags = tags_of_nodes (nodes_in (suc room) content.items)
-          ++ tags_of_nodes (node ∷ nodes_in room node.kids);
+      pieces = pieces_of_nodes (nodes_in (suc room) content.items)
+          ++ pieces_of_nodes (node ∷ nodes_in room node.kids);
       signs = some;
     }) (signs_behind room content.items node)
 
@@ -130,7 +124,7 @@ element_added changes old new element takes taken follows is may done same =
 
 -- or it is noted
 pub element_lost : (before after : List Change) (content : Filled) (element : Built) (what : Lost)
-    → load_lost what ≡ given_node element.levels element.node
+    → IsSame (load_lost what) (given_node element.levels element.node)
     → IsNoted before after (load_lost what)
     → Collects before after content content (load_built element)
 element_lost before after content element what all noted = record {
@@ -170,12 +164,12 @@ names_of_text room items [] = refl
 names_of_text room items (more ∷ parts) =
     names_of_text room (part_after items more) parts ∙ names_same room items more
 
-tags_of_text : (room : ℕ) (items : List Item) (parts : List Part)
-    → tags_of_nodes (nodes_in (suc room) (marks_after items (map part parts)))
-    ≡ tags_of_nodes (nodes_in (suc room) items)
-tags_of_text room items [] = refl
-tags_of_text room items (more ∷ parts) =
-    tags_of_text room (part_after items more) parts ∙ tags_more room items more
+pieces_of_text : (room : ℕ) (items : List Item) (parts : List Part)
+    → pieces_of_nodes (nodes_in (suc room) (marks_after items (map part parts)))
+    ≡ pieces_of_nodes (nodes_in (suc room) items)
+pieces_of_text room items [] = refl
+pieces_of_text room items (more ∷ parts) =
+    pieces_of_text room (part_after items more) parts ∙ pieces_more room items more
 
 filled_text : (content : Filled) (parts : List Part)
     → load_filled (record content { items = marks_after content.items (map part parts) })
@@ -185,19 +179,19 @@ filled_text content parts =
     let items = marks_after content.items (map part parts) in
     ap (λ (names : List (List ℕ)). record {
       names = names;
-      tags = tags_of_nodes (nodes_in (suc room) items);
+      pieces = pieces_of_nodes (nodes_in (suc room) items);
       signs = signs_in room items;
     }) (names_of_text room content.items parts
     ∙ sym (append-nil (names_among true (suc room) content.items)))
-    ∙ ap (λ (some : List Tag). record {
+    ∙ ap (λ (some : List Piece). record {
       names = names_among true (suc room) content.items ++ [];
-      tags = some;
+      pieces = some;
       signs = signs_in room items;
-    }) (tags_of_text room content.items parts
-    ∙ sym (append-nil (tags_of_nodes (nodes_in (suc room) content.items))))
+    }) (pieces_of_text room content.items parts
+    ∙ sym (append-nil (pieces_of_nodes (nodes_in (suc room) content.items))))
     ∙ ap (λ (some : List Part). record {
       names = names_among true (suc room) content.items ++ [];
-      tags = tags_of_nodes (nodes_in (suc room) content.items) ++ [];
+      pieces = pieces_of_nodes (nodes_in (suc room) content.items) ++ [];
       signs = some;
     }) (signs_more room content.items parts)
 
@@ -298,7 +292,8 @@ blank_noted changes parts blank = record {
   lost =
       sym (ap (λ some. lost changes ++ some) (signs_blank parts blank)
       ∙ append-nil (lost changes));
-  gone = sym (append-nil (gone changes));
+  gone = λ test. grind (arith);
+  came = refl;
 }
 
 -- so nothing is gained with it
@@ -486,6 +481,31 @@ run_behind first second third run =
     ∙ ap (both (load_filled first))
     (sym (both_assoc (load_if second) (load_all third) (load_filled run)))
 
+-- none passes where a test says so of each
+none_pass : {X Y : Type 0} (test : Y → Bool) (make : X → Y) (xs : List X)
+    → ((x : X) → test (make x) ≡ false) → filter test (map make xs) ≡ []
+none_pass test make [] fails = refl
+none_pass test make (x ∷ xs) fails =
+    ap (λ b. cond b (make x ∷ filter test (map make xs)) (filter test (map make xs))) (fails x)
+    ∙ none_pass test make xs fails
+
+-- of a paragraph's attributes none are counted
+pub paragraph_rows : (tag : Tag) (rows : List (AttrName × List Part)) → is_paragraph tag ≡ true
+    → no_paragraphs (dressed tag rows) ≡ []
+paragraph_rows tag rows is =
+    none_pass (λ (piece : Piece). not (is_paragraph piece.0)) (λ row. (tag, Some row)) rows
+    (λ row. ap (λ b. not b) is)
+
+-- nor it itself
+pub paragraph_pieces : (node : Node) (nodes : List Node) → is_paragraph node.tag ≡ true
+    → pieces_of_nodes (node ∷ nodes) ≡ pieces_of_nodes nodes
+paragraph_pieces node nodes is =
+    filter-append (λ (piece : Piece). not (is_paragraph piece.0)) (own_pieces node)
+    (flat_map own_pieces nodes)
+    ∙ ap (λ own. own ++ pieces_of_nodes nodes)
+    (ap (λ b. cond (not b) ((node.tag, None) ∷ no_paragraphs (dressed node.tag node.attrs))
+    (no_paragraphs (dressed node.tag node.attrs))) is ∙ paragraph_rows node.tag node.attrs is)
+
 -- a paragraph has what it was made of
 paragraph_load : (attributes : Kept) (run : Filled) → is_paragraph attributes.tag ≡ true
     → load_built (record {
@@ -496,25 +516,23 @@ paragraph_load attributes run is =
     let inner = names_among true (suc run.room) run.items in
     let nodes = nodes_in (suc run.room) run.items in
     let signs = signs_in run.room run.items in
+    let node : Node =
+    record { tag = attributes.tag; attrs = attributes.rows; kids = run.items } in
     ap (λ (own : Option (List ℕ)). record {
       names = option_to_list own ++ inner;
-      tags = tags_of_nodes
-          (record { tag = attributes.tag; attrs = attributes.rows; kids = run.items } ∷ nodes);
+      pieces = pieces_of_nodes (node ∷ nodes);
       signs = signs;
     }) (paragraph_unnamed attributes.tag attributes.rows run.items is)
-    ∙ ap (λ (b : Bool). record {
-      names = inner;
-      tags = cond (not b) (attributes.tag ∷ tags_of_nodes nodes) (tags_of_nodes nodes);
-      signs = signs;
-    }) is
+    ∙ ap (λ (some : List Piece). record { names = inner; pieces = some; signs = signs })
+    (paragraph_pieces node nodes is)
 
 -- it ends, and is noted
 pub run_lost : (before after : List Change) (old : Framed) (first : Filled)
     (second : Option Built) (third : List Built) (run : Filled) (rule : Rule) (room : ℕ)
     (attributes : Kept) (what : Lost) → framed first second third run ≡ old
     → is_paragraph attributes.tag ≡ true
-    → load_lost what ≡ given_node (suc run.room)
-    (record { tag = attributes.tag; attrs = attributes.rows; kids = run.items })
+    → IsSame (load_lost what) (given_node (suc run.room)
+    (record { tag = attributes.tag; attrs = attributes.rows; kids = run.items }))
     → IsNoted before after (load_lost what)
     → Gains before after old
     (framed first second third (record { rule = rule; room = room; items = [] })) nothing

@@ -14,3 +14,5 @@ pub mod Causes
 pub mod Canonical
 pub mod Telling
 pub mod Muteness
+pub mod Pieces
+pub mod Dressing

@@ -1,10 +1,9 @@
 -- What the walk over an element puts into another.
-use Rattle.std.proofs.Common.{◌≡◌, ℕ, zero, suc, ◌+◌, ◌-◌, ◌<◌, ◌≤◌, Bool, true, false, not}
-use Rattle.std.proofs.Common.{List, [], ◌∷◌, ◌++◌, map, Option, Some, None, Result, Ok, Err, cond}
+use Rattle.std.proofs.Common.{◌≡◌, ℕ, zero, suc, ◌+◌, ◌-◌, ◌<◌, ◌≤◌, Bool, true, false}
+use Rattle.std.proofs.Common.{List, [], ◌∷◌, ◌++◌, Option, Some, None, Result, Ok, Err}
 use Rattle.std.proofs.Common.{length, get_or, take, add-one, refl, sym, ap, subst, ◌∙◌, arith}
 use Rattle.std.proofs.Math.Seq.{take-suc}
 use Rattle.std.specs.Prelude.{if◌then◌else◌, IfOk, IfSome, MatchOption}
-use Rattle.std.specs.Prelude.{filter}
 use Rattle.std.specs.List.{list_any, filter_map, flat_map, cons_option}
 use Rattle.std.proofs.lemmas.Grind.{flat_map-append}
 use Rattle.std.proofs.lemmas.List.Elements.{filter_map-append}
@@ -23,23 +22,24 @@ use Rattle.wap_tokens.specs.markup.Normal.{IsNode}
 use Rattle.wap_tokens.specs.markup.Trees.{node_of, node_from}
 use Rattle.wap_tokens.specs.markup.Good.{Rule, rule_of, rules, has_needs, nodes_in, name_of_do}
 use Rattle.wap_deckcheck.specs.Places.{own_name, names_among}
-use Rattle.wap_mend.specs.Accounts.{signs_of, signs_in, node_signs, lost, gone, IsWithin, number}
-use Rattle.wap_mend.specs.Accounts.{item_signs, tags_of_nodes, is_paragraph, but_paragraphs}
+use Rattle.wap_mend.specs.Accounts.{signs_of, signs_in, node_signs, lost, IsWithin, number}
+use Rattle.wap_mend.specs.Accounts.{item_signs, is_paragraph}
 use Rattle.wap_mend.specs.declared.change.Change.{Change}
-use Rattle.wap_mend.specs.declared.signs.Lost.{Lost}
+use Rattle.wap_mend.specs.declared.change.Lost.{Lost}
 use Rattle.wap_mend.specs.inside.Building.{Kept, Built, Filled}
-use Rattle.wap_mend.specs.inside.Names.{times, taken, once_if, names_with, own_name_of, Takes}
+use Rattle.wap_mend.specs.inside.Names.{times, taken, once_if, own_name_of, Takes}
 use Rattle.wap_mend.specs.inside.Names.{name_among}
 use Rattle.wap_mend.specs.inside.Frames.{Load, nothing, both, load_filled, load_built, load_if}
-use Rattle.wap_mend.specs.inside.Frames.{given_items, given_node, text_load, Keeps, Carries}
+use Rattle.wap_mend.specs.inside.Frames.{given_items, given_node, text_load, Keeps}
 use Rattle.wap_mend.specs.inside.Frames.{Framed, Gains, Closes, Moves, Puts, IsStill, IsNoted}
-use Rattle.wap_mend.specs.inside.Frames.{load_lost, tag_load}
+use Rattle.wap_mend.specs.inside.Frames.{load_lost, own_load, rows_load, dressed, own_pieces, Piece}
+use Rattle.wap_mend.specs.inside.Frames.{no_paragraphs, pieces_of_nodes, IsSame}
 use Rattle.wap_mend.proofs.Accounting.{within_refl, within_then, within_both, within_nothing}
-use Rattle.wap_mend.proofs.Accounting.{number-append, tags-append, signs_in-append}
+use Rattle.wap_mend.proofs.Accounting.{number-append, kept_number, pieces-append, signs_in-append}
 use Rattle.wap_mend.proofs.Counting.{times-append, distinct_once}
-use Rattle.wap_mend.proofs.Framing.{node_levels}
+use Rattle.wap_mend.proofs.Framing.{node_levels, paragraph_rows, paragraph_pieces}
 use Rattle.wap_mend.proofs.Loads.{both_nothing, keeps_still, keeps_lost, keeps_dropped, keeps_then}
-use Rattle.wap_mend.proofs.Loads.{still_then, noted_as, noted_built}
+use Rattle.wap_mend.proofs.Loads.{noted_same, noted_built, keeps_aside}
 
 -- ---- steps
 
@@ -48,7 +48,7 @@ pub keeps_made : (before one two after : List Change) (old ready new made given 
     → Keeps before one old ready nothing → Keeps one two nothing made given
     → Keeps two after ready new made → Keeps before after old new given
 keeps_made before one two after old ready new made given readies makes adds = record {
-  tags = λ test. grind (arith, readies.tags test, makes.tags test, adds.tags test);
+  pieces = λ test. grind (arith, readies.pieces test, makes.pieces test, adds.pieces test);
   order =
       within_then adds.order
       (within_both (subst (IsWithin ready.signs) (append-nil old.signs) readies.order)
@@ -61,7 +61,7 @@ pub keeps_gone : (before one after : List Change) (old ready given : Load)
     → Keeps before one old ready nothing → Keeps one after nothing nothing given
     → Keeps before after old ready given
 keeps_gone before one after old ready given readies makes = record {
-  tags = λ test. grind (arith, readies.tags test, makes.tags test);
+  pieces = λ test. grind (arith, readies.pieces test, makes.pieces test);
   order =
       within_then readies.order
       (within_both (within_refl old.signs) (within_nothing given.signs));
@@ -72,7 +72,12 @@ keeps_gone before one after old ready given readies makes = record {
 pub keeps_from : (before between after : List Change) (new given : Load) → IsStill before between
     → Keeps between after nothing new given → Keeps before after nothing new given
 keeps_from before between after new given still keeps = record {
-  tags = λ test. grind (arith, keeps.tags test, ap (number test) still.gone);
+  pieces = λ test. grind (
+    arith,
+    keeps.pieces test,
+    ap (number test) still.gone,
+    ap (number test) still.came,
+  );
   order = keeps.order;
   signs = λ test. grind (arith, keeps.signs test, ap (number test) still.lost);
 }
@@ -166,8 +171,13 @@ puts_from names_before names_after before between after old new given still puts
   load = record {
     names = puts.load.names;
     keeps = record {
-      tags = λ test.
-          grind (arith, puts.load.keeps.tags test, ap (number test) still.gone);
+      pieces = λ test.
+          grind (
+            arith,
+            puts.load.keeps.pieces test,
+            ap (number test) still.gone,
+            ap (number test) still.came,
+          );
       order = puts.load.keeps.order;
       signs = λ test.
           grind (arith, puts.load.keeps.signs test, ap (number test) still.lost);
@@ -190,54 +200,82 @@ puts_gains names before after old new given none gains = record {
 
 -- an element has its own tag, and what is in it
 pub given_own : (levels : ℕ) (node : Node) → 0 < levels
-    → both (tag_load node.tag) (given_items (levels - 1) node.kids) ≡ given_node levels node
+    → both (own_load node) (given_items (levels - 1) node.kids) ≡ given_node levels node
 given_own zero node deep = absurd (grind (arith, deep))
 given_own (suc levels) node deep =
     let same : suc levels - 1 ≡ levels = grind (arith) in
-    ap (λ l. both (tag_load node.tag) (given_items l node.kids)) same
-    ∙ ap (λ (some : List Tag). record {
+    ap (λ l. both (own_load node) (given_items l node.kids)) same
+    ∙ ap (λ (some : List Piece). record {
       names = [];
-      tags = some;
+      pieces = some;
       signs = signs_in levels node.kids;
-    }) (sym (tags-append (node ∷ []) (nodes_in (suc levels) node.kids)))
+    }) (sym (pieces-append (node ∷ []) (nodes_in (suc levels) node.kids)))
 
 -- the element is opened, which is noted: what is in it is put
 pub puts_opened : (names_before names_after : List (List ℕ)) (before one after : List Change)
     (old new : Framed) (levels : ℕ) (kids : List Item) (node : Node) → IsNode levels node
-    → kids ≡ node.kids → IsNoted before one (tag_load node.tag)
+    → kids ≡ node.kids → IsNoted before one (own_load node)
     → Puts names_before names_after one after old new (given_items (levels - 1) kids)
     → Puts names_before names_after before after old new (given_node levels node)
 puts_opened names_before names_after before one after old new levels kids node is same noted
     puts =
     subst (Puts names_before names_after before after old new)
-    (ap (λ some. both (tag_load node.tag) (given_items (levels - 1) some)) same
+    (ap (λ some. both (own_load node) (given_items (levels - 1) some)) same
     ∙ given_own levels node (node_levels levels node is))
     (puts_then names_before names_before names_after before one after old old new
-    (tag_load node.tag) (given_items (levels - 1) kids)
-    (puts_lost names_before before one old (tag_load node.tag) noted) puts)
+    (own_load node) (given_items (levels - 1) kids)
+    (puts_lost names_before before one old (own_load node) noted) puts)
 
 -- a paragraph by itself is nothing that is lost
-paragraph_noted : (changes : List Change) (tag : Tag) → is_paragraph tag ≡ true
-    → IsNoted changes changes (tag_load tag)
-paragraph_noted changes tag is = record {
+paragraph_noted : (changes : List Change) (node : Node) → is_paragraph node.tag ≡ true
+    → IsNoted changes changes (own_load node)
+paragraph_noted changes node is = record {
   lost = sym (append-nil (lost changes));
-  gone =
-      sym (ap (λ b. gone changes ++ cond (not b) (tag ∷ []) []) is ∙ append-nil (gone changes));
+  gone = λ test. grind (arith, ap (number test) (paragraph_pieces node [] is));
+  came = refl;
+}
+
+-- nor are its attributes
+paragraph_mended : (before after : List Change) (tag : Tag)
+    (got had : List (AttrName × List Part)) → is_paragraph tag ≡ true
+    → Keeps before after nothing (rows_load tag got) (rows_load tag had)
+    → Keeps before after nothing nothing nothing
+paragraph_mended before after tag got had is keeps = record {
+  pieces = λ test.
+      grind (
+        arith,
+        keeps.pieces test,
+        ap (number test) (paragraph_rows tag got is),
+        ap (number test) (paragraph_rows tag had is),
+      );
+  order = keeps.order;
+  signs = keeps.signs;
 }
 
 -- a paragraph is put: what is before it ends, what is in it is put, and it ends
 pub puts_paragraph : (names_before names_after : List (List ℕ))
     (before one two three after : List Change) (old entered full new : Framed) (levels : ℕ)
-    (kids : List Item) (node : Node) → IsNode levels node → is_paragraph node.tag ≡ true
-    → kids ≡ node.kids → IsStill before one → Gains one two old entered nothing
+    (kids : List Item) (node : Node) (got : List (AttrName × List Part)) → IsNode levels node
+    → is_paragraph node.tag ≡ true → kids ≡ node.kids
+    → Keeps before one nothing (rows_load node.tag got) (rows_load node.tag node.attrs)
+    → Gains one two old entered nothing
     → Puts names_before names_after two three entered full (given_items (levels - 1) kids)
     → Gains three after full new nothing
     → Puts names_before names_after before after old new (given_node levels node)
 puts_paragraph names_before names_after before one two three after old entered full new levels
-    kids node is paragraph same still enters inner leaves =
+    kids node got is paragraph same mends enters inner leaves =
     let given = given_items (levels - 1) kids in
     let first : Puts names_before names_before before one old old nothing =
-    puts_nothing names_before before one old still in
+    record {
+      rule = refl;
+      room = refl;
+      load = record {
+        names = λ text. grind (arith);
+        keeps =
+            keeps_aside before one old.load
+            (paragraph_mended before one node.tag got node.attrs paragraph mends);
+      };
+    } in
     let second : Puts names_before names_before before two old entered nothing =
     puts_then names_before names_before names_before before one two old old entered nothing
     nothing first (puts_gains names_before one two old entered nothing refl enters) in
@@ -248,7 +286,7 @@ puts_paragraph names_before names_after before one two three after old entered f
     puts_then names_before names_after names_after before three after old full new given nothing
     all (puts_gains names_after three after full new nothing refl leaves) in
     puts_opened names_before names_after before before after old new levels kids node is same
-    (paragraph_noted before node.tag paragraph)
+    (paragraph_noted before node paragraph)
     (subst (Puts names_before names_after before after old new) (both_nothing given) end)
 
 -- an element that was made is put, or none
@@ -287,67 +325,133 @@ puts_none names_before names_after before one after old ready given readies move
 
 -- it is made with a name
 pub moves_named : (names_before between names_after : List (List ℕ))
-    (before one two after : List Change) (kept : Kept) (element : Built) (given : Load)
-    → IsStill before one → IsStill one two
+    (before after : List Change) (kept : Kept) (element : Built) (given : Load)
     → Takes names_before between [] (option_to_list (own_name_of kept))
     → element.node.tag ≡ kept.tag → element.node.attrs ≡ kept.rows
     → Takes between names_after [] (names_among true element.levels element.node.kids)
-    → Keeps two after nothing (load_built element) given
+    → Keeps before after nothing (load_built element) given
     → Moves names_before names_after before after nothing (load_built element) given
-moves_named names_before between names_after before one two after kept element given first
-    second own tag rows inner keeps = record {
+moves_named names_before between names_after before after kept element given own tag rows inner
+    keeps = record {
       names = takes_then names_before between names_after
           (option_to_list (own_name true element.node))
           (names_among true element.levels element.node.kids)
           (subst (λ name. Takes names_before between [] (option_to_list name))
           (sym (own_same kept element.node tag rows)) own) inner;
-      keeps = keeps_from before two after (load_built element) given (still_then before one two first second) keeps;
+      keeps = keeps;
     }
 
 pub moves_none : (names_before between names_after some : List (List ℕ))
-    (before one two after : List Change) (given : Load) → IsStill before one
-    → IsStill one two → Takes names_before between [] some → Takes between names_after [] []
-    → Keeps two after nothing nothing given
+    (before after : List Change) (given : Load) → Takes names_before between [] some
+    → Takes between names_after [] [] → Keeps before after nothing nothing given
     → Moves names_before names_after before after nothing nothing given
-moves_none names_before between names_after some before one two after given first second own
-    inner keeps = record {
-      names = takes_none names_before between names_after some own inner;
-      keeps = keeps_from before two after nothing given (still_then before one two first second) keeps;
-    }
+moves_none names_before between names_after some before after given own inner keeps = record {
+  names = takes_none names_before between names_after some own inner;
+  keeps = keeps;
+}
 
 -- either
 pub made_named : {E : Type 0} (names_before between names_after : List (List ℕ))
-    (before one two after : List Change) (kept : Kept) (room : ℕ) (given : Load)
-    (result : Result (Option Built) E) → IsStill before one → IsStill one two
-    → Takes names_before between [] (option_to_list (own_name_of kept))
+    (before after : List Change) (kept : Kept) (room : ℕ) (given : Load)
+    (result : Result (Option Built) E) → Takes names_before between [] (option_to_list (own_name_of
+    kept))
     → IfOk result (λ made. IfSome made (λ element. (element.levels ≡ room)
     × (element.node.tag ≡ kept.tag) × (element.node.attrs ≡ kept.rows)))
     → IfOk result (λ made. MatchOption made (Takes between names_after [] [])
     (λ element. Takes between names_after [] (names_among true element.levels element.node.kids)))
-    → IfOk result (λ made. Keeps two after nothing (load_if made) given)
+    → IfOk result (λ made. Keeps before after nothing (load_if made) given)
     → IfOk result (λ made. Moves names_before names_after before after nothing (load_if made) given)
-made_named names_before between names_after before one two after kept room given (Err e) first
-    second own same takes keeps = tt
-made_named names_before between names_after before one two after kept room given (Ok None) first
-    second own same takes keeps =
-    moves_none names_before between names_after (option_to_list (own_name_of kept)) before one two
-    after given first second own takes keeps
-made_named names_before between names_after before one two after kept room given
-    (Ok (Some element)) first second own same takes keeps =
-    moves_named names_before between names_after before one two after kept element given first
-    second own same.1 same.2 takes keeps
+made_named names_before between names_after before after kept room given (Err e) own same takes
+    keeps = tt
+made_named names_before between names_after before after kept room given (Ok None) own same takes
+    keeps =
+    moves_none names_before between names_after (option_to_list (own_name_of kept)) before after
+    given own takes keeps
+made_named names_before between names_after before after kept room given (Ok (Some element)) own
+    same takes keeps =
+    moves_named names_before between names_after before after kept element given own same.1 same.2
+    takes keeps
+
+-- the attributes of an element, and it without them
+pub own_dressed : (test : Piece → Bool) (node : Node) (rows : List (AttrName × List Part))
+    (nodes : List Node) → number test (pieces_of_nodes (record node { attrs = rows } ∷ nodes))
+    ≡ number test (no_paragraphs (dressed node.tag rows))
+    + number test (pieces_of_nodes (record node { attrs = [] } ∷ nodes))
+own_dressed test node rows nodes =
+    let own : List Piece = (node.tag, None) ∷ [] in
+    let below = flat_map own_pieces nodes in
+    grind (
+      arith,
+      kept_number test own (dressed node.tag rows ++ below),
+      kept_number test (dressed node.tag rows) below,
+      kept_number test own below,
+    )
+
+-- its signs are the same with any attributes
+pub signs_dressed : (levels : ℕ) (node : Node) (rows : List (AttrName × List Part))
+    → node_signs levels (record node { attrs = rows }) ≡ node_signs levels node
+signs_dressed zero node rows = refl
+signs_dressed (suc levels) node rows = refl
+
+-- an element is made with other attributes than it had
+pub keeps_dressed : (before one after : List Change) (node : Node) (levels : ℕ)
+    (had got : List (AttrName × List Part)) (new : Load)
+    → Keeps before one nothing (rows_load node.tag got) (rows_load node.tag had)
+    → Keeps one after nothing new (given_node levels (record node { attrs = got }))
+    → Keeps before after nothing new (given_node levels (record node { attrs = had }))
+keeps_dressed before one after node levels had got new mends keeps = record {
+  pieces = λ test.
+      grind (
+        arith,
+        mends.pieces test,
+        keeps.pieces test,
+        own_dressed test node got (nodes_in levels node.kids),
+        own_dressed test node had (nodes_in levels node.kids),
+      );
+  order = subst (IsWithin new.signs) same keeps.order;
+  signs = λ test. grind (arith, mends.signs test, keeps.signs test, ap (number test) same);
+}
+  where
+    same : node_signs levels (record node { attrs = got })
+        ≡ node_signs levels (record node { attrs = had })
+    same = signs_dressed levels node got ∙ sym (signs_dressed levels node had)
+
+-- with those that may stand, and these told apart
+pub keeps_told : (before one two after : List Change) (node : Node) (levels : ℕ)
+    (mended told : Kept) (new : Load)
+    → Keeps before one nothing (rows_load node.tag mended.rows) (rows_load node.tag node.attrs)
+    → mended.tag ≡ node.tag
+    → Keeps one two nothing (rows_load told.tag told.rows) (rows_load mended.tag mended.rows)
+    → told.tag ≡ mended.tag
+    → Keeps two after nothing new (given_node levels (record node { attrs = told.rows }))
+    → Keeps before after nothing new (given_node levels node)
+keeps_told before one two after node levels mended told new mends is tells same keeps =
+    keeps_dressed before one after node levels node.attrs mended.rows new mends
+    (keeps_dressed one two after node levels mended.rows told.rows new
+    (subst (λ tag. Keeps one two nothing (rows_load tag told.rows) (rows_load node.tag mended.rows))
+    (same ∙ is)
+    (subst (λ tag. Keeps one two nothing (rows_load told.tag told.rows)
+    (rows_load tag mended.rows)) is tells)) keeps)
 
 -- or goes for want of a name
 pub moves_lost : (names_before names_after : List (List ℕ)) (before one two after : List Change)
-    (given : Load) (what : Lost) → IsStill before one → IsStill one two
-    → Takes names_before names_after [] [] → load_lost what ≡ given
+    (node : Node) (levels : ℕ) (mended : Kept) (what : Lost)
+    → Keeps before one nothing (rows_load node.tag mended.rows) (rows_load node.tag node.attrs)
+    → mended.tag ≡ node.tag
+    → Keeps one two nothing nothing (rows_load mended.tag mended.rows)
+    → Takes names_before names_after [] []
+    → IsSame (load_lost what) (given_node levels (record node { attrs = [] }))
     → IsNoted two after (load_lost what)
-    → Moves names_before names_after before after nothing nothing given
-moves_lost names_before names_after before one two after given what first second takes all
-    noted = record {
+    → Moves names_before names_after before after nothing nothing (given_node levels node)
+moves_lost names_before names_after before one two after node levels mended what mends is tells
+    takes all noted = record {
       names = takes;
-      keeps = keeps_from before two after nothing given (still_then before one two first second)
-          (keeps_lost two after nothing given (noted_as two after (load_lost what) given all noted));
+      keeps =
+          keeps_told before one two after node levels mended
+          (record { tag = mended.tag; rows = [] }) nothing mends is tells refl
+          (keeps_lost two after nothing (given_node levels (record node { attrs = [] }))
+          (noted_same two after (load_lost what)
+          (given_node levels (record node { attrs = [] })) all noted));
     }
 
 -- what is put into an element of which nothing is there is what it has when it is closed
@@ -391,22 +495,23 @@ closed_keeps names_before names_after before between after rule room whole conte
     puts.load.keeps closes.load.keeps)
 
 -- its own tag comes first
-own_number : (test : Tag → Bool) (node : Node) (nodes : List Node)
-    → number test (tags_of_nodes (node ∷ nodes))
-    ≡ number test (tags_of_nodes (node ∷ [])) + number test (tags_of_nodes nodes)
+own_number : (test : Piece → Bool) (node : Node) (nodes : List Node)
+    → number test (pieces_of_nodes (node ∷ nodes))
+    ≡ number test (pieces_of_nodes (node ∷ [])) + number test (pieces_of_nodes nodes)
 own_number test node nodes =
-    ap (number test) (tags-append (node ∷ []) nodes)
-    ∙ number-append test (tags_of_nodes (node ∷ [])) (tags_of_nodes nodes)
+    ap (number test) (pieces-append (node ∷ []) nodes)
+    ∙ number-append test (pieces_of_nodes (node ∷ [])) (pieces_of_nodes nodes)
 
 -- with its own tag
 keeps_own : (before after : List Change) (content : Filled) (element : Built) (levels : ℕ)
     (node : Node) → 0 < levels → element.levels ≡ suc content.room
     → element.node.kids ≡ content.items → element.node.tag ≡ node.tag
-    → Keeps before after nothing (load_filled content) (given_items (levels - 1) node.kids)
+    → element.node.attrs ≡ node.attrs → Keeps before after nothing (load_filled content)
+    (given_items (levels - 1) node.kids)
     → Keeps before after nothing (load_built element) (given_node levels node)
-keeps_own before after content element zero node deep at kids own keeps =
+keeps_own before after content element zero node deep at kids own rows keeps =
     absurd (grind (arith, deep))
-keeps_own before after content element (suc levels) node deep at kids own keeps =
+keeps_own before after content element (suc levels) node deep at kids own rows keeps =
     let same : suc levels - 1 ≡ levels = grind (arith) in
     let here =
     subst (λ l. Keeps before after nothing (load_filled content) (given_items l node.kids)) same
@@ -414,14 +519,17 @@ keeps_own before after content element (suc levels) node deep at kids own keeps 
     let signs : node_signs element.levels element.node ≡ signs_in content.room content.items =
     ap (λ l. node_signs l element.node) at ∙ ap (signs_in content.room) kids in
     record {
-      tags = λ test.
+      pieces = λ test.
           grind (
             arith,
-            here.tags test,
+            here.pieces test,
             own_number test element.node (nodes_in element.levels element.node.kids),
             own_number test node (nodes_in (suc levels) node.kids),
-            ap (λ (tag : Tag). number test (but_paragraphs (tag ∷ []))) own,
-            ap (λ nodes. number test (tags_of_nodes nodes))
+            ap (λ (tag : Tag). number test
+                (no_paragraphs (((tag, None) ∷ dressed tag element.node.attrs) ++ []))) own,
+            ap (λ (some : List (AttrName × List Part)). number test
+                (no_paragraphs (((node.tag, None) ∷ dressed node.tag some) ++ []))) rows,
+            ap (λ nodes. number test (pieces_of_nodes nodes))
                 (ap (λ l. nodes_in l element.node.kids) at ∙ ap (nodes_in (suc content.room)) kids),
           );
       order = subst (λ some. IsWithin some (signs_in levels node.kids)) (sym signs) here.order;
@@ -438,30 +546,16 @@ pub made_keeps : (names_before names_after : List (List ℕ)) (before between af
     → Closes between after whole content → attributes.tag ≡ node.tag → element ≡ record {
       levels = suc content.room;
       node = record { tag = attributes.tag; attrs = attributes.rows; kids = content.items };
-    } → Keeps before after nothing (load_built element) (given_node levels node)
+    }
+    → Keeps before after nothing (load_built element)
+    (given_node levels (record node { attrs = attributes.rows }))
 made_keeps names_before names_after before between after rule room whole content attributes
     element levels node deep puts closes tag made =
-    keeps_own before after content element levels node deep (ap (λ (e : Built). e.levels) made)
-    (ap (λ (e : Built). e.node.kids) made) (ap (λ (e : Built). e.node.tag) made ∙ tag)
+    keeps_own before after content element levels (record node { attrs = attributes.rows }) deep
+    (ap (λ (e : Built). e.levels) made) (ap (λ (e : Built). e.node.kids) made)
+    (ap (λ (e : Built). e.node.tag) made ∙ tag) (ap (λ (e : Built). e.node.attrs) made)
     (closed_keeps names_before names_after before between after rule room whole content
     (given_items (levels - 1) node.kids) puts closes)
-
--- with these names
-pub made_takes : (names_before names_after : List (List ℕ)) (before between after : List Change)
-    (rule : Rule) (room : ℕ) (whole : Framed) (content : Filled) (attributes : Kept)
-    (element : Built) (given : Load) → Puts names_before names_after before between
-    (record { rule = rule; room = room; load = nothing; running = nothing }) whole given
-    → Closes between after whole content → element ≡ record {
-      levels = suc content.room;
-      node = record { tag = attributes.tag; attrs = attributes.rows; kids = content.items };
-    }
-    → Takes names_before names_after [] (names_among true element.levels element.node.kids)
-made_takes names_before names_after before between after rule room whole content attributes
-    element given puts closes made =
-    subst (λ (e : Built). Takes names_before names_after []
-    (names_among true e.levels e.node.kids)) (sym made)
-    (closed_takes names_before names_after before between after rule room whole content given
-    puts closes)
 
 -- that are distinct where none was taken before
 pub made_apart : (names_before names_after : List (List ℕ)) (before between after : List Change)
@@ -488,27 +582,22 @@ pub unmade_keeps : (names_before names_after : List (List ℕ))
     (given_items (levels - 1) node.kids)
     → Closes between closed whole content → attributes.tag ≡ node.tag
     → unmade ≡ record { tag = attributes.tag; attrs = attributes.rows; kids = content.items }
-    → load_lost what ≡ given_node above unmade → IsNoted closed after (load_lost what)
-    → Keeps before after nothing nothing (given_node levels node)
+    → IsSame (load_lost what) (given_node above unmade) → IsNoted closed after (load_lost what)
+    → Keeps before after nothing nothing
+    (given_node levels (record node { attrs = attributes.rows }))
 unmade_keeps names_before names_after before between closed after rule room whole content
     attributes unmade what above levels node deep at puts closes tag made all noted =
     let one : Built = record {
       levels = suc content.room;
       node = record { tag = attributes.tag; attrs = attributes.rows; kids = content.items };
     } in
-    keeps_dropped before closed after nothing (load_built one) (given_node levels node)
+    keeps_dropped before closed after nothing (load_built one)
+    (given_node levels (record node { attrs = attributes.rows }))
     (made_keeps names_before names_after before between closed rule room whole content attributes
     one levels node deep puts closes tag refl)
     (noted_built closed after what one
-    (all ∙ ap (λ l. given_node l unmade) at ∙ ap (given_node (suc content.room)) made) noted)
-
-pub unmade_takes : (names_before names_after : List (List ℕ)) (before between after : List Change)
-    (rule : Rule) (room : ℕ) (whole : Framed) (given : Load)
-    → Puts names_before names_after before between
-    (record { rule = rule; room = room; load = nothing; running = nothing }) whole given
-    → Takes names_before names_after [] []
-unmade_takes names_before names_after before between after rule room whole given puts text =
-    grind (arith, puts.load.names text)
+    (subst (IsSame (load_lost what)) (ap (λ l. given_node l unmade) at
+    ∙ ap (given_node (suc content.room)) made) all) noted)
 
 -- a card has nothing that it can't do without
 pub card_whole : (rule : Rule) (node : Node) → rule ≡ rule_of tags.Card
@@ -523,19 +612,19 @@ pub given_behind : (levels : ℕ) (items more : List Item)
     → given_items levels (items ++ more) ≡ both (given_items levels items) (given_items levels more)
 given_behind levels items more =
     let below : Node → List Node = λ node. node ∷ nodes_in levels node.kids in
-    ap (λ (some : List Tag). record {
+    ap (λ (some : List Piece). record {
       names = [];
-      tags = some;
+      pieces = some;
       signs = signs_in levels (items ++ more);
-    }) (ap (λ nodes. tags_of_nodes (flat_map below nodes)) (filter_map-append node_of items more)
-    ∙ ap tags_of_nodes
+    }) (ap (λ nodes. pieces_of_nodes (flat_map below nodes)) (filter_map-append node_of items more)
+    ∙ ap pieces_of_nodes
     (flat_map-append below (filter_map node_of items) (filter_map node_of more))
-    ∙ tags-append (flat_map below (filter_map node_of items))
+    ∙ pieces-append (flat_map below (filter_map node_of items))
     (flat_map below (filter_map node_of more)))
     ∙ ap (λ (some : List Part). record {
       names = [];
-      tags = tags_of_nodes (nodes_in (suc levels) items)
-          ++ tags_of_nodes (nodes_in (suc levels) more);
+      pieces = pieces_of_nodes (nodes_in (suc levels) items)
+          ++ pieces_of_nodes (nodes_in (suc levels) more);
       signs = some;
     }) (signs_in-append levels items more)
 
@@ -545,11 +634,11 @@ pub given_text : (levels : ℕ) (one : Item) (parts : List Part) → out-Item on
 given_text levels one parts is =
     ap (λ level. record {
       names = [];
-      tags = tags_of_nodes (flat_map (λ node. node ∷ nodes_in levels node.kids)
+      pieces = pieces_of_nodes (flat_map (λ node. node ∷ nodes_in levels node.kids)
           (cons_option (node_from level) []));
       signs = item_signs (node_signs levels) level ++ [];
     }) is
-    ∙ ap (λ (some : List Part). record { names = []; tags = []; signs = some })
+    ∙ ap (λ (some : List Part). record { names = []; pieces = []; signs = some })
     (append-nil (signs_of parts))
 
 pub given_one : (levels : ℕ) (one : Item) (node : Node) → out-Item one ≡ Item-F.Node node
@@ -557,18 +646,18 @@ pub given_one : (levels : ℕ) (one : Item) (node : Node) → out-Item one ≡ I
 given_one levels one node is =
     ap (λ level. record {
       names = [];
-      tags = tags_of_nodes (flat_map (λ node. node ∷ nodes_in levels node.kids)
+      pieces = pieces_of_nodes (flat_map (λ node. node ∷ nodes_in levels node.kids)
           (cons_option (node_from level) []));
       signs = item_signs (node_signs levels) level ++ [];
     }) is
     ∙ ap (λ nodes. record {
       names = [];
-      tags = tags_of_nodes (node ∷ nodes);
+      pieces = pieces_of_nodes (node ∷ nodes);
       signs = node_signs levels node ++ [];
     }) (append-nil (nodes_in levels node.kids))
     ∙ ap (λ (some : List Part). record {
       names = [];
-      tags = tags_of_nodes (node ∷ nodes_in levels node.kids);
+      pieces = pieces_of_nodes (node ∷ nodes_in levels node.kids);
       signs = some;
     }) (append-nil (node_signs levels node))
 
@@ -583,7 +672,8 @@ module _ (items : List Item) (n : ℕ) (one : Item) (within : n < length items)
   -- one item more is put
   pub puts_turn : (names_before names_between names_after : List (List ℕ))
       (before one_before two_before after : List Change) (old mid new : Framed) (levels : ℕ)
-      → Puts names_before names_between before one_before old mid (given_items levels (take n items))
+      → Puts names_before names_between before one_before old mid (given_items levels (take n
+      items))
       → IsStill one_before two_before
       → Puts names_between names_after two_before after mid new (given_items levels (one ∷ []))
       → Puts names_before names_after before after old new (given_items levels (take (n + 1) items))

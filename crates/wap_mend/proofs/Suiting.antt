@@ -256,7 +256,7 @@ found_suits None tag rows left kids one (Some last) is none fits popped =
 -- ---- another name
 
 -- none of that name is among the others
-others_free : (wanted : AttrName) (rows : List (AttrName × List Part))
+pub others_free : (wanted : AttrName) (rows : List (AttrName × List Part))
     → has_name wanted (filter (λ row. not (is_named wanted row)) rows) ≡ false
 others_free wanted [] = refl
 others_free wanted (row ∷ rows) =
@@ -281,36 +281,23 @@ name_last (row ∷ rows) value free =
     (cond test (Some row) (find (λ a. is_same_attr a.0 attrs.Name) behind))) apart.0
     ∙ name_last rows value apart.1
 
-module _ (attributes named : Kept) (attribute : AttrName × List Part) (value : List Part)
+module _ (attributes : Kept) (attribute : AttrName × List Part) (value : List Part)
     (found : Option (AttrName × List Part)) (is : found ≡ Some attribute)
-    (same : IfSome found (λ one. one ≡ (attrs.Name, value)))
-    (others : named ≡ record {
-      tag = attributes.tag;
-      rows = filter (λ row. not (is_named attrs.Name row)) attributes.rows;
-    }) where
+    (same : IfSome found (λ one. one ≡ (attrs.Name, value))) where
   -- what is added is the name
-  is_name : attribute ≡ (attrs.Name, value)
+  pub is_name : attribute ≡ (attrs.Name, value)
   is_name = subst (λ some. IfSome some (λ one. one ≡ (attrs.Name, value))) is same
 
-  -- no name is left
-  free : has_name attrs.Name named.rows ≡ false
-  free =
-      ap (λ (kept : Kept). has_name attrs.Name kept.rows) others
-      ∙ others_free attrs.Name attributes.rows
-
-  -- none of the name that is added is left
-  pub renamed_free : has_name attribute.0 named.rows ≡ false
-  renamed_free =
-      ap (λ (one : AttrName × List Part). has_name one.0 named.rows) is_name ∙ free
-
   -- the name is the one that is added
-  pub is_renamed : (after : Kept) (name : List ℕ)
-      → after ≡ record { tag = named.tag; rows = named.rows ++ attribute ∷ [] }
-      → plain_text value ≡ Some name → name_among after.rows ≡ Some name
-  is_renamed after name added plain =
-      ap (λ (kept : Kept). name_among kept.rows) added
-      ∙ ap (λ one. name_among (named.rows ++ one ∷ [])) is_name
+  pub is_renamed : (after : Kept) (name : List ℕ) → after ≡ record {
+    tag = attributes.tag;
+    rows = filter (λ row. not (is_named attrs.Name row)) attributes.rows ++ attribute ∷ [];
+  } → plain_text value ≡ Some name → name_among after.rows ≡ Some name
+  is_renamed after name renamed plain =
+      let others = filter (λ row. not (is_named attrs.Name row)) attributes.rows in
+      ap (λ (kept : Kept). name_among kept.rows) renamed
+      ∙ ap (λ one. name_among (others ++ one ∷ [])) is_name
       ∙ ap (λ first. option_and_then plain_text (first_of first
-      (value_among attrs.Type (named.rows ++ (attrs.Name, value) ∷ []))))
-      (name_last named.rows value free)
+      (value_among attrs.Type (others ++ (attrs.Name, value) ∷ []))))
+      (name_last others value (others_free attrs.Name attributes.rows))
       ∙ plain

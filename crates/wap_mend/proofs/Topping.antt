@@ -1,6 +1,6 @@
 -- The root that is being put together: its elements may stand where they stand, and the ids of the
 -- cards are distinct.
-use Rattle.std.proofs.Common.{◌≡◌, ◌≢◌, ℕ, zero, suc, ◌+◌, ◌-◌, ◌<◌, ◌≤◌, Bool, true, false, ◌&&◌}
+use Rattle.std.proofs.Common.{◌≡◌, ℕ, zero, suc, ◌+◌, ◌-◌, ◌<◌, ◌≤◌, Bool, true, false, ◌&&◌}
 use Rattle.std.proofs.Common.{nat_eq, cond, List, [], ◌∷◌, ◌++◌, length, get_or, take, map, Option}
 use Rattle.std.proofs.Common.{Some, None, Result, Ok, Err, refl, sym, ap, subst, ◌∙◌, append_assoc}
 use Rattle.std.proofs.Common.{eq-eqb, arith}
@@ -8,7 +8,7 @@ use Rattle.std.specs.Prelude.{is_some, IfSome, IfOk, not, filter, find}
 use Rattle.std.specs.List.{list_all, filter_map, cons_option, AllByRecursion}
 use Rattle.std.specs.Option.{option_to_list, option_map, option_and_then}
 use Rattle.std.proofs.lemmas.List.Elements.{filter_map-append}
-use denote.Enum.Bare.{true_same, false_same}
+use denote.Enum.Bare.{true_same}
 use Rattle.wap_base.specs.declared.name.Part.{Part}
 use Rattle.std.proofs.lemmas.List.{append-nil, map-append, take_more}
 use Rattle.std.proofs.lemmas.List.Folds.{list_all-append}
@@ -43,11 +43,6 @@ pub nothing_topped : (ids : List (List ℕ))
     → IsTop (record { head = None; template = None; cards = []; ids = ids })
 nothing_topped ids =
     record { head = tt; template = tt; cards = tt; head_mute = refl; template_mute = refl }
-
--- no card has an id
-pub nothing_taken : (ids : List (List ℕ))
-    → AreTaken (record { head = None; template = None; cards = []; ids = ids }) None
-nothing_taken ids = record { each = λ text. omega arith }
 
 -- ---- what may follow in the root
 
@@ -253,10 +248,6 @@ times_append : (text : List ℕ) (texts more : List (List ℕ))
 times_append text [] more = omega arith
 times_append text (first ∷ texts) more = omega (arith, times_append text texts more)
 
--- ids that are taken with one more are so without it
-pub fewer_taken : (top : Topped) (more : Option (List ℕ)) → AreTaken top more → AreTaken top None
-fewer_taken top more are = record { each = λ text. omega (arith, are.each text) }
-
 -- no id more is taken
 pub none_more : (top new : Topped) (more : Option (List ℕ)) → AreTaken top None
     → new ≡ top → more ≡ None → AreTaken new more
@@ -309,21 +300,6 @@ no_own_id told given is =
     both_none false = refl
 
 -- ---- elements that get there
-
--- an element that is no card
-pub gathers_other : (old new : Topped) (node : Node) → AreTaken old (own_id node)
-    → new.cards ≡ old.cards → new.ids ≡ old.ids → (node.tag ≡ tags.Card → ⊥)
-    → Gathers old new (option_to_list (if_tagged tags.Card (Some node)))
-gathers_other old new node are cards ids other = record {
-  taken = record {
-    each = λ text.
-        rw (cards, ids) (omega (arith, are.each text));
-  };
-  before = λ none. sym cards ∙ none;
-  found = λ none.
-      ap (λ test. option_to_list (cond test (Some node) None))
-      (false_same type.the_type tt node.tag tags.Card other);
-}
 
 -- a card
 pub gathers_card : (old new : Topped) (card : Built) → AreTaken old (own_id card.node)
@@ -403,11 +379,6 @@ pub node_levels : (levels : ℕ) (node : Node) → IsNode levels node → 1 ≤ 
 node_levels zero node is = absurd is
 node_levels (suc levels) node is = omega arith
 
--- their tags are known
-pub node_known : (levels : ℕ) (node : Node) → IsNode levels node → node.tag ≢ tags.Other
-node_known zero node is = absurd is
-node_known (suc levels) node is = is.known
-
 -- their attributes are as they have to be
 pub node_attributes : (levels : ℕ) (node : Node) → IsNode levels node
     → AllByRecursion IsAttribute node.attrs
@@ -458,35 +429,6 @@ item_gathered old between new items n item within is first next =
     ∙ ap (filter_map card) (sym (take_more items n item within)))
     (gathers_more old between new (filter_map card (take n items)) (option_to_list (card item))
     first next)
-
--- a node that is no card
-pub no_card_gathered : (old new : Topped) (nodes : List Node) (node : Node)
-    → Gathers old new nodes → (node.tag ≡ tags.Card → ⊥)
-    → Gathers old new (option_to_list (if_tagged tags.Card (Some node)))
-no_card_gathered old new nodes node gathers other = record {
-  taken = gathers.taken;
-  before = gathers.before;
-  found = λ none.
-      ap (λ test. option_to_list (cond test (Some node) None))
-      (false_same type.the_type tt node.tag tags.Card other);
-}
-
--- a node for which one of its tag is added
-pub made_gathered : (old between new : Topped) (node one : Node) → between.cards ≡ old.cards
-    → one.tag ≡ node.tag → Gathers between new (option_to_list (if_tagged tags.Card (Some one)))
-    → Gathers old new (option_to_list (if_tagged tags.Card (Some node)))
-made_gathered old between new node one same tag gathers = record {
-  taken = gathers.taken;
-  before = λ none. sym same ∙ gathers.before none;
-  found = λ none. by_test (is_same_tag node.tag tags.Card)
-      (ap (λ tag. option_to_list (cond (is_same_tag tag tags.Card) (Some one) None)) (sym tag)
-      ∙ gathers.found none);
-}
-  where
-    by_test : (test : Bool) → option_to_list (cond test (Some one) None) ≡ []
-        → option_to_list (cond test (Some node) None) ≡ []
-    by_test true none = absurd (cc none)
-    by_test false none = refl
 
 -- the id of what is made of attributes is theirs
 pub made_id : (ids : Topped) (told : Kept) (node : Node) → node.tag ≡ told.tag

@@ -1,6 +1,6 @@
--- What stays of the texts and elements of a deck that is mended, and what changes say is lost. This
--- project's own.
-use Rattle.std.specs.Prelude.{◌≡◌, ℕ, zero, suc, ◌+◌, Bool, true, false, not, ◌||◌, map}
+-- What stays of the texts, elements and attributes of a deck that is mended, and what changes say
+-- is lost. This project's own.
+use Rattle.std.specs.Prelude.{◌≡◌, ℕ, zero, suc, ◌+◌, Bool, not, ◌||◌, map}
 use Rattle.std.specs.Prelude.{filter, length, List, [], ◌∷◌, ◌++◌}
 use Rattle.std.specs.List.{flat_map}
 use Rattle.wap_base.specs.declared.name.Part.{Part}
@@ -9,6 +9,7 @@ use Rattle.wap_tokens.specs.declared.markup.deck.Deck.{Deck}
 use Rattle.wap_tokens.specs.declared.markup.deck.Node.{Node}
 use Rattle.wap_tokens.specs.declared.markup.deck.Item.{Item, out-Item}
 use Rattle.wap_tokens.specs.declared.markup.deck.Item.TheOpen.{Item-F}
+use Rattle.wap_tokens.specs.declared.markup.name.AttrName.{AttrName}
 use Rattle.wap_tokens.specs.declared.markup.name.Tag.{Tag}
 use Rattle.wap_tokens.specs.declared.markup.name.Tag.TheVariants as tags
 use Rattle.wap_tokens.specs.declared.markup.document.TheConstants.{LEVEL_LIMIT}
@@ -50,7 +51,7 @@ signs deck = node_signs LEVEL_LIMIT deck.root
 
 -- those that changes say are lost
 abbrev pub lost : List Change → List Part
-lost changes = flat_map (λ change. signs_of change.lost) changes
+lost changes = flat_map (λ change. signs_of change.lost.texts) changes
 
 -- ---- order and number
 
@@ -78,7 +79,32 @@ tags_of_nodes nodes = but_paragraphs (map (λ node. node.tag) nodes)
 
 -- the tags of the elements that changes say are gone, but for paragraphs
 abbrev pub gone : List Change → List Tag
-gone changes = flat_map (λ change. but_paragraphs change.gone) changes
+gone changes = flat_map (λ change. but_paragraphs change.lost.elements) changes
+
+-- ---- attributes
+
+-- an attribute of an element of a tag, with its value
+abbrev pub Attribute : Type 0
+Attribute = Tag × AttrName × List Part
+
+-- some attributes, but for those of paragraphs
+abbrev pub of_no_paragraph : List Attribute → List Attribute
+of_no_paragraph all = filter (λ attribute. not (is_paragraph attribute.0)) all
+
+-- those of an element of a tag, if it isn't a paragraph
+abbrev pub attributes_of : Tag → List (AttrName × List Part) → List Attribute
+attributes_of tag own = of_no_paragraph (map (λ row. (tag, row.0, row.1)) own)
+
+-- those of nodes
+abbrev pub attributes_of_nodes : List Node → List Attribute
+attributes_of_nodes nodes = flat_map (λ node. attributes_of node.tag node.attrs) nodes
+
+-- those that changes say are gone, and those that they say came
+abbrev pub gone_attributes : List Change → List Attribute
+gone_attributes changes = flat_map (λ change. of_no_paragraph change.lost.attributes) changes
+
+abbrev pub came : List Change → List Attribute
+came changes = flat_map (λ change. of_no_paragraph change.came) changes
 
 -- ---- decks
 
@@ -86,12 +112,22 @@ gone changes = flat_map (λ change. but_paragraphs change.gone) changes
 abbrev pub elements : Deck → List Tag
 elements deck = tags_of_nodes (nodes_in LEVEL_LIMIT deck.root.kids)
 
+-- the attributes of the elements of a deck, but for paragraphs; its root counts as wml
+abbrev pub attributes : Deck → List Attribute
+attributes deck =
+    attributes_of tags.Wml deck.root.attrs
+    ++ attributes_of_nodes (nodes_in LEVEL_LIMIT deck.root.kids)
+
 -- a deck is made of another, and changes say what is lost: its signs are some of those that were
--- given, in their order; each sign that was given is in it, or is said to be lost; and each element
--- but paragraphs that was given is in it, or is said to be gone
+-- given, in their order; each sign that was given is in it, or is said to be lost; each element but
+-- paragraphs that was given is in it, or is said to be gone; and so is each attribute of those,
+-- with its value, but for those that are said to have come
 pub record IsMadeOf (given : Deck) (changes : List Change) (made : Deck) : Type 0 where
   pub order : IsWithin (signs made) (signs given)
   pub all : (test : Part → Bool) →
       number test (signs given) ≡ number test (signs made) + number test (lost changes)
   pub elements : (test : Tag → Bool) →
       number test (elements given) ≡ number test (elements made) + number test (gone changes)
+  pub attributes : (test : Attribute → Bool) →
+      number test (attributes given) + number test (came changes)
+      ≡ number test (attributes made) + number test (gone_attributes changes)

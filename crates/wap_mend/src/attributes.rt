@@ -1,11 +1,11 @@
 //! Attributes that may stand, in lower case where that helps, each once (rule 4).
-ghost use Rattle.std.specs.Prelude.{◌≡◌, IfOk, IfSome, OnOk};
+ghost use Rattle.std.specs.Prelude.{◌≡◌, [], ◌∷◌, IfOk, IfSome, OnOk};
 ghost use Rattle.std.specs.List.{AllByRecursion};
 ghost use Rattle.wap_tokens.specs.markup.Normal.{IsAttribute, IsValue};
 ghost use Rattle.wap_mend.specs.inside.Building.{Suits};
-ghost use Rattle.wap_mend.specs.inside.Frames.{IsStill};
+ghost use Rattle.wap_mend.specs.inside.Frames.{nothing, load_lost, rows_load, Keeps, IsNoted};
 
-use crate::change::What;
+use crate::change::{Attribute, Lost, What};
 use crate::kept::Attributes;
 use crate::notes::Notes;
 use crate::values::{copied, lowered, suited};
@@ -50,6 +50,46 @@ pub(crate) fn keeps_attribute(
     Ok(false)
 }
 
+/// What goes with an attribute of an element of a tag.
+#[tactic(auto, using(crate::proofs::Dressing::one_lost))]
+fn lost_of(alloc: Global, tag: Tag, attribute: &(AttrName, Rows<Part>)) -> Result<Lost, NoMemory>
+    ensures { IfOk result (λ lost. load_lost lost ≡ rows_load tag (attribute.now ∷ [])) }
+{
+    let mut lost = Lost::new(alloc);
+    let value = copied(alloc, attribute.1.as_slice())?;
+    lost.attributes.add((tag, attribute.0, value))?;
+    Ok(lost)
+}
+
+/// Notes an attribute of an element of a tag that goes.
+#[tactic(auto, using(crate::proofs::Loads::noted_as))]
+fn note_gone(
+    alloc: Global,
+    notes: &mut Notes,
+    tag: Tag,
+    attribute: &(AttrName, Rows<Part>),
+) -> Result<(), NoMemory>
+    ensures { OnOk result (IsNoted notes.old.changes notes.new.changes
+        (rows_load tag (attribute.now ∷ []))) }
+{
+    let lost = lost_of(alloc, tag, attribute)?;
+    notes.note_lost(alloc, What::Attribute(attribute.0), lost)
+}
+
+/// An attribute of an element of a tag, as a copy by itself.
+pub(crate) fn single(
+    alloc: Global,
+    tag: Tag,
+    attribute: &(AttrName, Rows<Part>),
+) -> Result<Rows<Attribute>, NoMemory>
+    ensures { IfOk result (λ all. all ≡ (tag, attribute.now.0, attribute.now.1) ∷ []) }
+{
+    let mut all = Rows::new(alloc);
+    let value = copied(alloc, attribute.1.as_slice())?;
+    all.add((tag, attribute.0, value))?;
+    Ok(all)
+}
+
 /// Adds an attribute to those before it: as it is, or in lower case, if it may stand so.
 fn add_attribute(
     alloc: Global,
@@ -59,28 +99,32 @@ fn add_attribute(
 ) -> Result<(), NoMemory>
     requires { IsAttribute attribute.now }
     ensures tag { OnOk result (attributes.new.tag ≡ attributes.old.tag) }
-    ensures still { OnOk result (IsStill notes.old.changes notes.new.changes) }
+    ensures keeps { OnOk result (Keeps notes.old.changes notes.new.changes
+        (rows_load attributes.old.tag attributes.old.rows)
+        (rows_load attributes.old.tag attributes.new.rows)
+        (rows_load attributes.old.tag (attribute.now ∷ []))) }
 {
     let tag = attributes.tag();
     let name = attribute.0;
     let parts = attribute.1.as_slice();
     if attributes.has(name) {
-        return notes.note(alloc, What::Attribute(name));
+        return note_gone(alloc, notes, tag, attribute);
     }
     if let Some(as_it_is) = suited(alloc, tag, name, copied(alloc, parts)?)? {
         return attributes.add(as_it_is);
     }
     match lower_attribute(alloc, tag, name, parts)? {
         Some(lower) => {
-            notes.note(alloc, What::Lowered(name))?;
+            let came = single(alloc, tag, &lower)?;
+            let lost = lost_of(alloc, tag, attribute)?;
+            notes.note_turned(alloc, What::Lowered(name), lost, came)?;
             attributes.add(lower)
         }
-        None => notes.note(alloc, What::Attribute(name)),
+        None => note_gone(alloc, notes, tag, attribute),
     }
 }
 
 /// The attributes of an element that may stand, for one of this tag.
-#[tactic(auto, using(crate::proofs::Loads::still_refl, crate::proofs::Loads::still_then))]
 pub(crate) fn mended_attributes(
     alloc: Global,
     notes: &mut Notes,
@@ -89,7 +133,8 @@ pub(crate) fn mended_attributes(
 ) -> Result<Attributes, NoMemory>
     requires { AllByRecursion IsAttribute node.now.attrs }
     ensures tag { IfOk result (λ attributes. attributes.tag ≡ tag) }
-    ensures still { OnOk result (IsStill notes.old.changes notes.new.changes) }
+    ensures keeps { IfOk result (λ attributes. Keeps notes.old.changes notes.new.changes nothing
+        (rows_load tag attributes.rows) (rows_load tag node.now.attrs)) }
 {
     let mut attributes = Attributes::new(alloc, tag);
     for attribute in node.attrs.as_slice() {

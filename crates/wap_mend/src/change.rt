@@ -2,16 +2,30 @@
 use wap_base::{Part, Rows, Text};
 use wap_tokens::markup::{AttrName, Tag};
 
+/// An attribute of an element of a tag, with its value.
+pub type Attribute = (Tag, AttrName, Rows<Part>);
+
+/// What goes with a change.
+#[derive(Drop)]
+pub struct Lost {
+    /// Texts, by their parts.
+    pub texts: Rows<Part>,
+    /// Elements, by their tags.
+    pub elements: Rows<Tag>,
+    /// Attributes of elements.
+    pub attributes: Rows<Attribute>,
+}
+
 /// A change of a deck. The path leads to where it was made in the deck that was given, by the
 /// numbers of children, from 0, texts included; the empty path is the root's.
 #[derive(Drop)]
 pub struct Change {
     pub path: Rows<usize>,
     pub what: What,
-    /// The texts that go with it, by their parts.
-    pub lost: Rows<Part>,
-    /// The elements that go with it, by their tags.
-    pub gone: Rows<Tag>,
+    /// What goes with it.
+    pub lost: Lost,
+    /// The attributes that come with it.
+    pub came: Rows<Attribute>,
 }
 
 /// What is changed.

@@ -12,10 +12,10 @@ ghost use Rattle.wap_deck.specs.documents.Adding.{part_after, marks_after};
 ghost use Rattle.wap_deckcheck.specs.Places.{names_among};
 ghost use Rattle.wap_base.specs.Texts.{AreDistinct};
 ghost use Rattle.wap_mend.specs.inside.Building.{Built, IsApart, IsBuilt, Filled, IsFilled};
-ghost use Rattle.wap_mend.specs.inside.Frames.{load_lost, given_node};
+ghost use Rattle.wap_mend.specs.inside.Frames.{load_lost, given_node, IsSame};
 
+use crate::change::Lost;
 use crate::kept::Attributes;
-use crate::signs::Lost;
 use crate::values::copied_part;
 use std::alloc::Global;
 use std::marker::Model;
@@ -96,7 +96,7 @@ impl Element {
     /// What goes with it.
     pub(crate) fn lost(&self, alloc: Global) -> Result<Lost, NoMemory>
         ensures { IfOk result (λ lost.
-            load_lost lost ≡ given_node self.now.levels self.now.node) }
+            IsSame (load_lost lost) (given_node self.now.levels self.now.node)) }
     {
         Lost::of_node(alloc, self.levels, &self.node)
     }

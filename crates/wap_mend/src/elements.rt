@@ -15,14 +15,13 @@ ghost use Rattle.wap_mend.specs.inside.Frames.{Keeps, Moves, Puts};
 
 use crate::apart::told_apart;
 use crate::attributes::mended_attributes;
-use crate::change::What;
+use crate::change::{Lost, What};
 use crate::content::Element;
 use crate::frame::{Frame, Place};
 use crate::kept::Attributes;
 use crate::names::Names;
 use crate::needs::is_whole;
 use crate::notes::Notes;
-use crate::signs::Lost;
 use std::alloc::Global;
 use wap_base::NoMemory;
 use wap_tokens::markup::{Item, LEVEL_LIMIT, Node, Tag};
@@ -87,7 +86,7 @@ fn put_node(
     let place = frame.place_of(node.tag);
     match place {
         Place::Nowhere => {
-            notes.note_opened(alloc, What::Opened(node.tag), node.tag)?;
+            notes.note_opened(alloc, What::Opened(node.tag), node)?;
             let kids = node.kids.as_slice();
             put_items(alloc, notes, names, levels - 1, kids, frame)
         }
@@ -141,7 +140,7 @@ fn put_element(
 {
     let kids = node.kids.as_slice();
     if !is_whole(alloc, levels, node)? {
-        notes.note_opened(alloc, What::Lacking(node.tag), node.tag)?;
+        notes.note_opened(alloc, What::Lacking(node.tag), node)?;
         return put_items(alloc, notes, names, levels - 1, kids, frame);
     }
     if frame.is_second(place, node.tag) {
@@ -153,7 +152,7 @@ fn put_element(
     }
     let room = frame.room_at(place);
     if room == 0 {
-        notes.note_opened(alloc, What::Opened(node.tag), node.tag)?;
+        notes.note_opened(alloc, What::Opened(node.tag), node)?;
         return put_items(alloc, notes, names, levels - 1, kids, frame);
     }
     frame.prepare(alloc, notes, place)?;
@@ -185,7 +184,7 @@ fn made_with_name(
     match told_apart(alloc, notes, names, attributes)? {
         Some(attributes) => made(alloc, notes, names, levels, node, attributes, room),
         None => {
-            let lost = Lost::of_node(alloc, levels, node)?;
+            let lost = Lost::of_bare(alloc, levels, node)?;
             notes.note_lost(alloc, What::Gone(node.tag), lost)?;
             Ok(None)
         }
@@ -216,7 +215,7 @@ pub(crate) fn made(
         (λ element. Takes names.old names.new []
         (names_among true element.levels element.node.kids))) }
     ensures keeps { IfOk result (λ made. Keeps notes.old.changes notes.new.changes nothing
-        (load_if made) (given_node levels node.now)) }
+        (load_if made) (given_node levels (record node.now { attrs = attributes.rows }))) }
 {
     let mut frame = Frame::new(alloc, attributes.tag(), room);
     let kids = node.kids.as_slice();

@@ -4,7 +4,7 @@ ghost use Rattle.wap_tokens.specs.declared.markup.codes.TheConstants.{WML_1_3};
 ghost use Rattle.wap_mend.specs.inside.Frames.{IsStill};
 ghost use Rattle.wap_mend.specs.Identifiers.{known};
 
-use crate::change::{Change, What};
+use crate::change::{Change, Lost, What};
 use std::alloc::Global;
 use wap_base::{Bytes, NoMemory, Rows};
 use wap_tokens::markup::WML_1_3;
@@ -43,8 +43,8 @@ pub(crate) fn with_identifier(
     all.push(Change {
         path: Rows::new(alloc),
         what: What::Identifier,
-        lost: Rows::new(alloc),
-        gone: Rows::new(alloc),
+        lost: Lost::new(alloc),
+        came: Rows::new(alloc),
     })?;
     all.append(&mut changes.into_vec())?;
     Ok(Rows::from_vec(all))

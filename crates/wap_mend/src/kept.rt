@@ -5,7 +5,9 @@ ghost use Rattle.std.specs.Option.{option_copied};
 ghost use Rattle.wap_tokens.specs.markup.Normal.{IsAttribute};
 ghost use Rattle.wap_mend.specs.inside.Building.{Kept, IsKept, Suits, is_named, value_among};
 ghost use Rattle.wap_mend.specs.inside.Building.{has_name};
+ghost use Rattle.wap_mend.specs.inside.Frames.{load_lost, rows_load};
 
+use crate::change::Lost;
 use crate::values::copied;
 use std::alloc::Global;
 use std::marker::Model;
@@ -105,6 +107,39 @@ impl Attributes {
             tag: self.tag,
             rows,
         })
+    }
+
+    /// Those of a name, as copies.
+    fn copy_of(
+        &self,
+        alloc: Global,
+        name: AttrName,
+    ) -> Result<Rows<(AttrName, Rows<Part>)>, NoMemory>
+        ensures { IfOk result (λ rows. rows ≡ filter (is_named name) self.now.rows) }
+    {
+        let mut rows = Rows::new(alloc);
+        for attribute in self.rows.as_slice() {
+            if attribute.0 == name {
+                rows.add((attribute.0, copied(alloc, attribute.1.as_slice())?))?;
+            }
+        }
+        Ok(rows)
+    }
+
+    /// What goes with those of a name.
+    pub(crate) fn lost_of(&self, alloc: Global, name: AttrName) -> Result<Lost, NoMemory>
+        ensures { IfOk result (λ lost. load_lost lost
+            ≡ rows_load self.now.tag (filter (is_named name) self.now.rows)) }
+    {
+        let rows = self.copy_of(alloc, name)?;
+        Lost::of_attributes(alloc, self.tag, rows.as_slice())
+    }
+
+    /// What goes with all of them.
+    pub(crate) fn lost(&self, alloc: Global) -> Result<Lost, NoMemory>
+        ensures { IfOk result (λ lost. load_lost lost ≡ rows_load self.now.tag self.now.rows) }
+    {
+        Lost::of_attributes(alloc, self.tag, self.rows.as_slice())
     }
 
     /// A copy.

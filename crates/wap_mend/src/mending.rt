@@ -1,11 +1,12 @@
 //! Mending a deck.
-ghost use Rattle.std.specs.Prelude.{◌≡◌, ◌≢◌, [], Ok, Err, None, IfOk, IfSome};
+ghost use Rattle.std.specs.Prelude.{◌≡◌, ◌≢◌, [], Ok, Err, None, IfOk, OnOk, IfSome};
 ghost use Rattle.wap_base.specs.Outcome.{Meets};
 ghost use Rattle.wap_tokens.specs.markup.Cards.{cards_of};
 ghost use Rattle.wap_tokens.specs.markup.Good.{IsGood};
 ghost use Rattle.wap_tokens.specs.markup.Normal.{IsNormal};
 ghost use Rattle.wap_wbxml.specs.declared.fault.DocFault.{DocFault};
 ghost use Rattle.wap_mend.specs.Mending.{IsMended};
+ghost use Rattle.wap_mend.specs.inside.Frames.{IsStill};
 
 use crate::change::{Change, What};
 use crate::notes::Notes;
@@ -45,6 +46,18 @@ impl From<NoMemory> for MendFault {
     }
 }
 
+/// Notes that a deck is put together anew, if nothing else is noted.
+#[tactic(auto, using(crate::proofs::Loads::still_refl))]
+fn note_any(alloc: Global, notes: &mut Notes) -> Result<(), NoMemory>
+    ensures still { OnOk result (IsStill notes.old.changes notes.new.changes) }
+    ensures noted { OnOk result (notes.new.changes ≢ []) }
+{
+    if notes.changes.is_empty() {
+        return notes.note(alloc, What::Anew);
+    }
+    Ok(())
+}
+
 /// A deck as a good one, and what was changed, at least that it was put together anew.
 fn mend_bad(alloc: Global, deck: &Deck) -> Result<Mended, MendFault>
     requires { IsNormal deck.now }
@@ -56,9 +69,7 @@ fn mend_bad(alloc: Global, deck: &Deck) -> Result<Mended, MendFault>
     let Some(made) = made_deck(alloc, &mut notes, deck)? else {
         return Err(MendFault::NoCard);
     };
-    if notes.changes.is_empty() {
-        notes.note(alloc, What::Anew)?;
-    }
+    note_any(alloc, &mut notes)?;
     let Notes { changes, .. } = notes;
     Ok(Mended {
         deck: made,

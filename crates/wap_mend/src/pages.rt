@@ -112,8 +112,8 @@ fn mend_other(alloc: Global, bytes: &[u8]) -> Result<MendedPage, MendFault>
 pub fn mend_page(alloc: Global, bytes: &[u8]) -> Result<MendedPage, MendFault>
     // What comes back is the one spelling of a document with a good deck, so that it stays when it
     // is mended again. It is made of what was given: its texts are some of those, in their order,
-    // and its elements, but for paragraphs, some of those; and what isn't there is what changes say
-    // is lost.
+    // and its elements, but for paragraphs, some of those, with their attributes; what isn't there
+    // is what changes say is lost, and an attribute that wasn't given is one that they say came.
     ensures good { IfOk result (λ page. IsGoodPage page.bytes) }
     ensures told { IfOk result IsTold }
     ensures given { IfOk result (λ page. IsGivenBy bytes.now page.given) }

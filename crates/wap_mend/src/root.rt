@@ -13,13 +13,12 @@ ghost use Rattle.wap_mend.specs.inside.Frames.{given_items, given_node, IsStill,
 ghost use Rattle.wap_mend.specs.inside.Tops.{AreTaken, Gathers, load_top};
 
 use crate::attributes::mended_attributes;
-use crate::change::What;
+use crate::change::{Lost, What};
 use crate::content::Element;
 use crate::elements::made;
 use crate::names::Names;
 use crate::needs::is_whole;
 use crate::notes::Notes;
-use crate::signs::Lost;
 use crate::top::Top;
 use std::alloc::Global;
 use wap_base::NoMemory;
@@ -95,7 +94,7 @@ fn put_node(
     match node.tag {
         Tag::Head | Tag::Template | Tag::Card => put_element(alloc, notes, levels, node, top),
         _ => {
-            notes.note_opened(alloc, What::Opened(node.tag), node.tag)?;
+            notes.note_opened(alloc, What::Opened(node.tag), node)?;
             put_items(alloc, notes, levels - 1, node.kids.as_slice(), top)
         }
     }
@@ -119,7 +118,7 @@ fn put_element(
         (load_top top.old) (load_top top.new) (given_node levels node.now)) }
 {
     if !is_whole(alloc, levels, node)? {
-        notes.note_opened(alloc, What::Lacking(node.tag), node.tag)?;
+        notes.note_opened(alloc, What::Lacking(node.tag), node)?;
         return put_items(alloc, notes, levels - 1, node.kids.as_slice(), top);
     }
     if top.is_second(node.tag) {

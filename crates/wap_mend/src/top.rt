@@ -9,7 +9,7 @@ ghost use Rattle.wap_tokens.specs.markup.Good.{rule_of, may_follow, tags_of};
 ghost use Rattle.wap_deckcheck.specs.Places.{own_id};
 ghost use Rattle.wap_mend.specs.inside.Tops.{IsUnder, items_with, items_in, own_id_of, AreTaken};
 ghost use Rattle.wap_mend.specs.inside.Tops.{IsTop, Gathers, load_top};
-ghost use Rattle.wap_mend.specs.inside.Frames.{load_built, IsStill, Keeps};
+ghost use Rattle.wap_mend.specs.inside.Frames.{nothing, load_built, rows_load, IsStill, Keeps};
 
 use crate::apart::text_of;
 use crate::change::What;
@@ -152,7 +152,8 @@ impl Top {
         ensures tag { IfOk result (λ told. told.tag ≡ attributes.tag) }
         ensures cards { OnOk result (self.new.cards ≡ self.old.cards) }
         ensures same { OnOk result (load_top self.new ≡ load_top self.old) }
-        ensures still { OnOk result (IsStill notes.old.changes notes.new.changes) }
+        ensures keeps { IfOk result (λ told. Keeps notes.old.changes notes.new.changes nothing
+            (rows_load told.tag told.rows) (rows_load attributes.tag attributes.rows)) }
         ensures taken { IfOk result (λ told. AreTaken self.new (own_id_of told)) }
     {
         let Some(id) = id_of_card(alloc, &attributes)? else {
@@ -161,7 +162,8 @@ impl Top {
         if !self.ids.take(alloc, &id)? {
             return Ok(attributes);
         }
-        notes.note(alloc, What::Id)?;
+        let lost = attributes.lost_of(alloc, AttrName::Id)?;
+        notes.note_lost(alloc, What::Id, lost)?;
         attributes.copy_without(alloc, AttrName::Id)
     }
 

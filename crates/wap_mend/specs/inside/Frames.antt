@@ -1,36 +1,74 @@
 -- What elements that are being put together gain: names of dos are those of what is added at most;
 -- and elements and texts are kept, these in their order, or noted as lost. This project's own.
-use Rattle.std.specs.Prelude.{◌≡◌, ℕ, suc, ◌+◌, ◌≤◌, Bool, true, false, List, [], ◌∷◌, ◌++◌}
-use Rattle.std.specs.Prelude.{Option, Some, None}
+use Rattle.std.specs.Prelude.{◌≡◌, ℕ, suc, ◌+◌, Bool, true, false, List, [], ◌∷◌, ◌++◌}
+use Rattle.std.specs.Prelude.{Option, Some, None, not, map, filter}
+use Rattle.std.specs.List.{flat_map}
 use Rattle.wap_base.specs.declared.name.Part.{Part}
 use Rattle.wap_tokens.specs.declared.markup.deck.Item.{Item}
 use Rattle.wap_tokens.specs.declared.markup.deck.Node.{Node}
+use Rattle.wap_tokens.specs.declared.markup.name.AttrName.{AttrName}
 use Rattle.wap_tokens.specs.declared.markup.name.Tag.{Tag}
 use Rattle.wap_tokens.specs.declared.markup.name.Tag.TheVariants as tags
 use Rattle.wap_tokens.specs.markup.Good.{Rule, rule_of, nodes_in}
 use Rattle.wap_deckcheck.specs.Places.{names_among}
 use Rattle.wap_mend.specs.Accounts.{signs_of, node_signs, signs_in, lost, IsWithin, number}
-use Rattle.wap_mend.specs.Accounts.{tags_of_nodes, but_paragraphs, gone}
+use Rattle.wap_mend.specs.Accounts.{is_paragraph, Attribute}
 use Rattle.wap_mend.specs.declared.change.Change.{Change}
-use Rattle.wap_mend.specs.declared.signs.Lost.{Lost}
-use Rattle.wap_mend.specs.inside.Building.{Built, Filled}
+use Rattle.wap_mend.specs.declared.change.Lost.{Lost}
+use Rattle.wap_mend.specs.inside.Building.{Kept, Built, Filled}
 use Rattle.wap_mend.specs.inside.Names.{names_with, Adds, Takes}
 
 -- ---- what is in elements
 
--- the names of dos, the tags of elements but paragraphs, and the signs of texts
+-- a piece: an element, by its tag, or an attribute of one
+abbrev pub Piece : Type 0
+Piece = Tag × Option (AttrName × List Part)
+
+-- some pieces, but for those of paragraphs
+abbrev pub no_paragraphs : List Piece → List Piece
+no_paragraphs pieces = filter (λ piece. not (is_paragraph piece.0)) pieces
+
+-- those of an element of a tag with attributes, and those of nodes
+abbrev pub dressed : Tag → List (AttrName × List Part) → List Piece
+dressed tag rows = map (λ row. (tag, Some row)) rows
+
+abbrev pub own_pieces : Node → List Piece
+own_pieces node = (node.tag, None) ∷ dressed node.tag node.attrs
+
+abbrev pub pieces_of_nodes : List Node → List Piece
+pieces_of_nodes nodes = no_paragraphs (flat_map own_pieces nodes)
+
+-- attributes as pieces
+abbrev pub as_pieces : List Attribute → List Piece
+as_pieces attributes = map (λ attribute. (attribute.0, Some (attribute.1, attribute.2))) attributes
+
+-- those that go, and those that come
+abbrev pub pieces_lost : Lost → List Piece
+pieces_lost lost =
+    no_paragraphs (map (λ tag. (tag, None)) lost.elements ++ as_pieces lost.attributes)
+
+abbrev pub pieces_came : List Attribute → List Piece
+pieces_came came = no_paragraphs (as_pieces came)
+
+abbrev pub gone_pieces : List Change → List Piece
+gone_pieces changes = flat_map (λ change. pieces_lost change.lost) changes
+
+abbrev pub came_pieces : List Change → List Piece
+came_pieces changes = flat_map (λ change. pieces_came change.came) changes
+
+-- the names of dos, the elements but paragraphs and their attributes, and the signs of texts
 pub record Load : Type 0 where
   pub names : List (List ℕ)
-  pub tags : List Tag
+  pub pieces : List Piece
   pub signs : List Part
 
 abbrev pub nothing : Load
-nothing = record { names = []; tags = []; signs = [] }
+nothing = record { names = []; pieces = []; signs = [] }
 
 abbrev pub both : Load → Load → Load
 both some more = record {
   names = some.names ++ more.names;
-  tags = some.tags ++ more.tags;
+  pieces = some.pieces ++ more.pieces;
   signs = some.signs ++ more.signs;
 }
 
@@ -38,7 +76,7 @@ both some more = record {
 abbrev pub load_filled : Filled → Load
 load_filled content = record {
   names = names_among true (suc content.room) content.items;
-  tags = tags_of_nodes (nodes_in (suc content.room) content.items);
+  pieces = pieces_of_nodes (nodes_in (suc content.room) content.items);
   signs = signs_in content.room content.items;
 }
 
@@ -46,7 +84,7 @@ load_filled content = record {
 abbrev pub load_built : Built → Load
 load_built element = record {
   names = names_with element.levels element.node;
-  tags = tags_of_nodes (element.node ∷ nodes_in element.levels element.node.kids);
+  pieces = pieces_of_nodes (element.node ∷ nodes_in element.levels element.node.kids);
   signs = node_signs element.levels element.node;
 }
 
@@ -62,7 +100,7 @@ load_all (element ∷ elements) = both (load_built element) (load_all elements)
 abbrev pub given_items : ℕ → List Item → Load
 given_items levels items = record {
   names = [];
-  tags = tags_of_nodes (nodes_in (suc levels) items);
+  pieces = pieces_of_nodes (nodes_in (suc levels) items);
   signs = signs_in levels items;
 }
 
@@ -70,25 +108,38 @@ given_items levels items = record {
 abbrev pub given_node : ℕ → Node → Load
 given_node levels node = record {
   names = [];
-  tags = tags_of_nodes (node ∷ nodes_in levels node.kids);
+  pieces = pieces_of_nodes (node ∷ nodes_in levels node.kids);
   signs = node_signs levels node;
 }
 
 -- in a text
 abbrev pub text_load : List Part → Load
-text_load parts = record { names = []; tags = []; signs = signs_of parts }
+text_load parts = record { names = []; pieces = []; signs = signs_of parts }
 
 -- in an element by itself, without what is in it
-abbrev pub tag_load : Tag → Load
-tag_load tag = record { names = []; tags = but_paragraphs (tag ∷ []); signs = [] }
+abbrev pub own_load : Node → Load
+own_load node = record { names = []; pieces = pieces_of_nodes (node ∷ []); signs = [] }
+
+-- in attributes of an element of a tag
+abbrev pub rows_load : Tag → List (AttrName × List Part) → Load
+rows_load tag rows = record { names = []; pieces = no_paragraphs (dressed tag rows); signs = [] }
+
+abbrev pub rows_if : Option Kept → Load
+rows_if None = nothing
+rows_if (Some kept) = rows_load kept.tag kept.rows
 
 -- in what goes
 abbrev pub load_lost : Lost → Load
 load_lost lost = record {
   names = [];
-  tags = but_paragraphs lost.elements;
+  pieces = pieces_lost lost;
   signs = signs_of lost.texts;
 }
+
+-- as much of each piece, and the same signs
+pub record IsSame (some more : Load) : Type 0 where
+  pub pieces : (test : Piece → Bool) → number test some.pieces ≡ number test more.pieces
+  pub signs : some.signs ≡ more.signs
 
 -- an element without signs
 abbrev pub IsMute : Built → Type 0
@@ -101,22 +152,36 @@ pub record IsQuiet (element : Built) : Type 0 where
 
 -- ---- changes
 
--- nothing more is lost
+-- nothing more is lost, or came
 pub record IsStill (before after : List Change) : Type 0 where
   pub lost : lost after ≡ lost before
-  pub gone : gone after ≡ gone before
+  pub gone : gone_pieces after ≡ gone_pieces before
+  pub came : came_pieces after ≡ came_pieces before
 
 -- this is lost
 pub record IsNoted (before after : List Change) (load : Load) : Type 0 where
   pub lost : lost after ≡ lost before ++ load.signs
-  pub gone : gone after ≡ gone before ++ load.tags
+  pub gone : (test : Piece → Bool) →
+      number test (gone_pieces after)
+      ≡ number test (gone_pieces before) + number test load.pieces
+  pub came : came_pieces after ≡ came_pieces before
+
+-- this is lost, and these attributes came
+pub record IsTurned (before after : List Change) (load : Load) (new : List Attribute)
+    : Type 0 where
+  pub lost : lost after ≡ lost before ++ load.signs
+  pub gone : gone_pieces after ≡ gone_pieces before ++ load.pieces
+  pub came : came_pieces after ≡ came_pieces before ++ pieces_came new
 
 -- ---- gains
 
--- the elements that there were and these more, or noted as lost; and so the signs, in their order
+-- the elements that there were and these more, with their attributes, or noted as lost, and what is
+-- noted that it came; and so the signs, in their order
 pub record Keeps (before after : List Change) (old new more : Load) : Type 0 where
-  pub tags : (test : Tag → Bool) → number test new.tags + number test (gone after)
-      ≡ (number test old.tags + number test more.tags) + number test (gone before)
+  pub pieces : (test : Piece → Bool) →
+      (number test new.pieces + number test (gone_pieces after)) + number test (came_pieces before)
+      ≡ (number test old.pieces + number test more.pieces)
+      + (number test (gone_pieces before) + number test (came_pieces after))
   pub order : IsWithin new.signs (old.signs ++ more.signs)
   pub signs : (test : Part → Bool) → number test new.signs + number test (lost after)
       ≡ (number test old.signs + number test more.signs) + number test (lost before)

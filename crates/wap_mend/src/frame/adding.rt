@@ -5,12 +5,11 @@ ghost use Rattle.wap_tokens.specs.markup.Normal.{IsPart};
 ghost use Rattle.wap_mend.specs.inside.Frames.{nothing, load_built, text_load, Gains};
 ghost use Rattle.wap_mend.specs.inside.Frames.{IsMute, IsQuiet};
 
-use crate::change::What;
+use crate::change::{Lost, What};
 use crate::content::{Content, Element};
 use crate::frame::closing::add_one;
 use crate::frame::{Frame, Place};
 use crate::notes::Notes;
-use crate::signs::Lost;
 use std::alloc::Global;
 use std::mem::replace;
 use wap_base::{NoMemory, Part};

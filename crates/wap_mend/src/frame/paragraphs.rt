@@ -4,12 +4,11 @@ ghost use Rattle.std.specs.Prelude.{◌≡◌, [], true, IfOk, OnOk};
 ghost use Rattle.wap_mend.specs.Accounts.{is_paragraph};
 ghost use Rattle.wap_mend.specs.inside.Frames.{Gains, IsStill, nothing};
 
-use crate::change::What;
+use crate::change::{Lost, What};
 use crate::content::{Content, Element};
 use crate::frame::Frame;
 use crate::kept::Attributes;
 use crate::notes::Notes;
-use crate::signs::Lost;
 use std::alloc::Global;
 use std::marker::Model;
 use std::mem::replace;

@@ -1,6 +1,6 @@
 -- What is given is put, or noted as lost.
-use Rattle.std.proofs.Common.{◌≡◌, ◌+◌, ◌-◌, suc, List, [], refl, sym, ap, subst, ◌∙◌, Option, Some, None, arith}
-use Rattle.std.specs.Prelude.{MatchOption}
+use Rattle.std.proofs.Common.{◌≡◌, ◌+◌, ◌-◌, suc, List, [], sym, ap, subst, ◌∙◌, Option, arith}
+use Rattle.std.specs.Prelude.{MatchOption, IfSome}
 use Rattle.std.specs.Option.{option_to_list}
 use Rattle.std.specs.List.{AllByRecursion}
 use Rattle.std.proofs.lemmas.Result.{on_ok_weaker, IfOk-weaker}
@@ -11,13 +11,13 @@ use Rattle.wap_tokens.specs.markup.Good.{rule_of}
 use Rattle.wap_mend.specs.inside.Building.{Built, Kept}
 use Rattle.wap_mend.specs.inside.Names.{own_name_of, Takes}
 use Rattle.wap_mend.specs.inside.Frames.{nothing, load_if, given_items, given_node}
-use Rattle.wap_mend.specs.inside.Frames.{Moves, Puts, Closes, Framed}
-use Rattle.wap_mend.proofs.Loads.{still_refl, noted_as}
+use Rattle.wap_mend.specs.inside.Frames.{Moves, Framed, Keeps, rows_load, rows_if}
+use Rattle.wap_mend.proofs.Loads.{still_refl, noted_same}
 use Rattle.wap_mend.proofs.Framing.{node_levels, node_kids}
 use Rattle.wap_mend.proofs.Putting.{puts_nothing, puts_lost, puts_turn, puts_opened}
-use Rattle.wap_mend.proofs.Putting.{puts_paragraph, puts_element, puts_none, moves_named}
-use Rattle.wap_mend.proofs.Putting.{moves_none, moves_lost, made_keeps, made_apart, unmade_keeps}
-use Rattle.wap_mend.proofs.Putting.{card_whole, made_named, put_kids}
+use Rattle.wap_mend.proofs.Putting.{puts_paragraph, puts_element, puts_none}
+use Rattle.wap_mend.proofs.Putting.{moves_lost, made_keeps, made_apart, unmade_keeps}
+use Rattle.wap_mend.proofs.Putting.{card_whole, made_named, put_kids, keeps_told}
 use Rattle.wap_mend.proofs.elements.+walk.Goals as goal
 
 pub put_items-loop-number-init : goal.put_items-loop-number-init
@@ -34,7 +34,8 @@ put_items-loop-number-preserved t c =
     c.loop-number.frame c.put_item.new.frame c.args.levels c.loop-number.invariant
     (still_refl c.loop-number.notes.changes) c.in_ok-put_item.ensures
 
-pub put_node-returns-in_ok-note_opened-in-Nowhere : goal.put_node-returns-in_ok-note_opened-in-Nowhere
+pub put_node-returns-in_ok-note_opened-in-Nowhere :
+    goal.put_node-returns-in_ok-note_opened-in-Nowhere
 put_node-returns-in_ok-note_opened-in-Nowhere t c =
     on_ok_weaker c.put_items.result
     (puts_opened c.args.names.now c.put_items.new.names c.args.notes.now.changes
@@ -49,8 +50,9 @@ put_paragraph-returns t c =
     c.mended_attributes.new.notes.changes c.enter.new.notes.changes
     c.put_items.new.notes.changes c.leave.new.notes.changes c.args.frame.now
     c.enter.new.self c.put_items.new.frame c.leave.new.self c.args.levels
-    c.as_slice-kids.result.now c.args.node.now c.requires.normal c.requires.paragraph
-    c.as_slice-kids.ensures c.in_ok-attributes.ensures.still c.in_ok-outer.ensures c.in_ok-put_items.ensures)
+    c.as_slice-kids.result.now c.args.node.now c.in_ok-attributes.attributes.rows
+    c.requires.normal c.requires.paragraph c.as_slice-kids.ensures c.in_ok-attributes.ensures.keeps
+    c.in_ok-outer.ensures c.in_ok-put_items.ensures)
     c.leave.ensures
 
 pub put_element-returns-then-not-branch : goal.put_element-returns-then-not-branch
@@ -67,7 +69,7 @@ put_element-returns-then-is_second t c =
     (λ noted.
     puts_lost c.args.names.now c.args.notes.now.changes c.note_lost.new.self.changes
     c.args.frame.now (given_node c.args.levels c.args.node.now)
-    (noted_as c.args.notes.now.changes c.note_lost.new.self.changes _ _ c.in_ok-of_node.ensures
+    (noted_same c.args.notes.now.changes c.note_lost.new.self.changes _ _ c.in_ok-of_node.ensures
     noted)) c.note_lost.ensures.lost
 
 pub put_element-returns-then-room-eq0 : goal.put_element-returns-then-room-eq0
@@ -106,9 +108,12 @@ pub made_with_name-returns-in_ok-note_lost-in-None :
 made_with_name-returns-in_ok-note_lost-in-None t c =
     moves_lost c.args.names.now c.told_apart.new.names c.args.notes.now.changes
     c.mended_attributes.new.notes.changes c.told_apart.new.notes.changes
-    c.note_lost.new.self.changes (given_node c.args.levels c.args.node.now)
-    c.in_ok-lost-in-None.lost c.in_ok-attributes.ensures.still
-    c.in_ok-attributes-2.ensures.still
+    c.note_lost.new.self.changes c.args.node.now c.args.levels c.in_ok-attributes.attributes
+    c.in_ok-lost-in-None.lost c.in_ok-attributes.ensures.keeps c.in_ok-attributes.ensures.tag
+    (subst (λ named. Keeps c.mended_attributes.new.notes.changes c.told_apart.new.notes.changes
+    nothing (rows_if named)
+    (rows_load c.in_ok-attributes.attributes.tag c.in_ok-attributes.attributes.rows))
+    c.in-None.is c.in_ok-attributes-2.ensures.keeps)
     (subst (λ named. MatchOption named (Takes c.args.names.now c.told_apart.new.names [] [])
     (λ (kept : Kept). Takes c.args.names.now c.told_apart.new.names []
     (option_to_list (own_name_of kept)))) c.in-None.is c.in_ok-attributes-2.ensures.taken)
@@ -125,15 +130,25 @@ made-put_items-requires t c =
 
 pub made_with_name-returns-in-Some : goal.made_with_name-returns-in-Some
 made_with_name-returns-in-Some t c =
-    made_named c.args.names.now c.told_apart.new.names c.made.new.names c.args.notes.now.changes
-    c.mended_attributes.new.notes.changes c.told_apart.new.notes.changes
-    c.made.new.notes.changes c.in-Some.attributes (suc c.args.room)
-    (given_node c.args.levels c.args.node.now) c.made.result c.in_ok-attributes.ensures.still
-    c.in_ok-attributes-2.ensures.still
+    let before = c.args.notes.now.changes in
+    let one = c.mended_attributes.new.notes.changes in
+    let two = c.told_apart.new.notes.changes in
+    let after = c.made.new.notes.changes in
+    let mended = c.in_ok-attributes.attributes in
+    let told = c.in-Some.attributes in
+    made_named c.args.names.now c.told_apart.new.names c.made.new.names before after told
+    (suc c.args.room) (given_node c.args.levels c.args.node.now) c.made.result
     (subst (λ named. MatchOption named (Takes c.args.names.now c.told_apart.new.names [] [])
     (λ (kept : Kept). Takes c.args.names.now c.told_apart.new.names []
     (option_to_list (own_name_of kept)))) c.in-Some.is c.in_ok-attributes-2.ensures.taken)
-    c.made.ensures.same c.made.ensures.taken c.made.ensures.keeps
+    c.made.ensures.same c.made.ensures.taken
+    (IfOk-weaker c.made.result _ _
+    (λ made. keeps_told before one two after c.args.node.now c.args.levels mended told
+    (load_if made) c.in_ok-attributes.ensures.keeps c.in_ok-attributes.ensures.tag
+    (subst (λ named. Keeps one two nothing (rows_if named) (rows_load mended.tag mended.rows))
+    c.in-Some.is c.in_ok-attributes-2.ensures.keeps)
+    (subst (λ named. IfSome named (λ (kept : Kept). kept.tag ≡ mended.tag)) c.in-Some.is
+    c.in_ok-attributes-2.ensures.tag)) c.made.ensures.keeps)
 
 pub made-of-requires-clause-apart : goal.made-of-requires-clause-apart
 made-of-requires-clause-apart t c holds =

@@ -1,4 +1,4 @@
-use Rattle.std.proofs.Common.{◌≡◌, ◌*◌, ◌+◌, take}
+use Rattle.std.proofs.Common.{◌*◌, ◌+◌, take}
 use Rattle.wap_mend.specs.inside.Frames.{given_items, Puts}
 use Rattle.wap_mend.proofs.elements.+walk.Given as goal
 

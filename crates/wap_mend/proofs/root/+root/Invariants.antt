@@ -1,4 +1,4 @@
-use Rattle.std.proofs.Common.{◌≡◌, ◌*◌, ◌+◌, take}
+use Rattle.std.proofs.Common.{◌*◌, ◌+◌, take}
 use Rattle.std.specs.List.{filter_map}
 use Rattle.wap_tokens.specs.declared.markup.name.Tag.TheVariants as tags
 use Rattle.wap_tokens.specs.markup.Trees.{node_with}

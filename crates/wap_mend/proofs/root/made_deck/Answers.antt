@@ -8,10 +8,11 @@ use Rattle.wap_tokens.specs.declared.markup.document.TheConstants.{LEVEL_LIMIT}
 use Rattle.wap_tokens.specs.declared.markup.deck.Node.{Node}
 use Rattle.wap_tokens.specs.markup.Trees.{node_of}
 use Rattle.wap_mend.specs.inside.Building.{Built, Filled, IsApart}
-use Rattle.wap_mend.specs.inside.Frames.{nothing, given_items, IsStill, Keeps}
+use Rattle.wap_mend.specs.inside.Frames.{nothing, given_items, rows_load, Keeps}
 use Rattle.wap_mend.specs.inside.Tops.{Topped, load_top}
 use Rattle.wap_mend.proofs.Topping.{root_whole}
-use Rattle.wap_mend.proofs.Loads.{still_then}
+use Rattle.wap_tokens.specs.declared.markup.name.Tag.TheVariants as tags
+use Rattle.wap_mend.proofs.Putting.{keeps_from}
 use Rattle.wap_mend.proofs.Accounted.{deck_made}
 use Rattle.wap_mend.proofs.Rooted.{good_root}
 use Rattle.wap_mend.proofs.root.made_deck.Goals as goal
@@ -55,10 +56,17 @@ returns-in-Ok-clause-made_of c =
     let top = c.put_items.new.top in
     let given = c.args.deck.now.root in
     let room = LEVEL_LIMIT - 1 in
+    let root = c.in_ok-attributes.attributes in
     deck_made room refl begun after top given c.into_node.result refl
-    (subst (λ none. IsStill none begun) c.requires.fresh
-    (still_then c.args.notes.now.changes c.note_root.new.notes.changes begun
-    c.in_ok-note_root.ensures c.in_ok-attributes.ensures.still))
+    (subst (λ none. Keeps none begun nothing (rows_load tags.Wml c.into_node.result.attrs)
+    (rows_load tags.Wml given.attrs)) c.requires.fresh
+    (subst (λ rows. Keeps c.args.notes.now.changes begun nothing (rows_load tags.Wml rows)
+    (rows_load tags.Wml given.attrs))
+    (sym (ap (λ (node : Node). node.attrs) c.into_node.ensures.node
+    ∙ ap (λ (one : Built). one.node.attrs) c.in-Ok.ensures.made))
+    (keeps_from c.args.notes.now.changes c.note_root.new.notes.changes begun
+    (rows_load tags.Wml root.rows) (rows_load tags.Wml given.attrs) c.in_ok-note_root.ensures
+    c.in_ok-attributes.ensures.keeps)))
     c.in_ok-content.ensures.kinds
     (ap (λ (node : Node). node.kids) c.into_node.ensures.node
     ∙ ap (λ (one : Built). one.node.kids) c.in-Ok.ensures.made

@@ -1,5 +1,5 @@
 -- What is no event and no timer comes to the others.
-use Rattle.std.proofs.Common.{◌≡◌, ◌++◌, ◌∷◌, [], ap, ◌∙◌, refl}
+use Rattle.std.proofs.Common.{◌≡◌, ◌++◌, ◌∷◌, [], ap, ◌∙◌}
 use Rattle.std.proofs.lemmas.Result.{on_ok_weaker}
 use Rattle.wap_mend.specs.inside.Frames.{Framed}
 use Rattle.wap_mend.proofs.Loads.{still_refl}

@@ -1,5 +1,5 @@
 -- The paragraph that is open comes back with the text.
-use Rattle.std.proofs.Common.{ap, subst, ◌∙◌, refl}
+use Rattle.std.proofs.Common.{ap, subst, ◌∙◌}
 use Rattle.wap_mend.specs.inside.Building.{Filled}
 use Rattle.wap_mend.specs.inside.Frames.{nothing, text_load, framed, Collects}
 use Rattle.wap_mend.proofs.Loads.{still_refl}

@@ -1,7 +1,6 @@
 -- The text is lost, or the first group comes back with it.
 use Rattle.std.proofs.Common.{◌≡◌, false, ap, sym, subst, ◌∙◌, refl}
 use Rattle.std.proofs.lemmas.Result.{on_ok_weaker}
-use Rattle.wap_mend.specs.Accounts.{signs_of}
 use Rattle.wap_mend.specs.inside.Frames.{text_load, Framed, Collects}
 use Rattle.wap_mend.proofs.Loads.{noted_as, still_refl}
 use Rattle.wap_mend.proofs.Framing.{gains_lost, all_gains, text_collects}

@@ -5,7 +5,8 @@ use Rattle.wap_tokens.specs.markup.Good.{rule_of}
 use Rattle.wap_tokens.specs.declared.markup.deck.Node.{Node}
 use Rattle.wap_tokens.specs.declared.markup.name.Tag.TheVariants as tags
 use Rattle.wap_mend.specs.inside.Building.{Filled}
-use Rattle.wap_mend.specs.inside.Frames.{nothing, load_built, given_node, framed, Gains}
+use Rattle.wap_mend.specs.inside.Frames.{nothing, load_built, given_node, load_lost, framed}
+use Rattle.wap_mend.specs.inside.Frames.{Gains, IsSame}
 use Rattle.wap_mend.proofs.Framing.{paragraph_ruled, run_ended, run_lost}
 use Rattle.wap_mend.proofs.frame.Frame.put_run.Goals as goal
 
@@ -47,10 +48,11 @@ returns-in_ok-lost-in-Err-clause-gains c =
     let made : Filled → Node = λ run.
     record { tag = attributes.tag; attrs = attributes.rows; kids = run.items } in
     let all =
-    c.in_ok-lost-in-Err.ensures
-    ∙ ap (λ levels. given_node levels c.in-Err.node) (add-one room)
+    subst (IsSame (load_lost c.in_ok-lost-in-Err.lost))
+    (ap (λ levels. given_node levels c.in-Err.node) (add-one room)
     ∙ ap (given_node (suc room)) (c.in-Err.ensures.back ∙ ap made c.replace-content.ensures.value)
-    ∙ ap (λ levels. given_node (suc levels) (made inside.run)) c.room-room.ensures.room in
+    ∙ ap (λ levels. given_node (suc levels) (made inside.run)) c.room-room.ensures.room)
+    c.in_ok-lost-in-Err.ensures in
     on_ok_weaker c.note_lost.result
     (λ noted.
     subst (λ run. Gains before after c.args.self.now

@@ -1,5 +1,5 @@
 -- Elements are added one after another.
-use Rattle.std.proofs.Common.{◌≡◌, [], ◌∙◌, refl, sym, subst, arith}
+use Rattle.std.proofs.Common.{◌≡◌, [], ◌∙◌, sym, subst, arith}
 use Rattle.std.proofs.lemmas.List.{nil_from_length}
 use Rattle.wap_mend.specs.inside.Frames.{load_all, load_built, Collects}
 use Rattle.wap_mend.proofs.Loads.{still_refl}

@@ -1,5 +1,5 @@
 -- Where there is none nothing is added.
-use Rattle.std.proofs.Common.{refl, sym, subst}
+use Rattle.std.proofs.Common.{sym, subst}
 use Rattle.wap_mend.specs.inside.Frames.{load_if, Collects}
 use Rattle.wap_mend.proofs.Loads.{still_refl}
 use Rattle.wap_mend.proofs.Framing.{nothing_collected}

@@ -1,5 +1,5 @@
 -- An element gets into the root, or is noted as lost.
-use Rattle.std.proofs.Common.{◌≡◌, true, [], ◌∷◌, ◌++◌, Some, refl, sym, ap, subst, ◌∙◌}
+use Rattle.std.proofs.Common.{◌≡◌, [], ◌∷◌, ◌++◌, refl, sym, ap, subst, ◌∙◌}
 use Rattle.wap_tokens.specs.declared.markup.name.Tag.TheVariants as tags
 use Rattle.wap_mend.specs.inside.Building.{Built, IsBuilt}
 use Rattle.wap_mend.specs.inside.Frames.{Load, both, load_built, load_if, load_all, Keeps}
@@ -85,7 +85,8 @@ returns-in_ok-add-in-Card-clause-keeps c =
     (card_added before after element c.in_ok-note_late.ensures c.self.inside.head
     c.self.inside.template c.self.inside.cards c.add.new.self c.in_ok-add-in-Card.ensures.ok)
 
-pub returns-in_ok-note_lost-in_default-clause-keeps : goal.returns-in_ok-note_lost-in_default-clause-keeps
+pub returns-in_ok-note_lost-in_default-clause-keeps :
+    goal.returns-in_ok-note_lost-in_default-clause-keeps
 returns-in_ok-note_lost-in_default-clause-keeps c =
     let before = c.args.notes.now.changes in
     let late = c.note_late.new.notes.changes in

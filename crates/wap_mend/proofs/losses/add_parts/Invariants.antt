@@ -1,6 +1,6 @@
 use Rattle.std.proofs.Common.{◌≡◌, ◌++◌, take}
 use Rattle.wap_mend.specs.Accounts.{signs_of}
-use Rattle.wap_mend.proofs.signs.add_parts.Given as goal
+use Rattle.wap_mend.proofs.losses.add_parts.Given as goal
 
 abbrev pub invariant-loop-part : goal.invariant-loop-part
 invariant-loop-part l =

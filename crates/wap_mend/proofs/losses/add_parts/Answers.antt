@@ -1,5 +1,5 @@
 use Rattle.wap_mend.proofs.Accounting.{parts_turn}
-use Rattle.wap_mend.proofs.signs.add_parts.Goals as goal
+use Rattle.wap_mend.proofs.losses.add_parts.Goals as goal
 
 -- with each part, the texts have its signs
 pub loop-part-preserved : goal.loop-part-preserved
