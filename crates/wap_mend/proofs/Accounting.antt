@@ -3,9 +3,9 @@
 use Rattle.std.proofs.Common.{◌≡◌, ℕ, suc, ◌+◌, ◌<◌, Bool, true, false, cond, List, [], ◌∷◌, ◌++◌}
 use Rattle.std.proofs.Common.{map, length, take, get_or, refl, sym, ap, ◌∙◌, append_assoc}
 use Rattle.std.specs.Prelude.{filter, not, ◌&&◌}
-use Rattle.std.specs.List.{filter_map, flat_map, cons_option, list_all}
+use Rattle.std.specs.List.{filter_map, flat_map, list_all}
 use Rattle.std.proofs.lemmas.List.{append-nil, map-append, length-append, take_more}
-use Rattle.std.proofs.lemmas.List.Elements.{filter-append, filter_map-append}
+use Rattle.std.proofs.lemmas.List.Elements.{filter-append}
 use Rattle.std.proofs.lemmas.Grind.{flat_map-append}
 use Rattle.wap_base.specs.declared.name.Part.{Part}
 use Rattle.wap_base.specs.declared.name.Part.TheVariants.{Lit, Var}
@@ -14,14 +14,14 @@ use Rattle.wap_tokens.specs.declared.markup.deck.Item.{Item, out-Item}
 use Rattle.wap_tokens.specs.declared.markup.deck.Item.TheOpen.{Item-F}
 use Rattle.wap_tokens.specs.declared.markup.deck.Item.TheVariants.{outs-Text, outs-Node}
 use Rattle.wap_tokens.specs.declared.markup.deck.Item.TheVariants as item
-use Rattle.wap_tokens.specs.markup.Trees.{ItemLevel, node_from, node_of, words_from}
+use Rattle.wap_tokens.specs.markup.Trees.{ItemLevel, node_of, words_from}
 use Rattle.wap_tokens.specs.markup.Decks.{before, part}
 use Rattle.wap_tokens.specs.markup.Good.{is_blank, is_blank_text, nodes_in}
 use Rattle.wap_deck.specs.documents.Adding.{part_added, after_last, part_after, marks_after}
 use Rattle.wap_mend.specs.Accounts.{character, signs_of, item_signs, node_signs, signs_in}
 use Rattle.wap_mend.specs.Accounts.{IsWithin, nothing, kept, left_out, number, is_paragraph}
 use Rattle.wap_mend.specs.inside.Frames.{Piece, no_paragraphs, own_pieces, pieces_of_nodes}
-use Rattle.wap_mend.proofs.Building.{nodes_same}
+use Rattle.wap_mend.proofs.Building.{nodes_same, nodes_behind}
 
 -- ---- some of a list
 
@@ -250,21 +250,13 @@ module _ (room : ℕ) where
   abbrev below : Node → List Node
   below node = node ∷ nodes_in room node.kids
 
-  -- the elements in content with an element more
-  nodes_more : (items : List Item) (node : Node)
-      → filter_map node_of (items ++ item.Node node ∷ []) ≡ filter_map node_of items ++ node ∷ []
-  nodes_more items node =
-      filter_map-append node_of items (item.Node node ∷ [])
-      ∙ ap (λ found. filter_map node_of items ++ cons_option found [])
-      (ap node_from (outs-Node node))
-
   -- those in content with an element more
   pub pieces_behind : (items : List Item) (node : Node)
       → pieces_of_nodes (nodes_in (suc room) (items ++ item.Node node ∷ []))
       ≡ pieces_of_nodes (nodes_in (suc room) items)
       ++ pieces_of_nodes (node ∷ nodes_in room node.kids)
   pieces_behind items node =
-      ap pieces_of_nodes (ap (flat_map below) (nodes_more items node)
+      ap pieces_of_nodes (ap (flat_map below) (nodes_behind items node)
       ∙ flat_map-append below (filter_map node_of items) (node ∷ [])
       ∙ ap (λ nodes. flat_map below (filter_map node_of items) ++ nodes) (append-nil (below node)))
       ∙ pieces-append (flat_map below (filter_map node_of items)) (below node)

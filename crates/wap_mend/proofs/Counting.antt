@@ -3,9 +3,9 @@ use Rattle.std.proofs.Common.{◌≡◌, ℕ, ◌+◌, ◌≤◌, Bool, true, fa
 use Rattle.std.proofs.Common.{refl, ap, ◌∙◌, arith}
 use Rattle.std.specs.Prelude.{if◌then◌else◌}
 use Rattle.std.specs.Cmp.Lexicographic.{nat_list_eq_equiv}
-use Rattle.std.specs.List.{AllByRecursion, IsDistinct}
+use Rattle.std.specs.List.{list_any, AllByRecursion, IsDistinct}
 use Rattle.wap_base.specs.Texts.{is_same_text, AreDistinct}
-use Rattle.wap_mend.specs.inside.Names.{times}
+use Rattle.wap_mend.specs.inside.Names.{times, taken, once_if}
 
 -- a text stands as often in two lists as in both of them together
 pub times-append : (text : List ℕ) (some more : List (List ℕ))
@@ -15,7 +15,7 @@ times-append text (other ∷ some) more =
     ap (λ n. (if is_same_text text other then 1 else 0) + n) (times-append text some more)
     ∙ grind (arith)
 
--- texts that stand once at most are distinct
+-- a text that stands no more is none of these
 none_same : (text : List ℕ) (others : List (List ℕ)) → times text others ≤ 0
     → AllByRecursion (λ other. is_same_text text other ≡ false) others
 none_same text [] none = tt
@@ -27,14 +27,17 @@ none_same text (other ∷ others) none =
     here true left some rest = absurd (grind (arith, some))
     here false left few rest = (refl, rest (grind (arith, few)))
 
+-- one that stands itself stands no more among the others
 none_left : (same : Bool) (left : ℕ) → same ≡ true → (if same then 1 else 0) + left ≤ 1 → left ≤ 0
 none_left true left is few = grind (arith, few)
 none_left false left is few = absurd (cc is)
 
+-- what stands once at most stands once at most among the others
 one_more : (same : Bool) (left : ℕ) → (if same then 1 else 0) + left ≤ 1 → left ≤ 1
 one_more true left few = grind (arith, few)
 one_more false left few = grind (arith, few)
 
+-- texts of which each stands once at most are distinct
 pub distinct_once : (texts : List (List ℕ)) → ((text : List ℕ) → times text texts ≤ 1)
     → AreDistinct texts
 unfolding IsDistinct
@@ -46,3 +49,14 @@ distinct_once (text ∷ texts) once = (
   distinct_once texts
       (λ other. one_more (is_same_text other text) (times other texts) (once other)),
 )
+
+-- ---- taken
+
+-- it is once at most
+once_most : (b : Bool) → once_if b ≤ 1
+once_most true = grind (arith)
+once_most false = grind (arith)
+
+-- a text is taken once at most
+pub taken_once : (text : List ℕ) (texts : List (List ℕ)) → taken text texts ≤ 1
+taken_once text texts = once_most (list_any (is_same_text text) texts)

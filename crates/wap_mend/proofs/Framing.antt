@@ -18,7 +18,7 @@ use Rattle.wap_tokens.specs.declared.markup.name.AttrName.{AttrName}
 use Rattle.wap_tokens.specs.declared.markup.name.Tag.{Tag}
 use Rattle.wap_tokens.specs.declared.markup.name.Tag.TheVariants as tags
 use Rattle.wap_tokens.specs.markup.Decks.{part}
-use Rattle.wap_tokens.specs.markup.Normal.{IsAttribute, IsNode, IsItem}
+use Rattle.wap_tokens.specs.markup.Normal.{IsNode, IsItem}
 use Rattle.wap_tokens.specs.markup.Good.{Rule, rule_of, rules, nodes_in, is_blank_text}
 use Rattle.wap_deck.specs.documents.Adding.{part_after, marks_after}
 use Rattle.wap_deckcheck.specs.Places.{own_name, names_among}
@@ -195,6 +195,7 @@ filled_text content parts =
       signs = some;
     }) (signs_more room content.items parts)
 
+-- content with a text more
 pub text_collects : (before after : List Change) (old new : Filled) (parts : List Part)
     → new ≡ record old { items = marks_after old.items (map part parts) }
     → IsStill before after → Collects before after old new (text_load parts)
@@ -579,6 +580,7 @@ run_ended before after old new first second third run rule room attributes eleme
 
 -- ---- all of it together
 
+-- what stands in the element is what was put there
 pub closes : (before one two after : List Change) (whole : Framed) (first : Filled)
     (second : Option Built) (third : List Built) (run mid content : Filled)
     → Gains before one whole (framed first second third run) nothing
@@ -616,12 +618,6 @@ closes before one two after whole first second third run mid content gains free 
 pub node_levels : (levels : ℕ) (node : Node) → IsNode levels node → 0 < levels
 node_levels zero node is = absurd is
 node_levels (suc levels) node is = grind (arith)
-
--- its attributes
-pub node_attributes : (levels : ℕ) (node : Node) → IsNode levels node
-    → AllByRecursion IsAttribute node.attrs
-node_attributes zero node is = absurd is
-node_attributes (suc levels) node is = is.attributes
 
 -- what is in it has a level less
 pub node_kids : (levels : ℕ) (node : Node) → IsNode levels node

@@ -298,6 +298,7 @@ keeps_aside before after load keeps = record {
 
 -- ---- with names
 
+-- more comes in as it is
 pub carries_all : (before after : List Change) (old more : Load) → IsStill before after
     → Carries before after old (both old more) more
 carries_all before after old more same = record {
@@ -305,6 +306,7 @@ carries_all before after old more same = record {
   keeps = keeps_all before after old more same;
 }
 
+-- what doesn't come in is noted
 pub carries_lost : (before after : List Change) (load more : Load) → IsNoted before after more
     → Carries before after load load more
 carries_lost before after load more noted = record {
@@ -312,6 +314,7 @@ carries_lost before after load more noted = record {
   keeps = keeps_lost before after load more noted;
 }
 
+-- nothing comes in
 pub carries_still : (before after : List Change) (load : Load) → IsStill before after
     → Carries before after load load nothing
 carries_still before after load same = record {
@@ -319,6 +322,7 @@ carries_still before after load same = record {
   keeps = keeps_still before after load same;
 }
 
+-- first some, and then more
 pub carries_then : (before between after : List Change) (old mid new some more : Load)
     → Carries before between old mid some → Carries between after mid new more
     → Carries before after old new (both some more)
@@ -333,6 +337,7 @@ carries_then before between after old mid new some more first second = record {
   keeps = keeps_then before between after old mid new some more first.keeps second.keeps;
 }
 
+-- in two parts, by the first
 pub carries_first : (before after : List Change) (old new rest more : Load)
     → Carries before after old new more → (more.signs ≡ []) ⊎ (rest.signs ≡ [])
     → Carries before after (both old rest) (both new rest) more
@@ -347,6 +352,7 @@ carries_first before after old new rest more carries free = record {
   keeps = keeps_first before after old new rest more carries.keeps free;
 }
 
+-- or by the second
 pub carries_second : (before after : List Change) (rest old new more : Load)
     → Carries before after old new more → Carries before after (both rest old) (both rest new) more
 carries_second before after rest old new more carries = record {

@@ -1,15 +1,15 @@
 -- What the walk over an element puts into another.
-use Rattle.std.proofs.Common.{◌≡◌, ℕ, zero, suc, ◌+◌, ◌-◌, ◌<◌, ◌≤◌, Bool, true, false}
+use Rattle.std.proofs.Common.{◌≡◌, ℕ, zero, suc, ◌+◌, ◌-◌, ◌<◌, Bool, true}
 use Rattle.std.proofs.Common.{List, [], ◌∷◌, ◌++◌, Option, Some, None, Result, Ok, Err}
 use Rattle.std.proofs.Common.{length, get_or, take, add-one, refl, sym, ap, subst, ◌∙◌, arith}
 use Rattle.std.proofs.Math.Seq.{take-suc}
 use Rattle.std.specs.Prelude.{if◌then◌else◌, IfOk, IfSome, MatchOption}
-use Rattle.std.specs.List.{list_any, filter_map, flat_map, cons_option}
+use Rattle.std.specs.List.{filter_map, flat_map, cons_option}
 use Rattle.std.proofs.lemmas.Grind.{flat_map-append}
 use Rattle.std.proofs.lemmas.List.Elements.{filter_map-append}
 use Rattle.std.specs.Option.{option_to_list}
 use Rattle.std.proofs.lemmas.List.{append-nil}
-use Rattle.wap_base.specs.Texts.{is_same_text, AreDistinct}
+use Rattle.wap_base.specs.Texts.{AreDistinct}
 use Rattle.wap_base.specs.declared.name.Part.{Part}
 use Rattle.wap_tokens.specs.declared.markup.deck.Node.{Node}
 use Rattle.wap_tokens.specs.declared.markup.deck.Item.{Item, out-Item}
@@ -27,7 +27,7 @@ use Rattle.wap_mend.specs.Accounts.{item_signs, is_paragraph}
 use Rattle.wap_mend.specs.declared.change.Change.{Change}
 use Rattle.wap_mend.specs.declared.change.Lost.{Lost}
 use Rattle.wap_mend.specs.inside.Building.{Kept, Built, Filled}
-use Rattle.wap_mend.specs.inside.Names.{times, taken, once_if, own_name_of, Takes}
+use Rattle.wap_mend.specs.inside.Names.{times, own_name_of, Takes}
 use Rattle.wap_mend.specs.inside.Names.{name_among}
 use Rattle.wap_mend.specs.inside.Frames.{Load, nothing, both, load_filled, load_built, load_if}
 use Rattle.wap_mend.specs.inside.Frames.{given_items, given_node, text_load, Keeps}
@@ -36,7 +36,7 @@ use Rattle.wap_mend.specs.inside.Frames.{load_lost, own_load, rows_load, dressed
 use Rattle.wap_mend.specs.inside.Frames.{no_paragraphs, pieces_of_nodes, IsSame}
 use Rattle.wap_mend.proofs.Accounting.{within_refl, within_then, within_both, within_nothing}
 use Rattle.wap_mend.proofs.Accounting.{number-append, kept_number, pieces-append, signs_in-append}
-use Rattle.wap_mend.proofs.Counting.{times-append, distinct_once}
+use Rattle.wap_mend.proofs.Counting.{times-append, distinct_once, taken_once}
 use Rattle.wap_mend.proofs.Framing.{node_levels, paragraph_rows, paragraph_pieces}
 use Rattle.wap_mend.proofs.Loads.{both_nothing, keeps_still, keeps_lost, keeps_dropped, keeps_then}
 use Rattle.wap_mend.proofs.Loads.{noted_same, noted_built, keeps_aside}
@@ -108,13 +108,6 @@ pub taken_apart : (after names : List (List ℕ)) → Takes [] after [] names �
 taken_apart after names takes =
     distinct_once names (λ text.
     let few = taken_once text after in grind (arith, takes text, few))
-  where
-    once_most : (b : Bool) → once_if b ≤ 1
-    once_most true = grind (arith)
-    once_most false = grind (arith)
-
-    taken_once : (text : List ℕ) (texts : List (List ℕ)) → taken text texts ≤ 1
-    taken_once text texts = once_most (list_any (is_same_text text) texts)
 
 -- ---- puts
 
@@ -307,6 +300,7 @@ puts_element names_before names_after before one two after old ready new element
       };
     }
 
+-- or none, and what was given is noted
 pub puts_none : (names_before names_after : List (List ℕ)) (before one after : List Change)
     (old ready : Framed) (given : Load) → Gains before one old ready nothing
     → Moves names_before names_after one after nothing nothing given
@@ -341,6 +335,7 @@ moves_named names_before between names_after before after kept element given own
       keeps = keeps;
     }
 
+-- or none is made, its name taken
 pub moves_none : (names_before between names_after some : List (List ℕ))
     (before after : List Change) (given : Load) → Takes names_before between [] some
     → Takes between names_after [] [] → Keeps before after nothing nothing given
@@ -641,6 +636,7 @@ given_text levels one parts is =
     ∙ ap (λ (some : List Part). record { names = []; pieces = []; signs = some })
     (append-nil (signs_of parts))
 
+-- or a node
 pub given_one : (levels : ℕ) (one : Item) (node : Node) → out-Item one ≡ Item-F.Node node
     → given_items levels (one ∷ []) ≡ given_node levels node
 given_one levels one node is =

@@ -1,15 +1,14 @@
 -- A deck whose root was put together is good: its cards are those that were put there, their ids
 -- are distinct, and so are the names of the dos in each.
-use Rattle.std.proofs.Common.{◌≡◌, ℕ, zero, suc, ◌+◌, ◌-◌, ◌≤◌, ◌<◌, Bool, true, false, cond, arith}
+use Rattle.std.proofs.Common.{◌≡◌, ℕ, zero, suc, ◌-◌, ◌<◌, Bool, true, false, cond, arith}
 use Rattle.std.proofs.Common.{List, [], ◌∷◌, ◌++◌, length, map, Option, Some, None, refl, sym, ap}
 use Rattle.std.proofs.Common.{subst, ◌∙◌}
 use Rattle.std.specs.Prelude.{filter, IfSome}
-use Rattle.std.specs.List.{filter_map, flat_map, cons_option, list_any, AllByRecursion, IsDistinct}
+use Rattle.std.specs.List.{filter_map, flat_map, cons_option, AllByRecursion}
 use Rattle.std.specs.Option.{option_to_list}
-use Rattle.std.specs.Cmp.Lexicographic.{nat_list_eq_equiv}
 use Rattle.std.proofs.lemmas.List.Elements.{filter_map-append}
 use denote.Enum.Bare.{true_same, false_same}
-use Rattle.wap_base.specs.Texts.{is_same_text, AreDistinct}
+use Rattle.wap_base.specs.Texts.{AreDistinct}
 use Rattle.wap_tokens.specs.declared.markup.document.TheConstants.{LEVEL_LIMIT}
 use Rattle.wap_tokens.specs.declared.markup.deck.Node.{Node}
 use Rattle.wap_tokens.specs.declared.markup.deck.Item.{Item, out-Item}
@@ -27,52 +26,17 @@ use Rattle.wap_tokens.specs.markup.Good.{nodes_in, holds_dos, names_of_dos, IsGo
 use Rattle.wap_deckcheck.specs.Places.{own_name, names_among}
 use Rattle.wap_deckcheck.proofs.GoodDecks.{same_names}
 use Rattle.wap_mend.specs.inside.Building.{Built, IsApart, IsBuilt}
-use Rattle.wap_mend.specs.inside.Names.{times, taken, once_if}
 use Rattle.wap_mend.specs.inside.Tops.{Topped, IsUnder, items_with, items_in, ids_in, AreTaken}
 use Rattle.wap_mend.specs.inside.Tops.{IsTop}
+use Rattle.wap_mend.proofs.Counting.{distinct_once, taken_once}
 
--- ---- texts that stand once
-
--- a text that stands no more is none of these
-none_same : (text : List ℕ) (others : List (List ℕ)) → times text others ≤ 0
-    → AllByRecursion (λ other. is_same_text text other ≡ false) others
-none_same text [] few = tt
-none_same text (other ∷ others) few = (
-  by_test (is_same_text text other) few,
-  none_same text others (omega arith),
-)
-  where
-    by_test : (test : Bool) → cond test 1 0 + times text others ≤ 0 → test ≡ false
-    by_test true few = absurd (omega arith)
-    by_test false few = refl
-
--- texts of which each stands once at most are distinct
-once_distinct : (texts : List (List ℕ)) → ((text : List ℕ) → times text texts ≤ 1)
-    → AreDistinct texts
-unfolding IsDistinct
-once_distinct [] once = tt
-once_distinct (text ∷ texts) once = (
-  none_same text texts (first (is_same_text text text) (nat_list_eq_equiv.refl text) (once text)),
-  once_distinct texts (λ other. omega (arith, once other)),
-)
-  where
-    first : (test : Bool) → test ≡ true → cond test 1 0 + times text texts ≤ 1
-        → times text texts ≤ 0
-    first true same few = omega arith
-    first false same few = absurd (cc same)
-
--- a text is taken once at most
-taken_once : (ids : List (List ℕ)) (text : List ℕ) → taken text ids ≤ 1
-taken_once ids text = by_test (list_any (is_same_text text) ids) where
-  by_test : (test : Bool) → once_if test ≤ 1
-  by_test true = omega arith
-  by_test false = omega arith
+-- ---- ids
 
 -- ids that are taken are distinct
 taken_distinct : (top : Topped) → AreTaken top None → AreDistinct (ids_in top.cards)
 taken_distinct top are =
-    once_distinct (ids_in top.cards)
-    (λ text. omega (arith, are.each text, taken_once top.ids text))
+    distinct_once (ids_in top.cards)
+    (λ text. omega (arith, are.each text, taken_once text top.ids))
 
 -- ---- cards
 

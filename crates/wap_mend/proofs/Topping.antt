@@ -1,6 +1,6 @@
 -- The root that is being put together: its elements may stand where they stand, and the ids of the
 -- cards are distinct.
-use Rattle.std.proofs.Common.{◌≡◌, ℕ, zero, suc, ◌+◌, ◌-◌, ◌<◌, ◌≤◌, Bool, true, false, ◌&&◌}
+use Rattle.std.proofs.Common.{◌≡◌, ℕ, ◌+◌, ◌<◌, Bool, true, false, ◌&&◌}
 use Rattle.std.proofs.Common.{nat_eq, cond, List, [], ◌∷◌, ◌++◌, length, get_or, take, map, Option}
 use Rattle.std.proofs.Common.{Some, None, Result, Ok, Err, refl, sym, ap, subst, ◌∙◌, append_assoc}
 use Rattle.std.proofs.Common.{eq-eqb, arith}
@@ -14,7 +14,7 @@ use Rattle.std.proofs.lemmas.List.{append-nil, map-append, take_more}
 use Rattle.std.proofs.lemmas.List.Folds.{list_all-append}
 use mathlib.Core.Bool.{and-true}
 use Rattle.wap_tokens.specs.declared.markup.deck.Node.{Node}
-use Rattle.wap_tokens.specs.declared.markup.deck.Item.{Item, out-Item}
+use Rattle.wap_tokens.specs.declared.markup.deck.Item.{Item}
 use Rattle.wap_tokens.specs.declared.markup.deck.Item.TheVariants as item
 use Rattle.wap_tokens.specs.declared.markup.name.Tag.{Tag}
 use Rattle.wap_tokens.specs.declared.markup.name.Tag.TheVariants as tags
@@ -23,7 +23,6 @@ use Rattle.wap_tokens.specs.declared.markup.deck.Item.TheVariants.{outs-Node}
 use Rattle.wap_tokens.specs.declared.markup.name.AttrName.{AttrName}
 use Rattle.wap_tokens.specs.declared.markup.name.AttrName.TheVariants as attrs
 use Rattle.wap_tokens.specs.markup.Tables.{is_same_tag, is_same_attr}
-use Rattle.wap_tokens.specs.markup.Normal.{IsAttribute, IsItem, IsNode}
 use Rattle.wap_tokens.specs.markup.Trees.{node_from, node_of, if_tagged, node_with, plain_text}
 use Rattle.wap_tokens.specs.markup.Cards.{id_of}
 use Rattle.wap_tokens.specs.markup.Good.{Rule, rules, rule_of, place_in, may_precede, may_follow}
@@ -371,27 +370,6 @@ pub ok_then : {X E : Type 0} (r : Result X E) (P Q : X → Type 0) → IfOk r P
     → ((x : X) → P x → Q x) → IfOk r Q
 ok_then (Ok x) P Q is then = then x is
 ok_then (Err e) P Q is then = tt
-
--- ---- nodes of so many levels
-
--- they have a level
-pub node_levels : (levels : ℕ) (node : Node) → IsNode levels node → 1 ≤ levels
-node_levels zero node is = absurd is
-node_levels (suc levels) node is = omega arith
-
--- their attributes are as they have to be
-pub node_attributes : (levels : ℕ) (node : Node) → IsNode levels node
-    → AllByRecursion IsAttribute node.attrs
-node_attributes zero node is = absurd is
-node_attributes (suc levels) node is = is.attributes
-
--- what is in them has a level less
-pub node_kids : (levels : ℕ) (node : Node) → IsNode levels node
-    → AllByRecursion (λ item. IsItem (IsNode (levels - 1)) (out-Item item)) node.kids
-node_kids zero node is = absurd is
-node_kids (suc levels) node is =
-    subst (λ levels. AllByRecursion (λ item. IsItem (IsNode levels) (out-Item item)) node.kids)
-    (omega arith) is.content.each
 
 -- ---- a walk
 
